@@ -1,0 +1,137 @@
+-- WHAT IS CLAIMED of the definitions that document 01 gives for each call. Every statement stands under a line of plain words and is proved by a
+-- citation; the definitions that it names are those of the calls: `check`, `decide` and `fill` in reading's Calls, `write` and `combine` in
+-- writing's Calls. Assumes nothing.
+use mathlib.Core.Path.{_≡_, ap, _∙_, subst⁻¹}
+use mathlib.Core.Logic.{_↔_}
+use mathlib.Core.Bool.{Bool}
+use mathlib.Core.List.{List, _++_, List·Memᴰ}
+use mathlib.Core.Option.{none, some}
+use Prim.Native.Nat.{ℕ, suc, _/_, _%_, _≤_, _<_, _^_}
+use lib.ListN.{length, take, getD}
+use Rattle.lists.specs.Prefixes.{Begins}
+use Rattle.reading.specs.Limits.{optionLimit, tableLimit}
+use Rattle.reading.specs.Causes.{wrongByte, done}
+use Rattle.reading.specs.Grammar.{IsStream, Viable}
+use Rattle.reading.specs.Element.{over}
+use Rattle.reading.specs.Reading.{Fault, Reading, reading}
+use Rattle.reading.specs.Deciding.{decided, undecided, decision, trace}
+use Rattle.reading.specs.Calls.{verdictOf, decide, digitOf, bytesFrom}
+use Rattle.reading.specs.Covered as C
+use Rattle.reading.specs.Covered.{covered}
+use Rattle.reading.specs.Prefix as P
+use Rattle.reading.specs.Settled as S
+use Rattle.reading.specs.CauseSeven as G
+use Rattle.reading.specs.CallLaws as L
+use Rattle.writing.specs.Run.{whole, Answer}
+use Rattle.writing.specs.Calls.{truthAt, write, combine}
+use Rattle.claims.specs.PaperRows as R
+use Rattle.claims.specs.PaperRows.{Row, rows, Holds}
+use Rattle.claims.specs.ReadBack.{ReadsBack}
+use Rattle.claims.specs.WrittenBytes.{Written}
+use Rattle.claims.specs.Runs.{Operated, ran, run-read, run-operated, run-whole-read, runs-covered, runs-begin, runs-decide, wrote, wrote-read, wrote-whole-read}
+
+-- ---- The examples marked P -------------------------------------------------------------------
+
+-- Each row of the table P1 to P12 holds: what is written, and what checking answers.
+pub paper-rows : (r : Row) → List·Memᴰ r rows → Holds r
+paper-rows = R.the-table
+
+-- ---- Cause 7 and the grammar -----------------------------------------------------------------
+
+-- Cause 7 is at the first byte that no stream could have there: with it no stream begins so, without it some stream does.
+pub cause-seven : (n : ℕ) (bytes : List ℕ) (b : ℕ) → reading n bytes .fault ≡ some (record { cause = wrongByte; byte = b })
+    → (b < length bytes) × Viable (take b bytes) × (Viable (take (suc b) bytes) → ⊥)
+cause-seven = G.wrong-byte
+
+-- Bytes without fault begin some stream.
+pub no-fault : (n : ℕ) (bytes : List ℕ) → reading n bytes .fault ≡ none → Viable bytes
+no-fault = G.viable-so-far
+
+-- Of bytes without fault, those that have come to the point are exactly the streams of the grammar.
+pub complete-streams : (n : ℕ) (bytes : List ℕ) → reading n bytes .fault ≡ none → (reading n bytes .state .place .mark ≡ over) ↔ IsStream bytes
+complete-streams n bytes e = (G.complete-stream n bytes e, λ h. G.stream-complete n bytes h e)
+
+-- The lowest fault place counts: a fault lies inside the bytes, and those before it are without fault.
+pub lowest-fault : (n : ℕ) (bytes : List ℕ) (f : Fault) → reading n bytes .fault ≡ some f → (f .byte < length bytes) × (reading n (take (f .byte) bytes) .fault ≡ none)
+lowest-fault n bytes f e = (S.fault-inside n bytes f e, S.fault-lowest n bytes f e)
+
+-- ---- Demand 2: reading -----------------------------------------------------------------------
+
+-- The words that a stream covers are those that it decides: a covered word has a decision, another has none.
+pub covered-words : (n : ℕ) (bytes : List ℕ) (w : ℕ) → w < 2 ^ n
+    → (w < covered n bytes → (d : Bool) × (decision n bytes w ≡ decided d)) × (covered n bytes ≤ w → decision n bytes w ≡ undecided)
+covered-words n bytes w h = (λ k. (_, C.covered-decided n bytes w h k), C.uncovered-undecided n bytes w h)
+
+-- A complete stream covers every word.
+pub complete-covers : (n : ℕ) (bytes : List ℕ) → reading n bytes .state .place .mark ≡ over → covered n bytes ≡ 2 ^ n
+complete-covers = C.complete-covers
+
+-- Deciding answers yes, no or not yet as the diagram's definition decides the word.
+pub deciding : {R : Type 0} (z : R) (n : ℕ) (bytes : List ℕ) (w : ℕ) (table : List R) → n ≤ optionLimit → tableLimit ≤ length table → w < 2 ^ n → reading n bytes .fault ≡ none
+    → decide z n bytes w table .answer ≡ done (verdictOf (decision n bytes w))
+deciding = L.decide-decision
+
+-- A filled truth table has that decision at binary digit w mod 8 of byte w / 8, and 0 from the covered count on.
+pub filling : (k n : ℕ) (bytes : List ℕ) (w : ℕ) → w < 2 ^ n → w / 8 < k → getD (bytesFrom k n (trace n bytes) 0) (w / 8) 0 / 2 ^ (w % 8) % 2 ≡ digitOf (verdictOf (decision n bytes w))
+filling = L.filled-word
+
+-- Reading a longer stream goes on where the shorter one stopped: a fault stays, the covered count grows, a decided word stays decided.
+pub longer-streams : (n : ℕ) (x u : List ℕ)
+    → ((f : Fault) → reading n x .fault ≡ some f → reading n (x ++ u) .fault ≡ some f)
+    × (covered n x ≤ covered n (x ++ u))
+    × ((w : ℕ) (d : Bool) → w < 2 ^ n → decision n x w ≡ decided d → decision n (x ++ u) w ≡ decided d)
+longer-streams n x u = (λ f e. ap (λ (r : Reading). r .fault) (P.fault-stands n x u f e) ∙ e, C.covered-grows n x u, λ w d. C.decision-stands n x u w d)
+
+-- ---- Demand 2: reading what was written ------------------------------------------------------
+
+-- The stream that writing gives for a truth table is accepted, complete, covers all words, and decides each as the table does.
+pub writing-read-back : {R : Type 0} (z : R) (n size : ℕ) (truths out : List ℕ) (t : List R) (r : Answer) → write z n size truths out t .answer ≡ done r → r .ending ≡ whole
+    → ReadsBack n (truthAt truths) (take (r .written) (write z n size truths out t .output))
+writing-read-back z n size truths out t r e = wrote-whole-read n size truths out r _ (wrote z n size truths out t r e)
+
+-- What writing gives in an output that is too short is accepted, and decides the words that it covers as the table does.
+pub writing-beginning : {R : Type 0} (z : R) (n size : ℕ) (truths out : List ℕ) (t : List R) (r : Answer) → write z n size truths out t .answer ≡ done r
+    → Written n (2 ^ n) (truthAt truths) (take (r .written) (write z n size truths out t .output))
+writing-beginning z n size truths out t r e = wrote-read n size truths out r _ (wrote z n size truths out t r e)
+
+-- The stream that combining gives decides every word as the operator does, taken word by word, if the run ends "whole".
+pub combining-read-back : {R : Type 0} (z : R) (n op size : ℕ) (x y out : List ℕ) (t u v : List R) (r : Answer) → combine z n op size x y out t u v .answer ≡ done r → r .ending ≡ whole
+    → let bytes = take (r .written) (combine z n op size x y out t u v .output) in
+    (covered n bytes ≡ 2 ^ n) × (reading n bytes .state .place .mark ≡ over) × ((w : ℕ) → w < 2 ^ n → (d : Bool) × (decision n bytes w ≡ decided d) × Operated n op x y w d)
+combining-read-back z n op size x y out t u v r e h =
+    let s = ran z n op size x y out t u v r e in
+    let b = run-whole-read n op size x y out r _ s h in
+    (b .covers, b .complete, λ w k. run-operated n op size x y out r _ s w (subst⁻¹ (λ (c : ℕ). w < c) (b .covers) k))
+
+-- ---- Demand 3 --------------------------------------------------------------------------------
+
+-- Of two runs of combining, "alike in operator, option count and table size, where each input stream of the second is the first's with any bytes
+-- after it or none, and the second's output is at least as long, whatever outputs and work tables held before": x, y and x′, y′ are their streams,
+-- r and r′ their answers, bytes and bytes′ their written bytes.
+pub record Demand3 (n op : ℕ) (x y x′ y′ : List ℕ) (r r′ : Answer) (bytes bytes′ : List ℕ) : Type 0 where
+  -- "the second's written bytes begin with all that the first wrote"
+  pub begins : Begins bytes bytes′
+  -- "its covered count is no smaller"
+  pub covers : r .covered ≤ r′ .covered
+  -- both are accepted when read, cut or not
+  pub accepted : (reading n bytes .fault ≡ none) × (reading n bytes′ .fault ≡ none)
+  -- "every word that the first's written bytes decide is decided by the second's too, with the same answer from both, namely what the operator
+  -- decides from the two input rules": from those of the first run, and alike from those of the second
+  pub decides : (w : ℕ) → w < covered n bytes
+      → (d : Bool) × (decision n bytes w ≡ decided d) × (decision n bytes′ w ≡ decided d) × Operated n op x y w d × Operated n op x′ y′ w d
+
+-- DEMAND 3, whole: of any two such runs, neither refused.
+pub demand-3 : {R : Type 0} (z : R) (n op size : ℕ) (x y x₊ y₊ out out′ : List ℕ) (t u v t′ u′ v′ : List R) (r r′ : Answer) → length out ≤ length out′
+    → let run = combine z n op size x y out t u v in
+    let run′ = combine z n op size (x ++ x₊) (y ++ y₊) out′ t′ u′ v′ in
+    run .answer ≡ done r → run′ .answer ≡ done r′
+    → Demand3 n op x y (x ++ x₊) (y ++ y₊) r r′ (take (r .written) (run .output)) (take (r′ .written) (run′ .output))
+demand-3 z n op size x y x₊ y₊ out out′ t u v t′ u′ v′ r r′ l e e′ =
+    let s = ran z n op size x y out t u v r e in
+    let s′ = ran z n op size (x ++ x₊) (y ++ y₊) out′ t′ u′ v′ r′ e′ in
+    record {
+      begins = runs-begin n op size x y x₊ y₊ out out′ r r′ _ _ s s′ l;
+      covers = runs-covered n op size x y x₊ y₊ out out′ r r′ _ _ s s′ l;
+      accepted = (run-read n op size x y out r _ s .accepted, run-read n op size (x ++ x₊) (y ++ y₊) out′ r′ _ s′ .accepted);
+      decides = runs-decide n op size x y x₊ y₊ out out′ r r′ _ _ s s′ l;
+    }

@@ -1,0 +1,9 @@
+pub mod Numerals
+pub mod ReadElements
+pub mod Valid
+pub mod Agree
+pub mod ReadBack
+pub mod WrittenBytes
+pub mod Runs
+pub mod PaperRows
+pub mod Claims

@@ -1,0 +1,235 @@
+-- What a run of combining, or a call of writing, that is not refused is: its limits, its streams without fault, its answer and its written bytes.
+-- Assumes nothing.
+use mathlib.Core.Path.{_≡_, refl, sym, ap, ap₂, _∙_, subst⁻¹}
+use mathlib.Core.Bool.{Bool, true, false, cond}
+use mathlib.Core.List.{List, [], _∷_, _++_}
+use mathlib.Core.Option.{Option, none, some}
+use Prim.{tt}
+use Prim.Native.Nat.{ℕ, suc, _≤_, _<_, _^_}
+use native.Mathlib.Omega.{arith}
+use lib.Dec.{ltb, leb, eqb}
+use lib.ListN.{length, take}
+use borrow.Author.Tests.{ltb-false, leb-true, eqb-true, not-false}
+use Rattle.lists.specs.Lists.{All, and-r}
+use Rattle.lists.specs.Prefixes.{Begins}
+use Rattle.reading.specs.Limits.{optionLimit, tableLimit, truthTableLeast, truthTableMost}
+use Rattle.reading.specs.Causes.{Refusal, Result, refused, done, Test, gate, unlessRefused}
+use Rattle.reading.specs.Reading.{Fault, reading}
+use Rattle.reading.specs.Deciding.{decided, decision}
+use Rattle.reading.specs.Calls.{manyOptions, shortTable, notTruthTable, wrongLength, unlessFault}
+use Rattle.reading.specs.Covered.{covered, covered-decided, covered-most, covered-grows, decision-stands}
+use Rattle.writing.specs.Run.{operate, Input, runCovered, joint, runText, runOf, writtenBytes, outputAfter, whole, inputEnded, outputFull, Answer, answerOf}
+use Rattle.writing.specs.Inputs.{runCovered-most, runCovered-each, Extends, Extend, runCovered-grows, runOf-written}
+use Rattle.writing.specs.Output.{output-written, written-all}
+use Rattle.writing.specs.Calls.{largeSize, largeOperator, unlessFaults, orNo, inputOf, combineText, shortTables, combineAnswer, combine, writeText, truthAt, writeAnswer, write}
+use Rattle.claims.specs.ReadBack.{ReadsBack, read-back}
+use Rattle.claims.specs.WrittenBytes.{Written, run-written}
+
+-- ---- Not refused -----------------------------------------------------------------------------
+
+clash : {A B : Type 0} (r : Refusal) (a : A) → refused r ≡ done a → B
+clash r a e = let z : _≡_ {A = ℕ} 0 1 = cc in absurd (omega arith)
+
+same-done : {A : Type 0} (a b : A) → done a ≡ done b → a ≡ b
+same-done a b e = cc
+
+-- no test was met
+gate-done : {A : Type 0} (ts : List Test) (x : Result A) (a : A) → gate ts x ≡ done a → All (λ t. t .met ≡ false) ts × (x ≡ done a)
+unfolding gate
+gate-done [] x a e = (tt, e)
+gate-done {A = A} (t ∷ ts) x a e = go (t .met) refl e (gate-done ts x a)
+  where
+    go : (m : Bool) → t .met ≡ m → elim m as (λ _. Result A) [ true ↦ refused (record { cause = t .cause; stream = 0; byte = 0 }) | false ↦ gate ts x ] ≡ done a
+        → (gate ts x ≡ done a → All (λ (u : Test). u .met ≡ false) ts × (x ≡ done a)) → All (λ (u : Test). u .met ≡ false) (t ∷ ts) × (x ≡ done a)
+    go true p q ih = clash _ a q
+    go false p q ih = let h = ih q in ((p, h .0), h .1)
+
+-- no stream had a fault
+faults-done : {A : Type 0} (n k : ℕ) (ss : List (List ℕ)) (x : Result A) (a : A) → unlessFaults n k ss x ≡ done a → All (λ s. reading n s .fault ≡ none) ss × (x ≡ done a)
+unfolding unlessFaults
+faults-done n k [] x a e = (tt, e)
+faults-done {A = A} n k (s ∷ ss) x a e = go (reading n s .fault) refl e (faults-done n (suc k) ss x a)
+  where
+    go : (f : Option Fault) → reading n s .fault ≡ f → unlessFault k f (unlessFaults n (suc k) ss x) ≡ done a
+        → (unlessFaults n (suc k) ss x ≡ done a → All (λ (u : List ℕ). reading n u .fault ≡ none) ss × (x ≡ done a)) → All (λ (u : List ℕ). reading n u .fault ≡ none) (s ∷ ss) × (x ≡ done a)
+    go none p q ih = let h = ih q in ((p, h .0), h .1)
+    go (some f) p q ih = clash _ a q
+
+-- ---- A run of combining ----------------------------------------------------------------------
+
+abbrev pub inputs : ℕ → List ℕ → List ℕ → List Input
+inputs n x y = inputOf n x ∷ inputOf n y ∷ []
+
+-- the first bytes of the output, as many as are answered, are the written ones
+answer-written : (n c : ℕ) (text out : List ℕ) → take (answerOf n c text out .written) (outputAfter text out) ≡ writtenBytes text out
+unfolding answerOf
+answer-written n c text out = output-written text out
+
+answer-covered : (n c : ℕ) (text out : List ℕ) → answerOf n c text out .covered ≡ c
+unfolding answerOf
+answer-covered n c text out = refl
+
+-- an answer of "whole": all words are covered, and all of the text is written
+answer-whole : (n c : ℕ) (text out : List ℕ) → answerOf n c text out .ending ≡ whole → (c ≡ 2 ^ n) × (writtenBytes text out ≡ text)
+unfolding answerOf
+answer-whole n c text out e = go (ltb (length out) (length text)) refl (eqb c (2 ^ n)) refl e
+  where
+    go : (p : Bool) → ltb (length out) (length text) ≡ p → (q : Bool) → eqb c (2 ^ n) ≡ q → cond p outputFull (cond q whole inputEnded) ≡ whole → (c ≡ 2 ^ n) × (writtenBytes text out ≡ text)
+    go true a q b h = absurd (let z : _≡_ {A = ℕ} 0 1 = cc in omega arith)
+    go false a true b h = (eqb-true c (2 ^ n) b, written-all text out (ltb-false (length out) (length text) a))
+    go false a false b h = absurd (let z : _≡_ {A = ℕ} 0 1 = cc in omega arith)
+
+abbrev pub Streams : List ℕ → List ℕ → List (List ℕ)
+Streams x y = x ∷ y ∷ []
+
+-- the run over the streams x and y with the answer r, and the output t after it
+pub record Ran (n op size : ℕ) (x y out : List ℕ) (r : Answer) (t : List ℕ) : Type 0 where
+  pub options : n ≤ optionLimit
+  pub fit : size ≤ tableLimit
+  pub first : reading n x .fault ≡ none
+  pub second : reading n y .fault ≡ none
+  pub answer : r ≡ answerOf n (runCovered n (inputs n x y)) (combineText n op size (Streams x y)) out
+  pub bytes : take (r .written) t ≡ writtenBytes (combineText n op size (Streams x y)) out
+
+pub ran : {R : Type 0} (z : R) (n op size : ℕ) (x y out : List ℕ) (t u v : List R) (r : Answer) → combine z n op size x y out t u v .answer ≡ done r
+    → Ran n op size x y out r (combine z n op size x y out t u v .output)
+unfolding combine combineAnswer unlessRefused
+ran z n op size x y out t u v r e =
+    let text = combineText n op size (Streams x y) in
+    let a = answerOf n (runCovered n (inputs n x y)) text out in
+    let g = gate-done (manyOptions n ∷ largeOperator 2 op ∷ largeSize size ∷ shortTables (length t ∷ length u ∷ length v ∷ [])) (unlessFaults n 1 (Streams x y) (done a)) r e in
+    let f = faults-done n 1 (Streams x y) (done a) r (g .1) in
+    let s : a ≡ r = same-done a r (f .1) in
+    record {
+      options = ltb-false _ _ (g .0 .0);
+      fit = ltb-false _ _ (g .0 .1 .1 .0);
+      first = f .0 .0;
+      second = f .0 .1 .0;
+      answer = sym s;
+      bytes = ap (λ (o : Result Answer). take (r .written) (unlessRefused o out (λ (q : Answer). outputAfter text out))) e
+          ∙ ap (λ (q : Answer). take (q .written) (outputAfter text out)) (sym s) ∙ answer-written n (runCovered n (inputs n x y)) text out;
+    }
+
+-- ---- What its written bytes decide -----------------------------------------------------------
+
+-- Both streams decide the word w, and d is what the operator decides from them: "its digit 2a + b for the decisions a, b of the two input
+-- streams on that word".
+pub record Operated (n op : ℕ) (x y : List ℕ) (w : ℕ) (d : Bool) : Type 0 where
+  pub a : Bool
+  pub b : Bool
+  pub first : decision n x w ≡ decided a
+  pub second : decision n y w ≡ decided b
+  pub digit : d ≡ operate op (a ∷ b ∷ [])
+
+module _ (n : ℕ) (x : List ℕ) where
+  -- on a word that it covers, a stream's input decides as the stream does
+  input-decided : (w : ℕ) → w < inputOf n x .covered → (d : Bool) × (decision n x w ≡ decided d) × (inputOf n x .decides w ≡ d)
+  unfolding inputOf
+  input-decided w h =
+      let e = covered-decided n x w (omega (arith, h, covered-most n x)) h in
+      (_, e, ap orNo e)
+
+  -- a stream with bytes behind it covers no fewer words, and decides those alike
+  input-extends : (u : List ℕ) → Extends (inputOf n x) (inputOf n (x ++ u))
+  unfolding inputOf
+  input-extends u = record {
+    longer = covered-grows n x u;
+    alike = λ w h.
+        let k : w < 2 ^ n = omega (arith, h, covered-most n x) in
+        let e = covered-decided n x w k h in
+        ap orNo (e ∙ sym (decision-stands n x u w _ k e));
+  }
+
+joint-operated : (n op : ℕ) (x y : List ℕ) (w : ℕ) → w < runCovered n (inputs n x y) → Operated n op x y w (joint (operate op) (inputs n x y) w)
+joint-operated n op x y w h =
+    let c = runCovered-each n (inputs n x y) in
+    let p = input-decided n x w (omega (arith, h, c .0)) in
+    let q = input-decided n y w (omega (arith, h, c .1 .0)) in
+    record { a = p .0; b = q .0; first = p .1; second = q .1; digit = ap₂ (λ (s t : Bool). operate op (s ∷ t ∷ [])) (p .2) (q .2) }
+
+module _ (n op size : ℕ) (x y out : List ℕ) (r : Answer) (t : List ℕ) (h : Ran n op size x y out r t) where
+  pub run-covered : r .covered ≡ runCovered n (inputs n x y)
+  run-covered = ap (λ (q : Answer). q .covered) (h .answer) ∙ answer-covered n (runCovered n (inputs n x y)) (combineText n op size (Streams x y)) out
+
+  pub run-read : Written n (r .covered) (joint (operate op) (inputs n x y)) (take (r .written) t)
+  unfolding combineText runOf
+  run-read = subst⁻¹ (λ (c : ℕ). Written n c (joint (operate op) (inputs n x y)) (take (r .written) t)) run-covered
+      (subst⁻¹ (Written n (runCovered n (inputs n x y)) (joint (operate op) (inputs n x y))) (h .bytes)
+      (run-written n size (runCovered n (inputs n x y)) (joint (operate op) (inputs n x y)) out (h .options) (h .fit) (runCovered-most n (inputs n x y))))
+
+  -- a word that they cover they decide as the operator does
+  pub run-operated : (w : ℕ) → w < covered n (take (r .written) t) → (d : Bool) × (decision n (take (r .written) t) w ≡ decided d) × Operated n op x y w d
+  run-operated w l = (_, run-read .decides w l, joint-operated n op x y w (omega (arith, l, run-read .within, run-covered)))
+
+  -- a run that ends "whole" is read back whole
+  pub run-whole-read : r .ending ≡ whole → ReadsBack n (joint (operate op) (inputs n x y)) (take (r .written) t)
+  unfolding combineText runOf
+  run-whole-read e =
+      let f = joint (operate op) (inputs n x y) in
+      let c = runCovered n (inputs n x y) in
+      let p = answer-whole n c (runText n size c f) out (sym (ap (λ (q : Answer). q .ending) (h .answer)) ∙ e) in
+      subst⁻¹ (ReadsBack n f) (h .bytes ∙ p .1 ∙ ap (λ (k : ℕ). runText n size k f) (p .0)) (read-back n size f (h .options) (h .fit))
+
+-- ---- Two runs --------------------------------------------------------------------------------
+
+-- The second run's streams are the first's with bytes behind, its output is no shorter.
+module _ (n op size : ℕ) (x y u v out out′ : List ℕ) (r r′ : Answer) (t t′ : List ℕ) (h : Ran n op size x y out r t) (h′ : Ran n op size (x ++ u) (y ++ v) out′ r′ t′) (l : length out ≤ length out′) where
+  extend : Extend (inputs n x y) (inputs n (x ++ u) (y ++ v))
+  extend = (input-extends n x u, (input-extends n y v, tt))
+
+  pub runs-covered : r .covered ≤ r′ .covered
+  runs-covered = omega (arith, run-covered n op size x y out r t h, run-covered n op size (x ++ u) (y ++ v) out′ r′ t′ h′, runCovered-grows n (inputs n x y) (inputs n (x ++ u) (y ++ v)) extend)
+
+  pub runs-begin : Begins (take (r .written) t) (take (r′ .written) t′)
+  unfolding combineText
+  runs-begin = subst⁻¹ (λ (s : List ℕ). Begins s (take (r′ .written) t′)) (h .bytes)
+      (subst⁻¹ (Begins (writtenBytes (combineText n op size (Streams x y)) out)) (h′ .bytes)
+      (runOf-written (operate op) n size (inputs n x y) (inputs n (x ++ u) (y ++ v)) out out′ extend l))
+
+  operated-longer : (w : ℕ) (d : Bool) → w < 2 ^ n → Operated n op x y w d → Operated n op (x ++ u) (y ++ v) w d
+  operated-longer w d k o = record { a = o .a; b = o .b; first = decision-stands n x u w (o .a) k (o .first); second = decision-stands n y v w (o .b) k (o .second); digit = o .digit }
+
+  pub runs-decide : (w : ℕ) → w < covered n (take (r .written) t)
+      → (d : Bool) × (decision n (take (r .written) t) w ≡ decided d) × (decision n (take (r′ .written) t′) w ≡ decided d) × Operated n op x y w d × Operated n op (x ++ u) (y ++ v) w d
+  runs-decide w q =
+      let o = run-operated n op size x y out r t h w q in
+      let k : w < 2 ^ n = omega (arith, q, covered-most n (take (r .written) t)) in
+      let b = runs-begin in
+      (o .0, o .1, subst⁻¹ (λ (l : List ℕ). decision n l w ≡ decided (o .0)) (b .1) (decision-stands n (take (r .written) t) (b .0) w (o .0) k (o .1)), o .2, operated-longer w (o .0) k (o .2))
+
+-- ---- A call of writing -----------------------------------------------------------------------
+
+pub record Wrote (n size : ℕ) (truths out : List ℕ) (r : Answer) (t : List ℕ) : Type 0 where
+  pub options : n ≤ optionLimit
+  pub fit : size ≤ tableLimit
+  pub answer : r ≡ answerOf n (2 ^ n) (writeText n size truths) out
+  pub bytes : take (r .written) t ≡ writtenBytes (writeText n size truths) out
+
+pub wrote : {R : Type 0} (z : R) (n size : ℕ) (truths out : List ℕ) (t : List R) (r : Answer) → write z n size truths out t .answer ≡ done r
+    → Wrote n size truths out r (write z n size truths out t .output)
+unfolding write writeAnswer unlessRefused
+wrote z n size truths out t r e =
+    let text = writeText n size truths in
+    let a = answerOf n (2 ^ n) text out in
+    let g = gate-done (notTruthTable n ∷ largeSize size ∷ shortTable (length t) ∷ wrongLength n truths ∷ []) (done a) r e in
+    let s : a ≡ r = same-done a r (g .1) in
+    let m : n ≤ truthTableMost = leb-true _ _ (and-r (leb truthTableLeast n) (leb n truthTableMost) (not-false _ (g .0 .0))) in
+    record {
+      options = omega arith;
+      fit = ltb-false _ _ (g .0 .1 .0);
+      answer = sym s;
+      bytes = ap (λ (o : Result Answer). take (r .written) (unlessRefused o out (λ (q : Answer). outputAfter text out))) e
+          ∙ ap (λ (q : Answer). take (q .written) (outputAfter text out)) (sym s) ∙ answer-written n (2 ^ n) text out;
+    }
+
+module _ (n size : ℕ) (truths out : List ℕ) (r : Answer) (t : List ℕ) (h : Wrote n size truths out r t) where
+  -- the written bytes, clipped or not
+  pub wrote-read : Written n (2 ^ n) (truthAt truths) (take (r .written) t)
+  unfolding writeText
+  wrote-read = subst⁻¹ (Written n (2 ^ n) (truthAt truths)) (h .bytes) (run-written n size (2 ^ n) (truthAt truths) out (h .options) (h .fit) (omega arith))
+
+  pub wrote-whole-read : r .ending ≡ whole → ReadsBack n (truthAt truths) (take (r .written) t)
+  unfolding writeText
+  wrote-whole-read e =
+      let p = answer-whole n (2 ^ n) (runText n size (2 ^ n) (truthAt truths)) out (sym (ap (λ (q : Answer). q .ending) (h .answer)) ∙ e) in
+      subst⁻¹ (ReadsBack n (truthAt truths)) (h .bytes ∙ p .1) (read-back n size (truthAt truths) (h .options) (h .fit))

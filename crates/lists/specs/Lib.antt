@@ -1,0 +1,5 @@
+pub mod Lists
+pub mod Looks
+pub mod Maps
+pub mod Prefixes
+pub mod Splits
