@@ -3,16 +3,18 @@
 -- writing's Calls. Assumes nothing.
 use mathlib.Core.Path.{_≡_, ap, _∙_, subst⁻¹}
 use mathlib.Core.Logic.{_↔_}
-use mathlib.Core.Bool.{Bool}
-use mathlib.Core.List.{List, _++_, List·Memᴰ}
+use mathlib.Core.Bool.{Bool, true, false}
+use mathlib.Core.List.{List, [], _∷_, _++_, List·Memᴰ}
 use mathlib.Core.Option.{none, some}
-use Prim.Native.Nat.{ℕ, suc, _/_, _%_, _≤_, _<_, _^_}
-use lib.ListN.{length, take, getD}
+use Prim.Native.Nat.{ℕ, suc, _/_, _%_, _≤_, _<_, _^_, min}
+use lib.ListN.{length, take, drop, getD}
+use Rattle.lists.specs.Lists.{has, Distinct}
 use Rattle.lists.specs.Prefixes.{Begins}
 use Rattle.reading.specs.Limits.{optionLimit, tableLimit}
 use Rattle.reading.specs.Causes.{wrongByte, done}
 use Rattle.reading.specs.Grammar.{IsStream, Viable}
-use Rattle.reading.specs.Element.{over}
+use Rattle.reading.specs.Nodes.{hasParent}
+use Rattle.reading.specs.Element.{over, fault, ranOut}
 use Rattle.reading.specs.Reading.{Fault, Reading, reading}
 use Rattle.reading.specs.Deciding.{decided, undecided, decision, trace}
 use Rattle.reading.specs.Calls.{verdictOf, decide, digitOf, bytesFrom}
@@ -22,13 +24,18 @@ use Rattle.reading.specs.Prefix as P
 use Rattle.reading.specs.Settled as S
 use Rattle.reading.specs.CauseSeven as G
 use Rattle.reading.specs.CallLaws as L
-use Rattle.writing.specs.Run.{whole, Answer}
-use Rattle.writing.specs.Calls.{truthAt, write, combine}
+use Rattle.writing.specs.UniqueTable.{start}
+use Rattle.writing.specs.Rules.{part}
+use Rattle.writing.specs.Run.{runCovered, runText, writtenBytes, outputAfter, whole, Answer}
+use Rattle.writing.specs.Calls.{inputOf, truthAt, write, combine}
+use Rattle.writing.specs.Queue as Q
+use Rattle.writing.specs.Grows as W
+use Rattle.writing.specs.Output as O
 use Rattle.claims.specs.PaperRows as R
 use Rattle.claims.specs.PaperRows.{Row, rows, Holds}
 use Rattle.claims.specs.ReadBack.{ReadsBack}
 use Rattle.claims.specs.WrittenBytes.{Written}
-use Rattle.claims.specs.Runs.{Operated, ran, run-read, run-operated, run-whole-read, runs-covered, runs-begin, runs-decide, wrote, wrote-read, wrote-whole-read}
+use Rattle.claims.specs.Runs.{smaller-covered, Operated, ran, run-read, run-operated, run-whole-read, runs-covered, runs-begin, runs-decide, wrote, wrote-read, wrote-whole-read}
 
 -- ---- The examples marked P -------------------------------------------------------------------
 
@@ -54,6 +61,13 @@ complete-streams n bytes e = (G.complete-stream n bytes e, λ h. G.stream-comple
 -- The lowest fault place counts: a fault lies inside the bytes, and those before it are without fault.
 pub lowest-fault : (n : ℕ) (bytes : List ℕ) (f : Fault) → reading n bytes .fault ≡ some f → (f .byte < length bytes) × (reading n (take (f .byte) bytes) .fault ≡ none)
 lowest-fault n bytes f e = (S.fault-inside n bytes f e, S.fault-lowest n bytes f e)
+
+-- The reader, which only steps, stops at the same byte: where it finds cause 7, and where the bytes run out.
+pub reader-cause-seven : (bytes : List ℕ) (b : ℕ) → G.stepped bytes .outcome ≡ fault wrongByte b → (b < length bytes) × Viable (take b bytes) × (Viable (take (suc b) bytes) → ⊥)
+reader-cause-seven = G.stepped-wrong
+
+pub reader-no-fault : (bytes : List ℕ) → G.stepped bytes .outcome ≡ ranOut → Viable bytes × ((G.stepped bytes .place .mark ≡ over) ↔ IsStream bytes)
+reader-no-fault bytes e = (G.stepped-viable bytes e, G.stepped-over bytes e)
 
 -- ---- Demand 2: reading -----------------------------------------------------------------------
 
@@ -81,6 +95,27 @@ pub longer-streams : (n : ℕ) (x u : List ℕ)
     × (covered n x ≤ covered n (x ++ u))
     × ((w : ℕ) (d : Bool) → w < 2 ^ n → decision n x w ≡ decided d → decision n (x ++ u) w ≡ decided d)
 longer-streams n x u = (λ f e. ap (λ (r : Reading). r .fault) (P.fault-stands n x u f e) ∙ e, C.covered-grows n x u, λ w d. C.decision-stands n x u w d)
+
+-- ---- Writing ---------------------------------------------------------------------------------
+
+-- The covered count of a run over two streams is the smaller of theirs.
+pub smaller-count : (n : ℕ) (x y : List ℕ) → runCovered n (inputOf n x ∷ inputOf n y ∷ []) ≡ min (covered n x) (covered n y)
+smaller-count = smaller-covered
+
+-- The queue has the stored nodes that are no stored node's child, each once, and no others.
+pub queue-holds : (size n : ℕ) (f : ℕ → Bool)
+    → let s = part size n 1 0 f start .state in
+    Distinct (s .queue) × ((q : ℕ) → (has q (s .queue) ≡ true) ↔ ((0 < q) × (q < length (s .table)) × (hasParent (s .table) q ≡ false)))
+queue-holds = Q.queue-exact
+
+-- Words that a run does not cover change nothing in its text: what the inputs decide there is free.
+pub later-words : (n size c : ℕ) (f g : ℕ → Bool) → ((w : ℕ) → w < c → f w ≡ g w) → runText n size c f ≡ runText n size c g
+later-words = W.run-stable
+
+-- Bytes beyond those written keep their content, and the output keeps its length.
+pub bytes-beyond : (text out : List ℕ)
+    → let k = length (writtenBytes text out) in (drop k (outputAfter text out) ≡ drop k out) × (length (outputAfter text out) ≡ length out)
+bytes-beyond text out = (O.output-beyond text out, O.output-length text out)
 
 -- ---- Demand 2: reading what was written ------------------------------------------------------
 

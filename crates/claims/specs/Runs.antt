@@ -5,7 +5,7 @@ use mathlib.Core.Bool.{Bool, true, false, cond}
 use mathlib.Core.List.{List, [], _∷_, _++_}
 use mathlib.Core.Option.{Option, none, some}
 use Prim.{tt}
-use Prim.Native.Nat.{ℕ, suc, _≤_, _<_, _^_}
+use Prim.Native.Nat.{ℕ, suc, _≤_, _<_, _^_, min}
 use native.Mathlib.Omega.{arith}
 use lib.Dec.{ltb, leb, eqb}
 use lib.ListN.{length, take}
@@ -19,7 +19,7 @@ use Rattle.reading.specs.Deciding.{decided, decision}
 use Rattle.reading.specs.Calls.{manyOptions, shortTable, notTruthTable, wrongLength, unlessFault}
 use Rattle.reading.specs.Covered.{covered, covered-decided, covered-most, covered-grows, decision-stands}
 use Rattle.writing.specs.Run.{operate, Input, runCovered, joint, runText, runOf, writtenBytes, outputAfter, whole, inputEnded, outputFull, Answer, answerOf}
-use Rattle.writing.specs.Inputs.{runCovered-most, runCovered-each, Extends, Extend, runCovered-grows, runOf-written}
+use Rattle.writing.specs.Inputs.{runCovered-most, runCovered-two, runCovered-each, Extends, Extend, runCovered-grows, runOf-written}
 use Rattle.writing.specs.Output.{output-written, written-all}
 use Rattle.writing.specs.Calls.{largeSize, largeOperator, unlessFaults, orNo, inputOf, combineText, shortTables, combineAnswer, combine, writeText, truthAt, writeAnswer, write}
 use Rattle.claims.specs.ReadBack.{ReadsBack, read-back}
@@ -139,6 +139,11 @@ module _ (n : ℕ) (x : List ℕ) where
         let e = covered-decided n x w k h in
         ap orNo (e ∙ sym (decision-stands n x u w _ k e));
   }
+
+-- "the smaller of the two inputs'"
+pub smaller-covered : (n : ℕ) (x y : List ℕ) → runCovered n (inputs n x y) ≡ min (covered n x) (covered n y)
+unfolding inputOf
+smaller-covered n x y = runCovered-two n (inputOf n x) (inputOf n y) (covered-most n y)
 
 joint-operated : (n op : ℕ) (x y : List ℕ) (w : ℕ) → w < runCovered n (inputs n x y) → Operated n op x y w (joint (operate op) (inputs n x y) w)
 joint-operated n op x y w h =

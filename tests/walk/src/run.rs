@@ -1,0 +1,139 @@
+//! A run (document 01, "The written stream"): operator, covered count, the text that is released,
+//! clipping to the output, ending.
+
+use crate::reading::Reading;
+use crate::writing::{heading, write_blocks, write_words, WholeStream};
+
+/// Up to this option count a run walks all words; above it, blocks that both inputs decide at
+/// once. Both give the same text (see `write_blocks`).
+pub const PLAIN_WALK: u32 = 16;
+
+#[derive(Clone, Copy, Debug, PartialEq, Eq)]
+pub enum Ending {
+    Whole,
+    InputEnded,
+    OutputFull,
+}
+
+/// "The answer has bytes written, covered count, ending".
+#[derive(Clone, Copy, Debug, PartialEq, Eq)]
+pub struct Written {
+    pub bytes: usize,
+    pub covered: u64,
+    pub ending: Ending,
+}
+
+/// "decisions a, b give binary digit 2a + b of it, digit 0 lowest".
+pub fn operate(operator: u64, a: bool, b: bool) -> bool {
+    (operator >> (2 * u64::from(a) + u64::from(b))) & 1 == 1
+}
+
+/// "The covered count of a run is the smaller of the two inputs'."
+pub fn covered_by_both(first: &Reading, second: &Reading) -> u64 {
+    first.covered.min(second.covered)
+}
+
+/// The text of combining two streams that were read with one option count.
+pub fn combined_text(operator: u64, size: u64, first: &Reading, second: &Reading) -> Vec<u8> {
+    let options = first.options;
+    let covered = covered_by_both(first, second);
+    let whole = if options <= PLAIN_WALK {
+        combine_words(operator, size, first, second, false)
+    } else {
+        combine_blocks(operator, size, first, second)
+    };
+    released(options, size, covered, whole)
+}
+
+/// The walk over all words. Words that are not covered are taken as `later`: "later words can't
+/// change that beginning".
+pub fn combine_words(
+    operator: u64,
+    size: u64,
+    first: &Reading,
+    second: &Reading,
+    later: bool,
+) -> WholeStream {
+    let covered = covered_by_both(first, second);
+    write_words(first.options, size, |word| {
+        if word < covered {
+            operate(operator, first.decision(word), second.decision(word))
+        } else {
+            later
+        }
+    })
+}
+
+/// The same, where a block that both inputs decide at once is one step.
+pub fn combine_blocks(operator: u64, size: u64, first: &Reading, second: &Reading) -> WholeStream {
+    write_blocks(first.options, size, |level, word| {
+        block(operator, first, second, level, word)
+    })
+}
+
+/// The decision of a block, if both inputs decide it at once; later words are taken as no.
+fn block(operator: u64, first: &Reading, second: &Reading, level: u32, word: u64) -> Option<bool> {
+    let covered = covered_by_both(first, second);
+    let words = 1u64 << (first.options + 1 - level);
+    if word >= covered {
+        Some(false)
+    } else if word + words > covered {
+        None
+    } else {
+        let a = first.block_decision(level, word)?;
+        let b = second.block_decision(level, word)?;
+        Some(operate(operator, a, b))
+    }
+}
+
+/// How many blocks the walk of `combine_blocks` has, if at most `most`.
+pub fn count_blocks(first: &Reading, second: &Reading, most: u64) -> Option<u64> {
+    let mut waiting = vec![(1u32, 0u64)];
+    let mut blocks = 0;
+    while let Some((level, word)) = waiting.pop() {
+        if block(0, first, second, level, word).is_some() {
+            blocks += 1;
+            if blocks > most {
+                return None;
+            }
+        } else {
+            waiting.push((level + 1, word));
+            waiting.push((level + 1, word + (1u64 << (first.options - level))));
+        }
+    }
+    Some(blocks)
+}
+
+/// "If it is 2^n the text is the whole stream. Otherwise it is the beginning that ends with the
+/// last two-child node written out (number included) whose words are all covered ...; with none,
+/// size and LF."
+pub fn released(options: u32, size: u64, covered: u64, whole: WholeStream) -> Vec<u8> {
+    if covered == 1u64 << options {
+        return whole.text;
+    }
+    let mut nodes = whole.nodes.iter().rev();
+    match nodes.find(|node| node.words_end <= covered) {
+        Some(node) => whole.text[..node.end].to_vec(),
+        None => heading(size),
+    }
+}
+
+/// "If the output is shorter than the text, it gets the text's first bytes and the ending is
+/// "output full"; else the ending is "whole" if the covered count is 2^n, otherwise "input
+/// ended". Bytes beyond those written keep their content."
+pub fn put_out(options: u32, covered: u64, text: &[u8], output: &mut [u8]) -> Written {
+    let bytes = text.len().min(output.len());
+    output[..bytes].copy_from_slice(&text[..bytes]);
+    let ending = if output.len() < text.len() {
+        Ending::OutputFull
+    } else if covered == 1u64 << options {
+        Ending::Whole
+    } else {
+        Ending::InputEnded
+    };
+    Written {
+        bytes,
+        covered,
+        ending,
+    }
+}
