@@ -11,13 +11,13 @@ use lib.ListN.{length, take, drop, getD}
 use Rattle.lists.specs.Lists.{has, Distinct}
 use Rattle.lists.specs.Prefixes.{Begins}
 use Rattle.reading.specs.Limits.{optionLimit, tableLimit}
-use Rattle.reading.specs.Causes.{wrongByte, done}
+use Rattle.reading.specs.Causes.{wrongByte, call, place, causeRow, Refusal, refused, done, cleared}
 use Rattle.reading.specs.Grammar.{IsStream, Viable}
 use Rattle.reading.specs.Nodes.{hasParent}
 use Rattle.reading.specs.Element.{over, fault, ranOut}
 use Rattle.reading.specs.Reading.{Fault, Reading, reading}
 use Rattle.reading.specs.Deciding.{decided, undecided, decision, trace}
-use Rattle.reading.specs.Calls.{verdictOf, decide, digitOf, bytesFrom}
+use Rattle.reading.specs.Calls.{verdictOf, decide, digitOf, bytesFrom, fill}
 use Rattle.reading.specs.Covered as C
 use Rattle.reading.specs.Covered.{covered}
 use Rattle.reading.specs.Prefix as P
@@ -28,6 +28,7 @@ use Rattle.writing.specs.UniqueTable.{start}
 use Rattle.writing.specs.Rules.{part}
 use Rattle.writing.specs.Run.{runCovered, runText, writtenBytes, outputAfter, whole, Answer}
 use Rattle.writing.specs.Calls.{inputOf, truthAt, write, combine}
+use Rattle.writing.specs.CallLaws as M
 use Rattle.writing.specs.Queue as Q
 use Rattle.writing.specs.Grows as W
 use Rattle.writing.specs.Output as O
@@ -68,6 +69,28 @@ reader-cause-seven = G.stepped-wrong
 
 pub reader-no-fault : (bytes : List ℕ) → G.stepped bytes .outcome ≡ ranOut → Viable bytes × ((G.stepped bytes .place .mark ≡ over) ↔ IsStream bytes)
 reader-no-fault bytes e = (G.stepped-viable bytes e, G.stepped-over bytes e)
+
+-- ---- Demand 1: lent memory -------------------------------------------------------------------
+
+-- A refused call leaves the output as it was, whatever came in.
+pub refused-fill : {R : Type 0} (z : R) (n : ℕ) (bytes old : List ℕ) (t : List R) (f : Refusal) → fill z n bytes old t .answer ≡ refused f → fill z n bytes old t .truths ≡ old
+refused-fill = L.fill-refused
+
+pub refused-write : {R : Type 0} (z : R) (n size : ℕ) (truths out : List ℕ) (t : List R) (f : Refusal)
+    → write z n size truths out t .answer ≡ refused f → write z n size truths out t .output ≡ out
+refused-write = M.write-refused
+
+pub refused-combine : {R : Type 0} (z : R) (n op size : ℕ) (x y out : List ℕ) (t u v : List R) (f : Refusal)
+    → combine z n op size x y out t u v .answer ≡ refused f → combine z n op size x y out t u v .output ≡ out
+refused-combine = M.combine-refused
+
+-- The work tables are as they were after a refusal that names the call (causes 1 to 6), and zero in every record after any other return.
+pub combine-tables : {R : Type 0} (z : R) (n op size : ℕ) (x y out : List ℕ) (t u v : List R)
+    → let a = combine z n op size x y out t u v .answer in let Tables = M.Tables z n op size x y out t u v in
+    ((f : Refusal) → a ≡ refused f → causeRow (f .cause) .names ≡ call → Tables t u v)
+    × ((f : Refusal) → a ≡ refused f → causeRow (f .cause) .names ≡ place → Tables (cleared z t) (cleared z u) (cleared z v))
+    × ((r : Answer) → a ≡ done r → Tables (cleared z t) (cleared z u) (cleared z v))
+combine-tables z n op size x y out t u v = (M.combine-untouched z n op size x y out t u v, M.combine-zeroed z n op size x y out t u v, M.combine-done z n op size x y out t u v)
 
 -- ---- Demand 2: reading -----------------------------------------------------------------------
 

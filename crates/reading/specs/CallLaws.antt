@@ -1,5 +1,5 @@
 -- What the calls that read answer on a stream without fault: deciding gives the diagram's decision, and so does each word of a truth table that
--- is filled. Assumes nothing.
+-- is filled; and what a refusal leaves in lent memory. Assumes nothing.
 use mathlib.Core.Path.{_≡_, refl, sym, ap, _∙_, subst}
 use mathlib.Core.Bool.{Bool, true, false, cond}
 use mathlib.Core.List.{List}
@@ -11,10 +11,10 @@ use lib.Dec.{ltb}
 use lib.ListN.{length, getD}
 use borrow.Author.Tests.{ltb-false, le-ltb, lt-leb}
 use Rattle.reading.specs.Limits.{optionLimit, tableLimit}
-use Rattle.reading.specs.Causes.{done, gate}
+use Rattle.reading.specs.Causes.{Names, call, place, leavesAll, causeRow, Refusal, Result, refused, done, gate, cleared, tableAfter, unlessRefused}
 use Rattle.reading.specs.Reading.{Reading, reading}
 use Rattle.reading.specs.Deciding.{Trace, decisionOf, decision, trace}
-use Rattle.reading.specs.Calls.{Verdict, isNo, isYes, notYet, verdictOf, verdict, decideAnswer, decide, digitOf, wordsFrom, bytesFrom}
+use Rattle.reading.specs.Calls.{Verdict, isNo, isYes, notYet, verdictOf, verdict, decideAnswer, decide, digitOf, wordsFrom, bytesFrom, fillAnswer, fill}
 use Rattle.reading.specs.Prefix.{trace-reading}
 use Rattle.reading.specs.Covered.{covered, trace-covered, uncovered-undecided}
 
@@ -71,3 +71,29 @@ filled-word k n bytes w h l =
     ap (λ (y : ℕ). y / 2 ^ (w % 8) % 2) (bytes-at k n t 0 (w / 8) l)
     ∙ words-digit 8 n t (8 * (0 + w / 8)) (w % 8) (omega arith)
     ∙ ap (λ (y : ℕ). digitOf (verdict n t y)) e ∙ ap digitOf (verdict-decision n bytes w h)
+
+-- ---- Lent memory -----------------------------------------------------------------------------
+
+module _ {A : Type 0} (a : Result A) where
+  -- a refused call's output is as it was
+  pub keeps-output : (old : List ℕ) (new : A → List ℕ) (f : Refusal) → a ≡ refused f → unlessRefused a old new ≡ old
+  unfolding unlessRefused
+  keeps-output old new f e = ap (λ (x : Result A). unlessRefused x old new) e
+
+  -- causes 1 to 6 leave a work table as it was
+  pub keeps-table : {R : Type 0} (z : R) (t : List R) (f : Refusal) → a ≡ refused f → causeRow (f .cause) .names ≡ call → tableAfter z a t ≡ t
+  unfolding tableAfter
+  keeps-table z t f e c = ap (λ (x : Result A). tableAfter z x t) e ∙ ap (λ (w : Names). elim (leavesAll w) [ true ↦ t | false ↦ cleared z t ]) c
+
+  -- past them every record is zero
+  pub zeroes-table : {R : Type 0} (z : R) (t : List R) (f : Refusal) → a ≡ refused f → causeRow (f .cause) .names ≡ place → tableAfter z a t ≡ cleared z t
+  unfolding tableAfter
+  zeroes-table z t f e c = ap (λ (x : Result A). tableAfter z x t) e ∙ ap (λ (w : Names). elim (leavesAll w) [ true ↦ t | false ↦ cleared z t ]) c
+
+  pub zeroes-done : {R : Type 0} (z : R) (t : List R) (x : A) → a ≡ done x → tableAfter z a t ≡ cleared z t
+  unfolding tableAfter
+  zeroes-done z t x e = rw e refl
+
+pub fill-refused : {R : Type 0} (z : R) (n : ℕ) (bytes old : List ℕ) (table : List R) (f : Refusal) → fill z n bytes old table .answer ≡ refused f → fill z n bytes old table .truths ≡ old
+unfolding fill
+fill-refused z n bytes old table f e = keeps-output (fillAnswer n bytes old (length table)) old _ f e

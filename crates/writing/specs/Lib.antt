@@ -34,3 +34,4 @@ pub mod Flow
 pub mod Online
 pub mod OnlineRuns
 pub mod Lockstep
+pub mod CallLaws
