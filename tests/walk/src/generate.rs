@@ -26,6 +26,7 @@ pub fn cases(seed: u64, count: usize) -> Vec<Case> {
     cases.extend(draw.every_cut());
     cases.extend(draw.every_output());
     cases.extend(draw.busy_tables());
+    cases.push(draw.long_job());
     while cases.len() < count {
         let case = draw.case();
         if draw.fits(&case) {
@@ -877,6 +878,14 @@ impl Draw {
             }
         }
         cases
+    }
+
+    /// A job whose text has some hundred bytes.
+    fn long_job(&mut self) -> Case {
+        let function: Vec<bool> = (0..1 << 7).map(|_| self.random.chance(1, 2)).collect();
+        let text = write_words(7, 40, |word| function[word as usize]).text;
+        let input = [shown("7 NOT 0/"), text, shown("/0/0.")].concat();
+        Case::Join { input }
     }
 
     /// Functions whose numbers are given out again and again, written from truth tables and as the
