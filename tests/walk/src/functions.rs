@@ -16,7 +16,7 @@ pub fn random_function(random: &mut Random, n: u32) -> Vec<bool> {
     }
 }
 
-/// Of some random functions the one in whose stream numbers are given out again most often.
+/// Of some random functions the one in whose stream numbers are given out most often.
 pub fn busy_function(random: &mut Random, n: u32, size: u64) -> Vec<bool> {
     let functions = (0..40).map(|_| random_function(random, n));
     let storings = |function: &Vec<bool>| {

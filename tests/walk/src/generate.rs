@@ -428,21 +428,29 @@ fn order_cases() -> Vec<Case> {
     cases
 }
 
-/// Functions of four options, size to write and decisions of the words 0 to 15 (word 0 lowest), in
-/// which the order of the queue shows.
-pub const QUEUES: [(u64, u16); 4] = [
+/// Functions in which the order of the queue shows: option count, size to write, and the decisions
+/// of all words, word 0 lowest.
+pub const QUEUES: [(u64, u64, u32); 9] = [
     // Numbers 1 and 2 wait in this order.
-    (2, 44272),
+    (4, 2, 44272),
     // The old children of a reused number both lose their last parent.
-    (4, 8264),
+    (4, 4, 8264),
     // An old child joins the queue and leaves it again as a child of the new node.
-    (2, 8202),
+    (4, 2, 8202),
     // A number that is found again stays where it is.
-    (3, 10312),
+    (4, 3, 5004),
+    (4, 3, 10312),
+    (5, 2, 470_809_852),
+    (5, 4, 4_062_187_487),
+    (5, 5, 71_307_328),
+    (5, 6, 25_173_120),
 ];
 
 fn queue_cases() -> Vec<Case> {
-    let case = |(size, truth): (u64, u16)| write(4, size, truth.to_le_bytes().to_vec(), 60);
+    let case = |(n, size, truth): (u64, u64, u32)| {
+        let bytes = (1 << n) / 8;
+        write(n, size, truth.to_le_bytes()[..bytes].to_vec(), 70)
+    };
     QUEUES.map(case).to_vec()
 }
 
