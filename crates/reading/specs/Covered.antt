@@ -51,6 +51,10 @@ complemented-false [] = refl
 complemented-false (undecided ∷ xs) = ap (λ (l : List Decision). undecided ∷ l) (complemented-false xs)
 complemented-false (decided d ∷ xs) = ap (λ (l : List Decision). decided d ∷ l) (complemented-false xs)
 
+map-differ-false : (xs : List Bool) → map (differ false) xs ≡ xs
+map-differ-false [] = refl
+map-differ-false (x ∷ xs) = ap (λ (l : List Bool). x ∷ l) (map-differ-false xs)
+
 complemented-undecided : (t : Bool) (k : ℕ) → map (complemented t) (replicate k undecided) ≡ replicate k undecided
 complemented-undecided t k = map-replicate (complemented t) k undecided
 
@@ -150,7 +154,7 @@ outermost-spread n false o x h w =
     )
 
 -- THE WALK'S DECISION is that of the list.
-words-decide : (n : ℕ) (t : Trace) → Good n (t .reading .state) (t .drawing) → (w : ℕ) → w < 2 ^ n → decisionOf n t w ≡ getD (map decided (words n (t .reading .state) (t .drawing))) w undecided
+pub words-decide : (n : ℕ) (t : Trace) → Good n (t .reading .state) (t .drawing) → (w : ℕ) → w < 2 ^ n → decisionOf n t w ≡ getD (map decided (words n (t .reading .state) (t .drawing))) w undecided
 unfolding decisionOf words
 words-decide n t g w h =
     let s = t .reading .state in
@@ -160,7 +164,7 @@ words-decide n t g w h =
     ∙ sym (List·getD-map (complemented (s .complement)) (map decided x) w undecided)
     ∙ ap (λ (l : List Decision). getD l w undecided) (differ-bits (s .complement) x)
 
-words-count : (n : ℕ) (s : State) (d : Drawing) → Good n s d → length (words n s d) ≡ s .covered
+pub words-count : (n : ℕ) (s : State) (d : Drawing) → Good n s d → length (words n s d) ≡ s .covered
 unfolding words
 words-count n s d g = length-map (passedWords n s d) (differ (s .complement)) ∙ sym (g .count)
 
@@ -176,11 +180,11 @@ pub record Added (n : ℕ) (s : State) (d : Drawing) (r : State) (e : Drawing) :
 added-none : (n : ℕ) (s : State) (d : Drawing) (r : State) (e : Drawing) → passedWords n r e ≡ passedWords n s d → r .covered ≡ s .covered → (r .complement ≡ s .complement) ⊎ (passedWords n s d ≡ []) → Added n s d r e
 added-none n s d r e i h k = record { new = []; list = i ∙ sym (append-nil (passedWords n s d)); more = omega (arith, h); turn = k }
 
-begins-length : (s : State) (o : List Open) → Begins s o → length o ≡ length (s .place .opens)
+pub begins-length : (s : State) (o : List Open) → Begins s o → length o ≡ length (s .place .opens)
 begins-length s o (anew e) = refl
 begins-length s o (second e u j) = rw j refl
 
-begins-before : (n : ℕ) (s : State) (d : Drawing) (o : List Open) → Begins s o → before n o (d .stack) ≡ passedWords n s d
+pub begins-before : (n : ℕ) (s : State) (d : Drawing) (o : List Open) → Begins s o → before n o (d .stack) ≡ passedWords n s d
 unfolding passedBy before parity
 begins-before n s d o (anew e) = rw e refl
 begins-before n s d o (second e u j) = rw (e, j) refl
@@ -215,28 +219,34 @@ module _ (n : ℕ) (s : State) (d : Drawing) (g : Good n s d) (e : ended (s .pla
   whole-at : (u : List Open) → s .place .opens ≡ u → Full (top (d .stack)) (n - length u)
   whole-at u j = subst (λ (v : List Open). Full (top (d .stack)) (n - length v)) j (g .whole e)
 
--- `(A)` adds A's words again
-added-one : (n : ℕ) (s : State) (d : Drawing) (r : State) (o : List Open) → Good n s d → ended (s .place .mark) ≡ true → s .place .opens ≡ inFirst ∷ o
-    → r .place .mark ≡ afterOne → r .place .opens ≡ o → r .covered ≡ s .covered + 2 ^ (n - length (s .place .opens)) → r .complement ≡ s .complement
-    → Added n s d r (drawing (d .rows) (branch (top (d .stack)) false (top (d .stack)) ∷ below (d .stack)))
+-- an `(A)` that ends has A's words twice
+pub one-words : (n : ℕ) (s : State) (d : Drawing) (r : State) (o : List Open) → Good n s d → ended (s .place .mark) ≡ true → s .place .opens ≡ inFirst ∷ o → r .place .mark ≡ afterOne → r .place .opens ≡ o
+    → passedWords n r (drawing (d .rows) (branch (top (d .stack)) false (top (d .stack)) ∷ below (d .stack))) ≡ passedWords n s d ++ map (differ (parity o)) (bits (top (d .stack)) (n - length (s .place .opens)))
 unfolding passedBy before parity bits
-added-one n s d r o g e j m q c t =
+one-words n s d r o g e j m q =
     let h : Nest n (inFirst ∷ o) (below (d .stack)) = subst (λ (v : List Open). Nest n v (below (d .stack))) j (nest-ended n s d g e) in
     let i : suc (length o) ≤ n = h .0 in
     let k : n - length o ≡ suc (n - suc (length o)) = omega arith in
     let a = top (d .stack) in
-    let f : Full a (n - suc (length o)) = whole-at n s d g e (inFirst ∷ o) j in
     let x = bits a (n - suc (length o)) in
     let p = parity o in
     let b = before n o (below (d .stack)) in
-    let l : length (map (differ p) (map (differ false) x)) ≡ 2 ^ (n - suc (length o)) = length-map (map (differ false) x) (differ p) ∙ length-map x (differ false) ∙ length-bits a (n - suc (length o)) f in
+    rw (m, q, e, j)
+    (ap (λ (y : ℕ). b ++ map (differ p) (bits (branch a false a) y)) k
+    ∙ ap (λ (y : List Bool). b ++ map (differ p) (x ++ y)) (map-differ-false x)
+    ∙ ap (λ (y : List Bool). b ++ y) (map-append (differ p) x x)
+    ∙ sym (append-assoc b (map (differ p) x) (map (differ p) x)))
+
+-- `(A)` adds A's words again
+added-one : (n : ℕ) (s : State) (d : Drawing) (r : State) (o : List Open) → Good n s d → ended (s .place .mark) ≡ true → s .place .opens ≡ inFirst ∷ o
+    → r .place .mark ≡ afterOne → r .place .opens ≡ o → r .covered ≡ s .covered + 2 ^ (n - length (s .place .opens)) → r .complement ≡ s .complement
+    → Added n s d r (drawing (d .rows) (branch (top (d .stack)) false (top (d .stack)) ∷ below (d .stack)))
+added-one n s d r o g e j m q c t =
+    let x = bits (top (d .stack)) (n - length (s .place .opens)) in
     record {
-      new = map (differ p) (map (differ false) x);
-      list = rw (m, q, e, j)
-          (ap (λ (y : ℕ). b ++ map (differ p) (bits (branch a false a) y)) k
-          ∙ ap (λ (y : List Bool). b ++ y) (map-append (differ p) x (map (differ false) x))
-          ∙ sym (append-assoc b (map (differ p) x) (map (differ p) (map (differ false) x))));
-      more = c ∙ ap (λ (y : ℕ). s .covered + 2 ^ (n - y)) (ap length j) ∙ ap (λ (y : ℕ). s .covered + y) (sym l);
+      new = map (differ (parity o)) x;
+      list = one-words n s d r o g e j m q;
+      more = omega (arith, c, length-map x (differ (parity o)), length-bits (top (d .stack)) (n - length (s .place .opens)) (g .whole e));
       turn = inl t;
     }
 
@@ -421,7 +431,7 @@ pub record Grown (n : ℕ) (t t′ : Trace) : Type 0 where
 grown-same : (n : ℕ) (t : Trace) → GoodTrace n t → Grown n t t
 grown-same n t g = record { good = g; new = []; list = sym (append-nil (traceWords n t)) }
 
-words-added : (n : ℕ) (s : State) (d : Drawing) (r : State) (x : Drawing) (a : Added n s d r x) → words n r x ≡ words n s d ++ map (differ (r .complement)) (a .new)
+pub words-added : (n : ℕ) (s : State) (d : Drawing) (r : State) (x : Drawing) (a : Added n s d r x) → words n r x ≡ words n s d ++ map (differ (r .complement)) (a .new)
 unfolding words
 words-added n s d r x a = ap (map (differ (r .complement))) (a .list) ∙ map-append (differ (r .complement)) (passedWords n s d) (a .new) ∙ ap (λ (l : List Bool). l ++ map (differ (r .complement)) (a .new)) (go (a .turn))
   where
@@ -452,6 +462,18 @@ grown-on (suc f) n bytes t g =
     let h = grown-next n bytes t g in
     let k = grown-on f n bytes (nextTrace n bytes t) (h .good) in
     record { good = k .good; new = h .new ++ k .new; list = k .list ∙ ap (λ (l : List Bool). l ++ k .new) (h .list) ∙ append-assoc (traceWords n t) (h .new) (k .new) }
+
+-- what is read later leaves no fewer words covered
+pub grown-count : (n : ℕ) (t t′ : Trace) → GoodTrace n t → Grown n t t′ → t .reading .state .covered ≤ t′ .reading .state .covered
+grown-count n t t′ g h = omega (arith, words-count n _ _ g, words-count n _ _ (h .good), ap length (h .list), length-append (traceWords n t) (h .new))
+
+-- at most 2^n words are covered
+pub good-most : (n : ℕ) (t : Trace) → GoodTrace n t → t .reading .state .covered ≤ 2 ^ n
+good-most n t g =
+    let x = passedWords n (t .reading .state) (t .drawing) in
+    let f = outermost-spread n (ended (t .reading .state .place .mark)) (t .reading .state .place .opens) (t .drawing .stack) (g .nest) (g .whole) in
+    let e = ap length (f .1) ∙ length-append (map decided x) (replicate (f .0) undecided) in
+    omega (arith, e, length-spread (outermost t) n, length-map x decided, g .count)
 
 pub good-trace : (n : ℕ) (bytes : List ℕ) → GoodTrace n (trace n bytes)
 unfolding trace
@@ -494,13 +516,7 @@ module _ (n : ℕ) (bytes : List ℕ) where
 
   -- at most 2^n words are covered
   pub covered-most : covered n bytes ≤ 2 ^ n
-  covered-most =
-      let t = trace n bytes in
-      let g = good-trace n bytes in
-      let x = passedWords n (t .reading .state) (t .drawing) in
-      let f = outermost-spread n (ended (t .reading .state .place .mark)) (t .reading .state .place .opens) (t .drawing .stack) (g .nest) (g .whole) in
-      let e = ap length (f .1) ∙ length-append (map decided x) (replicate (f .0) undecided) in
-      omega (arith, e, length-spread (outermost t) n, length-map x decided, g .count, trace-covered n bytes)
+  covered-most = omega (arith, good-most n (trace n bytes) (good-trace n bytes), trace-covered n bytes)
 
 -- THE PREFIX LAW of the decisions: those of xs begin those of xs ++ ys.
 decisions-begin : (n : ℕ) (xs ys : List ℕ) → (zs : List Bool) × (decisions n (xs ++ ys) ≡ decisions n xs ++ zs)

@@ -19,3 +19,8 @@ pub mod Residual
 pub mod StepRest
 pub mod CauseSeven
 pub mod CallLaws
+pub mod Passing
+pub mod StampBound
+pub mod ParentCounts
+pub mod Filling
+pub mod Reaching

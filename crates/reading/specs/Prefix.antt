@@ -105,6 +105,12 @@ unfolding traceOn
 traceOn-add zero g n xs t = let e : zero + g ≡ g = omega arith in rw e refl
 traceOn-add (suc f) g n xs t = let e : suc f + g ≡ suc (f + g) = omega arith in rw e (traceOn-add f g n xs (nextTrace n xs t))
 
+-- the last step on its own
+pub traceOn-last : (f n : ℕ) (xs : List ℕ) (t : Trace) → traceOn (suc f) n xs t ≡ nextTrace n xs (traceOn f n xs t)
+unfolding traceOn
+traceOn-last zero n xs t = refl
+traceOn-last (suc f) n xs t = traceOn-last f n xs (nextTrace n xs t)
+
 traceOn-more : (f n : ℕ) (xs ys : List ℕ) (t : Trace) → (k : ℕ) × (traceOn f n (xs ++ ys) t ≡ traceOn k n (xs ++ ys) (traceOn f n xs t))
 unfolding traceOn
 traceOn-more zero n xs ys t = (0, refl)

@@ -106,13 +106,23 @@ next-onto n bytes t = go (t .reading .fault)
     go none = moved-onto (length bytes) (t .reading .state) (t .drawing) _ _ (advance-moved n bytes (t .reading .state) (t .drawing))
     go (some f) = inl refl
 
-trace-rests : (n : ℕ) (bytes : List ℕ) (t : Trace) (f : Fault) → t .reading .fault ≡ some f → nextTrace n bytes t ≡ t
+-- after a fault a step changes nothing
+pub trace-rests : (n : ℕ) (bytes : List ℕ) (t : Trace) (f : Fault) → t .reading .fault ≡ some f → nextTrace n bytes t ≡ t
 unfolding nextTrace next
 trace-rests n bytes t f e = go (t .reading .fault) e
   where
     go : (o : Option Fault) → o ≡ some f → traced (nextBy n bytes (t .reading .state) o) (drawUnless (nextBy n bytes (t .reading .state) o .fault) (t .reading .state) (step (t .reading .state .place) bytes .outcome) (t .drawing)) ≡ traced (record { state = t .reading .state; fault = o }) (t .drawing)
     go none h = never-some f h
     go (some g) h = refl
+
+-- nor does one that leaves the reading as it was
+pub trace-stays : (n : ℕ) (bytes : List ℕ) (t : Trace) → nextTrace n bytes t .reading ≡ t .reading → nextTrace n bytes t ≡ t
+trace-stays n bytes t e = go (next-onto n bytes t)
+  where
+    go : (nextTrace n bytes t ≡ t) ⊎ Onto (t .reading .state .place .at) (nextTrace n bytes t .reading) → nextTrace n bytes t ≡ t
+    go (inl h) = h
+    go (inr (onto h)) = absurd (omega (arith, h, ap (λ (r : Reading). r .state .place .at) e))
+    go (inr (failed f h)) = trace-rests n bytes t f (sym (ap (λ (r : Reading). r .fault) e) ∙ h)
 
 pub trace-ended : (n : ℕ) (bytes : List ℕ) (t : Trace) → length bytes ≤ t .reading .state .place .at → nextTrace n bytes t ≡ t
 unfolding nextTrace next
@@ -141,16 +151,21 @@ traceOn-far (suc f) n bytes t = go (traceOn-far f n bytes (nextTrace n bytes t))
 pub settled : (n : ℕ) (bytes : List ℕ) (t : Trace) → let x = traceOn (suc (length bytes)) n bytes t in nextTrace n bytes x ≡ x
 settled n bytes t = ⊎-elim (λ h. h) (λ h. trace-ended n bytes (traceOn (suc (length bytes)) n bytes t) (omega (arith, h))) (traceOn-far (suc (length bytes)) n bytes t)
 
--- A trace on the way that one more step does not change is the whole trace.
-pub trace-settled : (n : ℕ) (bytes : List ℕ) (k : ℕ) (t : Trace) → traceOn k n bytes (traced (goes fresh) (drawing [] [])) ≡ t → nextTrace n bytes t ≡ t → trace n bytes ≡ t
+-- The whole trace goes on from any trace on the way.
+pub trace-onward : (n : ℕ) (bytes : List ℕ) (k : ℕ) → trace n bytes ≡ traceOn (suc (length bytes)) n bytes (traceOn k n bytes (traced (goes fresh) (drawing [] [])))
 unfolding trace
-trace-settled n bytes k t e h =
+trace-onward n bytes k =
     let x = traced (goes fresh) (drawing [] []) in
     let f = suc (length bytes) in
     let c : f + k ≡ k + f = omega arith in
     sym (traceOn-fixed k n bytes (traceOn f n bytes x) (settled n bytes x))
     ∙ sym (traceOn-add f k n bytes x) ∙ ap (λ (j : ℕ). traceOn j n bytes x) c ∙ traceOn-add k f n bytes x
-    ∙ ap (traceOn f n bytes) e ∙ traceOn-fixed f n bytes t h
+
+-- A trace on the way that one more step does not change is the whole trace.
+pub trace-settled : (n : ℕ) (bytes : List ℕ) (k : ℕ) (t : Trace) → traceOn k n bytes (traced (goes fresh) (drawing [] [])) ≡ t → nextTrace n bytes t ≡ t → trace n bytes ≡ t
+trace-settled n bytes k t e h =
+    let f = suc (length bytes) in
+    trace-onward n bytes k ∙ ap (traceOn f n bytes) e ∙ traceOn-fixed f n bytes t h
 
 -- ---- The lowest fault place ------------------------------------------------------------------
 

@@ -179,7 +179,7 @@ storable s k e =
     }
 
 -- what does not bar is current: it walks as its number does, and 0 as the terminal
-current : (n : ℕ) (t : List Node) (i : ℕ) (d : Diagram) (r : Ref) → TiedTo n t i d r → bars t r ≡ false → (os : List Bool) → length os ≡ n + 1 - i → walk d os ≡ rowWalk t i (child r) os
+pub current : (n : ℕ) (t : List Node) (i : ℕ) (d : Diagram) (r : Ref) → TiedTo n t i d r → bars t r ≡ false → (os : List Bool) → length os ≡ n + 1 - i → walk d os ≡ rowWalk t i (child r) os
 current n t i d terminal h e os l = h os l ∙ sym (rowWalk-zero t i os)
 current n t i d (entry k g) h e os l = h .2 (eqb-true _ _ (not-false _ e)) .1 os l
 current n t i d temporary h e os l = absurd (true≢false e)
@@ -364,7 +364,7 @@ pub record TiedTrace (n : ℕ) (t : Trace) : Type 0 where
   pub good : GoodTrace n t
   pub tied : Tied n (t .reading .state) (t .drawing)
 
-tied-next : (n : ℕ) (bytes : List ℕ) (t : Trace) → TiedTrace n t → TiedTrace n (nextTrace n bytes t)
+pub tied-next : (n : ℕ) (bytes : List ℕ) (t : Trace) → TiedTrace n t → TiedTrace n (nextTrace n bytes t)
 unfolding nextTrace next
 tied-next n bytes t h = go (t .reading .fault)
   where

@@ -1,0 +1,67 @@
+-- The step is a look, whose entry and an empty one are stored at the two spots.
+-- Assumes nothing.
+use mathlib.Core.Path.{sym, ap, _∙_}
+use lib.ListN.{length-map}
+use Rattle.reader.specs.declared.Spots.{Spots}
+use Rattle.reader.specs.PlaceLaws.{place-step}
+use borrow.Author.Needs.{needs}
+use Rattle.reader.proofs.Place.step.Statement.{statement}
+use Rattle.reader.proofs.Place.step.Tie as tie
+
+kinds-requires : tie.Need-kinds-requires
+kinds-requires c κs = search needs
+
+spots-of-requires : tie.Need-spots-of-requires
+spots-of-requires c κs = search needs
+
+mul-low : tie.Need-mul-low
+mul-low c = search needs
+
+element-copy-out-low : tie.Need-element-copy-out-low
+element-copy-out-low c = search needs
+
+look-at-requires : tie.Need-look-at-requires
+look-at-requires c κs = search needs
+
+inside-requires : tie.Need-inside-requires
+inside-requires c κs = search needs
+
+mul-t17 : tie.Need-mul-t17
+mul-t17 c = search needs
+
+element-set-from-o : tie.Need-element-set-from-o
+element-set-from-o c = search needs
+
+mul-l : tie.Need-mul-l
+mul-l c = search needs
+
+element-set-from-l : tie.Need-element-set-from-l
+element-set-from-l c = search needs
+
+returns : tie.Need-returns
+returns c =
+    let p = c .before .before .before .before .before .before .before .before .before .before .args .self in
+    let n = c .before .before .before .before .before .before .spots-of in
+    let x = c .before .before .look-at in
+    let long = sym (length-map (p .opens .nodes) _) ∙ c .before .before .before .before .before .before .before .before .before .before .good .0 .1 .1 .1 .1 .0 .1 .1 .0 .1 .0 .1 in
+    rw (c .inside .ensures)
+    (place-step (c .before .before .before .before .before .before .before .before .before .before .args .s .now) p long (n .result .low) (n .result .high)
+    (ap (λ (y : Spots). y .low) (n .ensures .0))
+    (ap (λ (y : Spots). y .high) (n .ensures .0))
+    (x .result) (x .ensures))
+
+pub step-spec : {M : Type 1} → statement M
+step-spec =
+    tie.close
+    (tie.spec
+    kinds-requires
+    spots-of-requires
+    mul-low
+    element-copy-out-low
+    look-at-requires
+    inside-requires
+    mul-t17
+    element-set-from-o
+    mul-l
+    element-set-from-l
+    returns)

@@ -1,0 +1,28 @@
+-- A size above 1024 is the fault;
+-- another moves the place on and becomes the run's. Assumes nothing.
+use mathlib.Core.Path.{refl, _∙_}
+use native.Mathlib.Omega.{arith}
+use borrow.Author.Tests.{lt-ltb, le-ltb}
+use borrow.Author.Needs.{needs}
+use Rattle.reader.proofs.sized.Statement.{statement}
+use Rattle.reader.proofs.sized.Tie as tie
+
+-- src/lib.rt:1086:9
+fails-requires : tie.Need-fails-requires
+fails-requires c κs = search needs
+
+-- src/lib.rt:1086:9
+returns : tie.Need-returns
+returns c = c .fails .ensures ∙ rw (lt-ltb _ _ (c .before .if1 .taken)) refl
+
+-- src/lib.rt:1088:9
+moved-requires : tie.Need-moved-requires
+moved-requires c κs = search needs
+
+-- src/lib.rt:1082:1
+returns-2 : tie.Need-returns-2
+returns-2 c =
+    rw (c .moved .ensures, le-ltb 1024 (c .before .before .args .v) (omega (arith, c .before .if1 .left))) refl
+
+pub sized-spec : {M : Type 1} → statement M
+sized-spec = tie.close (tie.spec fails-requires returns moved-requires returns-2)

@@ -1,0 +1,619 @@
+-- One turn of the code's loop is one element more of the theory's reading. Assumes nothing.
+use mathlib.Core.Path.{_≡_, refl, sym, ap, ap₂, _∙_, subst}
+use mathlib.Core.Bool.{Bool, true, false, cond, not, _&&_, _||_, true≢false, false≢true}
+use mathlib.Core.List.{List, []}
+use mathlib.Core.Option.{none, some}
+use Prim.{Unit, tt}
+use Prim.Native.Nat.{ℕ, zero, suc, _+_, _<_, _≤_}
+use native.Mathlib.Omega.{arith}
+use lib.Dec.{ltb, eqb}
+use lib.ListN.{length, getD, set, replicate, length-set}
+use borrow.Author.Tests.{eqb-true, eqb-false, eq-eqb, ne-eqb, ltb-false}
+use Rattle.reading.specs.Bytes.{colon}
+use Rattle.reading.specs.Nodes.{Node, noNode, node, stamp, terminal, entry, temporary, bars}
+use Rattle.reading.specs.Causes.{notStorable}
+use Rattle.reading.specs.Element as T
+use Rattle.reading.specs.Reading.{State, Reading, goes, fails, isStart, isTwo, barredColon, firstDigit, withElement, after, advance}
+use Rattle.reading.specs.Deciding.{drawing, Trace}
+use Rattle.reading.specs.Prefix.{chosen, byteAt, advance-chosen, trace-past}
+use Rattle.lists.specs.Looks.{look-inside}
+use Rattle.reading.specs.StepLaws.{AheadBy, digitPlace, step-ahead}
+use Rattle.reading.specs.ParentCounts.{parents}
+use Rattle.reader.specs.Capped.{capOutcome, capStep}
+use Rattle.reader.specs.Cite.{markOf, refOf, elementOf, causeOf, outcomeOf, numberOf, openOf, insideOpen, opensOf, deepOf, openList, sideOf, lowAt, highAt, lookAt, lookOf, Looked}
+use Rattle.reader.specs.OpenLaws.{open-length, low-suc, Begun, Firm, glance-firm}
+use Rattle.reader.specs.PlaceLaws.{deep-self, look-depth, place-step}
+use Rattle.reader.specs.declared.Cause.{Cause}
+use Rattle.reader.specs.declared.Cause.the-variants.{WrongByte, NotStorable, BadNumber}
+use Rattle.reader.specs.declared.Element.{Element}
+use Rattle.reader.specs.declared.Element.the-variants as E
+use Rattle.reader.specs.declared.Look.{Look}
+use Rattle.reader.specs.declared.Mark.{Mark}
+use Rattle.reader.specs.declared.Open.{Open}
+use Rattle.reader.specs.declared.Opens.{Opens}
+use Rattle.reader.specs.declared.Outcome.{Outcome}
+use Rattle.reader.specs.declared.Outcome.the-variants.{Got, Fault, RanOut}
+use Rattle.reader.specs.declared.Place.{Place}
+use Rattle.reader.specs.declared.Ref.{Ref}
+use Rattle.reader.specs.declared.Run.{Run}
+use Rattle.reader.specs.declared.Row.{Row}
+use Rattle.reader.specs.declared.Taken.{Taken}
+use Rattle.reader.specs.declared.Turn.{Turn}
+use Rattle.reader.specs.Taking.{failsOf, isKeptOf, isBadOf, nextStamp, storedRun, takenOf}
+use Rattle.reader.specs.Table.{noRow, getIn, storeAt, clearTo, get-none, get-above}
+use Rattle.reader.specs.TableLaws.{tableOf, table-length, table-node, Held, length-store, store-table, held-store, length-clear, clear-table, held-clear}
+use Rattle.reader.specs.Simulation.{rowNode, stateOf, readingOf, nodeTo, tableTo, Innermost, Wanted, take-with}
+use Rattle.reader.specs.CappedElement.{advance-seen}
+
+-- ---- What code holds -------------------------------------------------------------------------
+
+-- the theory's table: none before the size is read
+abbrev pub tableAt : Run → List (List ℕ) → List Node
+tableAt r t = cond (isStart (markOf (r .mark))) [] (tableOf t (r .size))
+
+-- the theory's state of what code holds
+abbrev pub stateAt : Run → Opens → List (List ℕ) → State
+stateAt r o t = stateOf r (openList o) (tableAt r t)
+
+-- What code keeps true.
+pub record Kept (r : Run) (o : Opens) (t : List (List ℕ)) : Type 0 where
+  pub room : 1024 ≤ length t
+  pub small : r .size ≤ 1024
+  pub held : Held t (r .size)
+  pub nodes : length (o .nodes) ≡ 32
+  pub deep : o .depth ≤ 32
+  pub begin : isStart (markOf (r .mark)) ≡ true → r .size ≡ 0
+
+-- a number's stamp can grow where a node may be stored
+abbrev pub Young : Run → List (List ℕ) → Type 0
+Young r t = markOf (r .mark) ≡ T.afterTwo → (k : ℕ) → stamp (tableAt r t) k + 2 ≤ 4294967296
+
+-- the number of an element, 0 if it has none
+abbrev pub numberIn : Element → ℕ
+numberIn E.Opening = 0
+numberIn (E.Number v) = v
+numberIn E.Constant = 0
+numberIn E.Turn = 0
+numberIn E.Closing = 0
+numberIn (E.Storing k) = k
+numberIn E.End = 0
+
+-- The record that a storing puts, d nodes being open. x: the row of the number before
+abbrev pub rowTo : Run → ℕ → Row → Row
+rowTo r d x = record { level = d + 1; first = r .pair .first .number; second = r .pair .second .number; complement = r .pair .turned; stamp = nextStamp (x .stamp); parents = x .parents }
+
+-- The lent table after an element of the number k: a storing puts a record, a size clears its records. r: the run before; y: what was taken
+abbrev pub lentTo : Run → ℕ → ℕ → Row → Taken → List (List ℕ) → List (List ℕ)
+lentTo r d k x y t = cond (y .stores) (storeAt t (r .size) k (rowTo r d x)) (cond (y .sizes) (clearTo t k) t)
+
+-- likewise by the element
+abbrev lentBy : Run → ℕ → Element → Row → Taken → List (List ℕ) → List (List ℕ)
+lentBy r d E.Opening x y t = t
+lentBy r d (E.Number v) x y t = cond (isStart (markOf (r .mark))) (cond (y .faulty) t (clearTo t v)) t
+lentBy r d E.Constant x y t = t
+lentBy r d E.Turn x y t = t
+lentBy r d E.Closing x y t = t
+lentBy r d (E.Storing k) x y t = cond (y .stores) (storeAt t (r .size) k (rowTo r d x)) t
+lentBy r d E.End x y t = t
+
+-- the open nodes after a turn: the innermost entry, and the one after it, stored
+abbrev pub opensTo : Opens → ℕ → Open → Opens
+opensTo o d low = record { nodes = set (set (o .nodes) (highAt (o .depth)) insideOpen) (lowAt (o .depth)) low; depth = d }
+
+-- the row of an element's number
+abbrev pub rowIn : Run → List (List ℕ) → Element → Row
+rowIn r t e = getIn t (r .size) (numberIn e)
+
+-- what code takes for the element e of the look x; d: how many nodes are open, low: the innermost
+abbrev pub takenAt : ℕ → List ℕ → Run → ℕ → Open → List (List ℕ) → Look → Element → Taken
+takenAt n bytes r d low t x e = takenOf n r d low (digitPlace (r .at) (getD bytes (r .at) 0)) e (getIn t (r .size) (x .number)) (x .at) (x .mark)
+
+-- the lent table after it
+abbrev pub lentAt : ℕ → List ℕ → Run → ℕ → Open → List (List ℕ) → Look → Element → List (List ℕ)
+lentAt n bytes r d low t x e = lentTo r d (x .number) (getIn t (r .size) (x .number)) (takenAt n bytes r d low t x e) t
+
+-- the innermost entry
+abbrev pub lowOf : Opens → Open
+lowOf o = getD (o .nodes) (lowAt (o .depth)) insideOpen
+
+-- ---- A barred storing ------------------------------------------------------------------------
+
+-- a child bars its parent from storing: its number was given out again, or it has none
+abbrev pub barsBy : List (List ℕ) → ℕ → Ref → Bool
+barsBy t z a = not (eqb (getIn t z (a .number) .stamp) (a .stamp))
+
+bars-row : (t : List (List ℕ)) (z : ℕ) (a : Ref) → bars (tableOf t z) (refOf a) ≡ barsBy t z a
+bars-row t z a = go (eqb (a .number) 0) refl (eqb (a .stamp) 0) refl
+  where
+    none : eqb (a .number) 0 ≡ true → getIn t z (a .number) .stamp ≡ 0
+    none e = ap (λ (x : Row). x .stamp) (sym (get-none t z (a .number) (eqb-true (a .number) 0 e)))
+
+    go : (p : Bool) → eqb (a .number) 0 ≡ p → (q : Bool) → eqb (a .stamp) 0 ≡ q → bars (tableOf t z) (cond p (cond q terminal temporary) (entry (a .number) (a .stamp))) ≡ barsBy t z a
+    go true e true f = sym (ap not (eq-eqb _ _ (none e ∙ sym (eqb-true (a .stamp) 0 f))))
+    go true e false f = sym (ap not (ne-eqb _ _ (λ i. eqb-false (a .stamp) 0 f (sym i ∙ none e))))
+    go false e q f = ap (λ (x : Node). not (eqb (x .stamp) (a .stamp))) (table-node t z (a .number))
+
+-- a `:` is barred, by the rows of the two children
+abbrev pub barredBy : List (List ℕ) → Run → ℕ → Bool
+barredBy t r b = (isTwo (markOf (r .mark)) && eqb b colon) && (barsBy t (r .size) (r .pair .first) || barsBy t (r .size) (r .pair .second))
+
+-- A `:` is barred by the rows of the two children.
+barred-rows : (r : Run) (o : Opens) (t : List (List ℕ)) (b : ℕ) → barredColon (stateAt r o t) b ≡ barredBy t r b
+barred-rows r o t b = go (markOf (r .mark))
+  where
+    go : (m : T.Mark) → let a = r .pair .first in let c = r .pair .second in let u = cond (isStart m) [] (tableOf t (r .size)) in
+        ((isTwo m && eqb b colon) && (bars u (refOf a) || bars u (refOf c))) ≡ ((isTwo m && eqb b colon) && (barsBy t (r .size) a || barsBy t (r .size) c))
+    go T.start = refl
+    go T.lead = refl
+    go T.begins = refl
+    go T.afterDigit = refl
+    go T.afterTwo = ap₂ (λ (p q : Bool). eqb b colon && (p || q)) (bars-row t (r .size) (r .pair .first)) (bars-row t (r .size) (r .pair .second))
+    go T.afterOne = refl
+    go T.over = refl
+
+-- A barred storing is the fault of the theory's reading.
+advance-barred : (n : ℕ) (bytes : List ℕ) (r : Run) (o : Opens) (t : List (List ℕ)) → let s = stateAt r o t in
+    barredColon s (byteAt bytes s) ≡ true → advance n bytes s ≡ fails s notStorable (r .at)
+advance-barred n bytes r o t h =
+    let s = stateAt r o t in
+    advance-chosen n bytes s ∙ ap (λ (u : Bool). chosen n s (byteAt bytes s) u (T.step (s .place) bytes .outcome) (T.step (s .place) bytes .place)) h
+
+-- ---- What is taken ---------------------------------------------------------------------------
+
+-- the size after an element that is no fault
+abbrev sizeTo : Run → Element → ℕ
+sizeTo r E.Opening = r .size
+sizeTo r (E.Number v) = cond (isStart (markOf (r .mark))) v (r .size)
+sizeTo r E.Constant = r .size
+sizeTo r E.Turn = r .size
+sizeTo r E.Closing = r .size
+sizeTo r (E.Storing k) = r .size
+sizeTo r E.End = r .size
+
+-- neither a size nor a storing
+abbrev Plain : Taken → Type 0
+Plain y = (y .stores ≡ false) × (y .sizes ≡ false)
+
+-- a number that is taken is one of the table, or a size that is not above the limit
+abbrev Legal : Run → Element → Taken → Type 0
+Legal r E.Opening y = Plain y
+Legal r (E.Number v) y = (isStart (markOf (r .mark)) ≡ true → v ≤ 1024) × ((y .stores ≡ false) × (y .sizes ≡ isStart (markOf (r .mark))))
+Legal r E.Constant y = Plain y
+Legal r E.Turn y = Plain y
+Legal r E.Closing y = Plain y
+Legal r (E.Storing k) y = (k ≡ 0 → ⊥) × ((k ≤ r .size) × (y .stores ≡ true))
+Legal r E.End y = Plain y
+
+-- what is taken: at a fault the run stays and nothing is stored
+abbrev Made : Run → Mark → Element → Taken → Bool → Type 0
+Made r m e y true = (y .run ≡ r) × Plain y
+Made r m e y false = (y .run .mark ≡ m) × ((y .run .size ≡ sizeTo r e) × Legal r e y)
+
+-- r: the run before; m: the mark after
+module _ (n : ℕ) (r : Run) (d : ℕ) (o : Open) (g : ℕ) (x : Row) (at : ℕ) (m : Mark) where
+  abbrev MadeBy : Element → Taken → Type 0
+  MadeBy e y = Made r m e y (y .faulty)
+
+  made-cond : (e : Element) (b : Bool) (y z : Taken) → (b ≡ true → MadeBy e y) → (b ≡ false → MadeBy e z) → MadeBy e (cond b y z)
+  made-cond e true y z h k = h refl
+  made-cond e false y z h k = k refl
+
+  made-number : (v : ℕ) → MadeBy (E.Number v) (takenOf n r d o g (E.Number v) x at m)
+  made-number v =
+      made-cond (E.Number v) (isStart (markOf (r .mark))) _ _
+      (λ s. made-cond (E.Number v) (ltb 1024 v) _ _ (λ _. (refl, (refl, refl))) (λ l. (refl, (ap (λ (b : Bool). cond b v (r .size)) (sym s), (λ _. ltb-false 1024 v l, (refl, sym s))))))
+      (λ s. made-cond (E.Number v) (eqb (x .level) 0) _ _ (λ _. (refl, (refl, refl)))
+      (λ _. made-cond (E.Number v) (eqb (x .level) (d + 1)) _ _ (λ _. (refl, (ap (λ (b : Bool). cond b v (r .size)) (sym s), (λ q. absurd (false≢true (sym s ∙ q)), (refl, sym s))))) (λ _. (refl, (refl, refl)))))
+
+  made-storing : (k : ℕ) → MadeBy (E.Storing k) (takenOf n r d o g (E.Storing k) x at m)
+  made-storing k = go (eqb k 0) (ltb (r .size) k) (not (eqb (x .parents) 0) || (eqb (r .pair .first .number) k || eqb (r .pair .second .number) k)) refl refl
+    where
+      go : (a b c : Bool) → eqb k 0 ≡ a → ltb (r .size) k ≡ b
+          → MadeBy (E.Storing k) (cond ((a || b) || c) (failsOf r BadNumber (r .at + 1)) (record { run = storedRun r k x at m; faulty = false; cause = WrongByte; byte = 0; sizes = false; stores = true }))
+      go true b c e f = (refl, (refl, refl))
+      go false true c e f = (refl, (refl, refl))
+      go false false true e f = (refl, (refl, refl))
+      go false false false e f = (refl, (refl, (eqb-false k 0 e, (ltb-false (r .size) k f, refl))))
+
+  made : (e : Element) → MadeBy e (takenOf n r d o g e x at m)
+  made E.Opening = made-cond E.Opening (ltb n (d + 1)) _ _ (λ _. (refl, (refl, refl))) (λ _. (refl, (refl, (refl, refl))))
+  made (E.Number v) = made-number v
+  made E.Constant = (refl, (refl, (refl, refl)))
+  made E.Turn = (refl, (refl, (refl, refl)))
+  made E.Closing =
+      made-cond E.Closing (eqb d 0) _ _ (λ _. (refl, (refl, (refl, refl))))
+      (λ _. made-cond E.Closing (o .second) _ _ (λ _. (refl, (refl, (refl, refl))))
+      (λ _. made-cond E.Closing (isKeptOf (r .last)) _ _ (λ _. (refl, (refl, (refl, refl)))) (λ _. (refl, (refl, refl)))))
+  made (E.Storing k) = made-storing k
+  made E.End = (refl, (refl, (refl, refl)))
+
+  -- the place after what is taken
+  abbrev Onto : Taken → Type 0
+  Onto y = y .faulty ≡ false → y .run .at ≡ at
+
+  onto-cond : (b : Bool) (y z : Taken) → Onto y → Onto z → Onto (cond b y z)
+  onto-cond true y z h k = h
+  onto-cond false y z h k = k
+
+  refused : {A : Type 0} → true ≡ false → A
+  refused q = absurd (true≢false q)
+
+  taken-at : (e : Element) → Onto (takenOf n r d o g e x at m)
+  taken-at E.Opening = onto-cond (ltb n (d + 1)) _ _ refused (λ _. refl)
+  taken-at (E.Number v) =
+      onto-cond (isStart (markOf (r .mark))) _ _ (onto-cond (ltb 1024 v) _ _ refused (λ _. refl))
+      (onto-cond (eqb (x .level) 0) _ _ refused (onto-cond (eqb (x .level) (d + 1)) _ _ (λ _. refl) refused))
+  taken-at E.Constant = λ _. refl
+  taken-at E.Turn = λ _. refl
+  taken-at E.Closing = onto-cond (eqb d 0) _ _ (λ _. refl) (onto-cond (o .second) _ _ (λ _. refl) (onto-cond (isKeptOf (r .last)) _ _ (λ _. refl) refused))
+  taken-at (E.Storing k) = onto-cond (isBadOf r k x) _ _ refused (λ _. refl)
+  taken-at E.End = λ _. refl
+
+-- ---- The table after -------------------------------------------------------------------------
+
+-- the lent table after an element that is no fault, by the element
+lent-well : (r : Run) (d : ℕ) (e : Element) (x : Row) (y : Taken) (t : List (List ℕ)) → y .faulty ≡ false → Legal r e y → lentTo r d (numberIn e) x y t ≡ lentBy r d e x y t
+lent-well r d E.Opening x y t f l = rw (l .0, l .1) refl
+lent-well r d (E.Number v) x y t f l = rw (f, l .1 .0, l .1 .1) refl
+lent-well r d E.Constant x y t f l = rw (l .0, l .1) refl
+lent-well r d E.Turn x y t f l = rw (l .0, l .1) refl
+lent-well r d E.Closing x y t f l = rw (l .0, l .1) refl
+lent-well r d (E.Storing k) x y t f l = rw (l .1 .1) refl
+lent-well r d E.End x y t f l = rw (l .0, l .1) refl
+
+-- nothing is lent where nothing is stored
+lent-plain : (r : Run) (d k : ℕ) (x : Row) (y : Taken) (t : List (List ℕ)) → Plain y → lentTo r d k x y t ≡ t
+lent-plain r d k x y t l = rw (l .0, l .1) refl
+
+-- at a fault the table stays
+table-fault : (r : Run) (d : ℕ) (e : Element) (x : Row) (y : Taken) (u : List Node) → y .faulty ≡ true → y .stores ≡ false → tableTo r d e x y u ≡ u
+table-fault r d E.Opening x y u f h = refl
+table-fault r d (E.Number v) x y u f h = rw f (go (isStart (markOf (r .mark))))
+  where
+    go : (b : Bool) → cond b u u ≡ u
+    go true = refl
+    go false = refl
+table-fault r d E.Constant x y u f h = refl
+table-fault r d E.Turn x y u f h = refl
+table-fault r d E.Closing x y u f h = refl
+table-fault r d (E.Storing k) x y u f h = rw h refl
+table-fault r d E.End x y u f h = refl
+
+-- after the start the table is that of the records
+table-later : (r : Run) (t : List (List ℕ)) → isStart (markOf (r .mark)) ≡ false → tableAt r t ≡ tableOf t (r .size)
+table-later r t h = rw h refl
+
+-- the theory's table after an element is that of the lent one after it
+table-next : (r : Run) (d : ℕ) (e : Element) (x : Row) (y : Taken) (t : List (List ℕ)) → 1024 ≤ length t → y .faulty ≡ false → Legal r e y → Begun (markOf (r .mark)) (elementOf e)
+    → tableTo r d e x y (tableAt r t) ≡ tableOf (lentBy r d e x y t) (sizeTo r e)
+table-next r d E.Opening x y t room f l h = table-later r t h
+table-next r d (E.Number v) x y t room f l h = rw f (go (isStart (markOf (r .mark))) (l .0))
+  where
+    go : (b : Bool) → (b ≡ true → v ≤ 1024) → cond b (replicate (suc v) noNode) (cond b [] (tableOf t (r .size))) ≡ tableOf (cond b (clearTo t v) t) (cond b v (r .size))
+    go true k = let i : v ≤ 1024 = k refl in sym (clear-table t v (omega (arith, room, i)))
+    go false k = refl
+table-next r d E.Constant x y t room f l h = table-later r t h
+table-next r d E.Turn x y t room f l h = table-later r t h
+table-next r d E.Closing x y t room f l h = table-later r t h
+table-next r d (E.Storing k) x y t room f l h = rw (l .1 .1) (ap (λ (u : List Node). set u k (nodeTo r d x)) (table-later r t (ap isStart h)) ∙ sym (store-table t (r .size) k (rowTo r d x) (l .0) (l .1 .0)))
+table-next r d E.End x y t room f l h = table-later r t h
+
+-- the row of a number is that of the theory's table
+row-node : (r : Run) (t : List (List ℕ)) → (isStart (markOf (r .mark)) ≡ true → r .size ≡ 0) → (k : ℕ) → rowNode (getIn t (r .size) k) ≡ node (tableAt r t) k
+row-node r t begin k = go (isStart (markOf (r .mark))) begin
+  where
+    none : (k : ℕ) → getIn t 0 k ≡ noRow
+    none zero = refl
+    none (suc k) = sym (get-above t 0 (suc k) (λ e. omega (arith, e)) (omega arith))
+
+    go : (b : Bool) → (b ≡ true → r .size ≡ 0) → rowNode (getIn t (r .size) k) ≡ node (cond b [] (tableOf t (r .size))) k
+    go true h = ap (λ (z : ℕ). rowNode (getIn t z k)) (h refl) ∙ ap rowNode (none k)
+    go false h = sym (table-node t (r .size) k)
+
+-- the row that code reads is the wanted one
+row-wanted : (r : Run) (o : Opens) (t : List (List ℕ)) → Kept r o t → Young r t → (e : Element) → Begun (markOf (r .mark)) (elementOf e) → Wanted r (tableAt r t) e (rowIn r t e)
+row-wanted r o t kept young E.Opening h = tt
+row-wanted r o t kept young (E.Number v) h = (row-node r t (kept .begin) v, λ e. ap (λ (x : Row). x .level) (sym (get-none t (r .size) v e)))
+row-wanted r o t kept young E.Constant h = tt
+row-wanted r o t kept young E.Turn h = tt
+row-wanted r o t kept young E.Closing h = tt
+row-wanted r o t kept young (E.Storing k) h =
+    let same : rowNode (getIn t (r .size) k) ≡ node (tableAt r t) k = row-node r t (kept .begin) k in
+    record { same = same; counts = go (isStart (markOf (r .mark))) (kept .begin); young = omega (arith, young h k, ap (λ (x : Node). x .stamp) same) }
+  where
+    go : (b : Bool) → (b ≡ true → r .size ≡ 0) → (k ≡ 0 → ⊥) → k ≤ r .size → getIn t (r .size) k .parents ≡ parents (cond b [] (tableOf t (r .size))) k
+    go true h n l = let z : r .size ≡ 0 = h refl in absurd (n (omega (arith, l, z)))
+    go false h n l = kept .held .counts k n l
+row-wanted r o t kept young E.End h = tt
+
+-- ---- The lent table after --------------------------------------------------------------------
+
+-- The lent table keeps its length.
+pub length-lent : (r : Run) (d k : ℕ) (x : Row) (y : Taken) (t : List (List ℕ)) → length (lentTo r d k x y t) ≡ length t
+length-lent r d k x y t = go (y .stores) (y .sizes)
+  where
+    go : (a b : Bool) → length (cond a (storeAt t (r .size) k (rowTo r d x)) (cond b (clearTo t k) t)) ≡ length t
+    go true b = length-store t (r .size) k (rowTo r d x)
+    go false true = length-clear t k
+    go false false = refl
+
+size-small : (r : Run) (e : Element) (y : Taken) → r .size ≤ 1024 → Legal r e y → sizeTo r e ≤ 1024
+size-small r E.Opening y h l = h
+size-small r (E.Number v) y h l = go (isStart (markOf (r .mark))) (l .0)
+  where
+    go : (b : Bool) → (b ≡ true → v ≤ 1024) → cond b v (r .size) ≤ 1024
+    go true k = k refl
+    go false k = h
+size-small r E.Constant y h l = h
+size-small r E.Turn y h l = h
+size-small r E.Closing y h l = h
+size-small r (E.Storing k) y h l = h
+size-small r E.End y h l = h
+
+held-next : (r : Run) (o : Opens) (d : ℕ) (e : Element) (y : Taken) (t : List (List ℕ)) → Kept r o t → y .faulty ≡ false → Legal r e y → Held (lentBy r d e (rowIn r t e) y t) (sizeTo r e)
+held-next r o d E.Opening y t kept f l = kept .held
+held-next r o d (E.Number v) y t kept f l = rw f (go (isStart (markOf (r .mark))) (l .0))
+  where
+    go : (b : Bool) → (b ≡ true → v ≤ 1024) → Held (cond b (clearTo t v) t) (cond b v (r .size))
+    go true k = let i : v ≤ 1024 = k refl in held-clear t v (omega (arith, kept .room, i))
+    go false k = kept .held
+held-next r o d E.Constant y t kept f l = kept .held
+held-next r o d E.Turn y t kept f l = kept .held
+held-next r o d E.Closing y t kept f l = kept .held
+held-next r o d (E.Storing k) y t kept f l = rw (l .1 .1) (held-store t (r .size) k (rowTo r d (getIn t (r .size) k)) (kept .held) (kept .small) (l .0) (l .1 .0) refl)
+held-next r o d E.End y t kept f l = kept .held
+
+-- ---- The open nodes --------------------------------------------------------------------------
+
+open-inner : (ns : List Open) (d : ℕ) → d ≤ 32 → Innermost (opensOf ns d) (getD ns (lowAt d) insideOpen)
+unfolding opensOf
+open-inner ns zero h = tt
+open-inner ns (suc d) h = ap (λ (i : ℕ). openOf (getD ns i insideOpen)) (sym (low-suc d h))
+
+low-inner : (o : Opens) → o .depth ≤ 32 → Innermost (openList o) (lowOf o)
+low-inner o h = subst (λ (d : ℕ). Innermost (opensOf (o .nodes) d) (lowOf o)) (sym (deep-self (o .depth) h)) (open-inner (o .nodes) (o .depth) h)
+
+pub list-length : (o : Opens) → o .depth ≤ 32 → length (openList o) ≡ o .depth
+list-length o h = open-length (o .nodes) (deepOf (o .depth)) ∙ deep-self (o .depth) h
+
+-- ---- The step of the place -------------------------------------------------------------------
+
+table-short : (r : Run) (t : List (List ℕ)) → r .size ≤ length t → length (tableAt r t) ≤ suc (r .size)
+table-short r t h = go (isStart (markOf (r .mark)))
+  where
+    go : (b : Bool) → length (cond b [] (tableOf t (r .size))) ≤ suc (r .size)
+    go true = omega arith
+    go false = omega (arith, table-length t (r .size) h)
+
+-- where the bytes are read the theory's reading stays
+advance-past : (n : ℕ) (bytes : List ℕ) (s : State) → length bytes ≤ s .place .at → advance n bytes s ≡ goes s
+advance-past n bytes s h = ap (λ (x : Trace). x .reading) (trace-past n bytes s (drawing [] []) h)
+
+-- a capped number ends where the number does
+cap-ahead : (a i l : ℕ) (o : T.Outcome) (q : ℕ) → AheadBy a i l o q → AheadBy a i l (capOutcome o) q
+cap-ahead a i l (T.got T.opening) q h = h
+cap-ahead a i l (T.got (T.number v)) q h = h
+cap-ahead a i l (T.got T.constant) q h = h
+cap-ahead a i l (T.got T.turn) q h = h
+cap-ahead a i l (T.got T.closing) q h = h
+cap-ahead a i l (T.got (T.storing v)) q h = h
+cap-ahead a i l (T.got T.end) q h = h
+cap-ahead a i l (T.fault k b) q h = h
+cap-ahead a i l T.ranOut q h = h
+
+-- x is the look that code has at a place
+module _ (n : ℕ) (bytes : List ℕ) (r : Run) (o : Opens) (t : List (List ℕ)) (kept : Kept r o t)
+    (x : Look) (seen : lookOf x ≡ lookAt bytes (r .at) (markOf (r .mark)) (r .last) (o .depth) (lowOf o)) where
+  abbrev s : State
+  s = stateAt r o t
+
+  abbrev b : ℕ
+  b = byteAt bytes s
+
+  -- the open nodes after the look
+  abbrev after-look : Opens
+  after-look = opensTo o (x .depth) (x .low)
+
+  -- the place after the look
+  abbrev onto : T.Place
+  onto = T.place (x .at) (markOf (x .mark)) (openList after-look) (refOf (r .last))
+
+  -- a step of reading by the look
+  advance-look : barredColon s b ≡ false → advance n bytes s ≡ after n s (firstDigit s b) (outcomeOf (x .outcome)) onto
+  advance-look free =
+      let p : Place = record { at = r .at; mark = r .mark; opens = o; last = r .last } in
+      let e = place-step bytes p (kept .nodes) (lowAt (o .depth)) (highAt (o .depth)) refl refl x seen in
+      advance-seen n bytes s (kept .small) (table-short r t (kept .held .room))
+      ∙ ap (λ (u : Bool). chosen n s b u (capStep (T.step (s .place) bytes) .outcome) (capStep (T.step (s .place) bytes) .place)) free
+      ∙ ap (λ (y : T.Step). after n s (firstDigit s b) (y .outcome) (y .place)) (sym e)
+
+  -- a fault of the step is the fault of the theory's reading
+  advance-fault : (c : Cause) (i : ℕ) → x .outcome ≡ Fault c i → barredColon s b ≡ false → advance n bytes s ≡ fails s (causeOf c) i
+  unfolding after
+  advance-fault c i e free = advance-look free ∙ ap (λ (y : Outcome). after n s (firstDigit s b) (outcomeOf y) onto) e
+
+  -- where the bytes run out the theory's reading stays
+  advance-out : x .outcome ≡ RanOut → barredColon s b ≡ false → advance n bytes s ≡ goes s
+  unfolding after
+  advance-out e free = advance-look free ∙ ap (λ (y : Outcome). after n s (firstDigit s b) (outcomeOf y) onto) e
+
+  -- an element ends behind its place
+  ahead-look : (e : Element) → x .outcome ≡ Got e → r .at < length bytes → r .at < x .at
+  ahead-look e got l =
+      let p : Place = record { at = r .at; mark = r .mark; opens = o; last = r .last } in
+      let j = place-step bytes p (kept .nodes) (lowAt (o .depth)) (highAt (o .depth)) refl refl x seen in
+      let k = step-ahead (s .place) bytes b (look-inside bytes (r .at) 0 l) in
+      subst (λ (u : Outcome). AheadBy (r .at) (digitPlace (r .at) b) (length bytes) (outcomeOf u) (x .at)) got
+      (subst (λ (z : T.Step). AheadBy (r .at) (digitPlace (r .at) b) (length bytes) (z .outcome) (z .place .at)) (sym j) (cap-ahead (r .at) (digitPlace (r .at) b) (length bytes) (T.step (s .place) bytes .outcome) (T.step (s .place) bytes .place .at) k)) .0
+
+  -- the look gives the element e
+  module _ (e : Element) (got : x .outcome ≡ Got e) (young : Young r t) where
+    -- the look has the element's number
+    number-in : x .number ≡ numberIn e
+    number-in = ap (λ (u : Looked). u .number) seen ∙ sym (ap (λ (u : Looked). numberOf (u .outcome)) seen) ∙ ap (λ (u : Outcome). numberOf (outcomeOf u)) got ∙ go e
+      where
+        go : (e : Element) → numberOf (T.got (elementOf e)) ≡ numberIn e
+        go E.Opening = refl
+        go (E.Number v) = refl
+        go E.Constant = refl
+        go E.Turn = refl
+        go E.Closing = refl
+        go (E.Storing k) = refl
+        go E.End = refl
+
+    abbrev y : Taken
+    y = takenAt n bytes r (o .depth) (lowOf o) t x e
+
+    abbrev os′ : List T.Open
+    os′ = openList after-look
+
+    abbrev table : List Node
+    table = tableTo r (o .depth) e (rowIn r t e) y (tableAt r t)
+
+    abbrev lent : List (List ℕ)
+    lent = lentAt n bytes r (o .depth) (lowOf o) t x e
+
+    row-here : getIn t (r .size) (x .number) ≡ rowIn r t e
+    row-here = ap (getIn t (r .size)) number-in
+
+    firm : Firm (markOf (r .mark)) (T.got (elementOf e)) (markOf (x .mark))
+    firm =
+        let d = deepOf (o .depth) in
+        subst (λ (u : Outcome). Firm (markOf (r .mark)) (outcomeOf u) (markOf (x .mark))) got
+        (subst (λ (u : Looked). Firm (markOf (r .mark)) (u .outcome) (u .mark)) (sym seen) (glance-firm bytes (r .at) (markOf (r .mark)) (sideOf d (lowOf o)) d))
+
+    -- the reading by what is taken, c: it is a fault
+    abbrev readBy : Bool → Reading
+    readBy c = record { state = stateOf (y .run) (cond c (openList o) os′) table; fault = cond c (some (record { cause = causeOf (y .cause); byte = y .byte })) none }
+
+    -- a step of reading by what is taken
+    advance-taken : barredColon s b ≡ false → advance n bytes s ≡ readBy (y .faulty)
+    unfolding after
+    advance-taken free =
+        advance-look free
+        ∙ ap (λ (u : Outcome). after n s (firstDigit s b) (outcomeOf u) onto) got
+        ∙ sym (subst (λ (z : Taken). readingOf z (cond (z .faulty) (openList o) os′) (tableTo r (o .depth) e (rowIn r t e) z (tableAt r t)) ≡ withElement n s (firstDigit s b) (elementOf e) onto)
+        (ap (λ (w : Row). takenOf n r (o .depth) (lowOf o) (firstDigit s b) e w (x .at) (x .mark)) (sym row-here))
+        (subst (λ (d : ℕ). let z = takenOf n r d (lowOf o) (firstDigit s b) e (rowIn r t e) (x .at) (x .mark) in
+        readingOf z (cond (z .faulty) (openList o) os′) (tableTo r d e (rowIn r t e) z (tableAt r t)) ≡ withElement n s (firstDigit s b) (elementOf e) onto)
+        (list-length o (kept .deep))
+        (take-with n r (openList o) os′ (tableAt r t) (lowOf o) (firstDigit s b) e (rowIn r t e) (x .at) (x .mark) (low-inner o (kept .deep)) (row-wanted r o t kept young e (firm .1)))))
+
+    made-here : Made r (x .mark) e y (y .faulty)
+    made-here = made n r (o .depth) (lowOf o) (firstDigit s b) (getIn t (r .size) (x .number)) (x .at) (x .mark) e
+
+    -- a fault of what is taken is the fault of the theory's reading, and nothing is lent
+    advance-refused : y .faulty ≡ true → barredColon s b ≡ false → (advance n bytes s ≡ fails s (causeOf (y .cause)) (y .byte)) × (lent ≡ t)
+    advance-refused f free =
+        let h : Made r (x .mark) e y true = subst (Made r (x .mark) e y) f made-here in (
+          advance-taken free
+              ∙ ap readBy f
+              ∙ ap₂ (λ (q : Run) (u : List Node). fails (stateOf q (openList o) u) (causeOf (y .cause)) (y .byte)) (h .0) (table-fault r (o .depth) e (rowIn r t e) y (tableAt r t) f (h .1 .0)),
+          lent-plain r (o .depth) (x .number) (getIn t (r .size) (x .number)) y t (h .1),
+        )
+
+    module _ (f : y .faulty ≡ false) where
+      made-well : Made r (x .mark) e y false
+      made-well = subst (Made r (x .mark) e y) f made-here
+
+      lent-here : lent ≡ lentBy r (o .depth) e (rowIn r t e) y t
+      lent-here =
+          ap₂ (λ (k : ℕ) (w : Row). lentTo r (o .depth) k w y t) number-in row-here
+          ∙ lent-well r (o .depth) e (rowIn r t e) y t f (made-well .1 .1)
+
+      table-made : table ≡ tableAt (y .run) lent
+      table-made =
+          table-next r (o .depth) e (rowIn r t e) y t (kept .room) f (made-well .1 .1) (firm .1)
+          ∙ ap (λ (u : List (List ℕ)). tableOf u (sizeTo r e)) (sym lent-here)
+          ∙ sym (ap₂ (λ (k : Mark) (z : ℕ). cond (isStart (markOf k)) [] (tableOf lent z)) (made-well .0) (made-well .1 .0)
+          ∙ ap (λ (c : Bool). cond c [] (tableOf lent (sizeTo r e))) (firm .0))
+
+      -- AN ELEMENT MORE: what code takes, the open nodes and the lent table are the theory's state after it.
+      advance-element : barredColon s b ≡ false → advance n bytes s ≡ goes (stateAt (y .run) after-look lent)
+      advance-element free =
+          advance-taken free
+          ∙ ap readBy f
+          ∙ ap (λ (u : List Node). goes (stateOf (y .run) os′ u)) table-made
+
+      -- What code keeps true stays so.
+      kept-element : Kept (y .run) after-look lent
+      kept-element = record {
+        room = omega (arith, kept .room, length-lent r (o .depth) (x .number) (getIn t (r .size) (x .number)) y t);
+        small = subst (λ (z : ℕ). z ≤ 1024) (sym (made-well .1 .0)) (size-small r e y (kept .small) (made-well .1 .1));
+        held = subst (Held lent) (sym (made-well .1 .0)) (subst (λ (u : List (List ℕ)). Held u (sizeTo r e)) (sym lent-here) (held-next r o (o .depth) e y t kept f (made-well .1 .1)));
+        nodes = length-set (set (o .nodes) (highAt (o .depth)) insideOpen) (lowAt (o .depth)) (x .low) ∙ length-set (o .nodes) (highAt (o .depth)) insideOpen ∙ kept .nodes;
+        deep = subst (λ (u : Looked). u .depth ≤ 32) (sym seen) (look-depth bytes (r .at) (markOf (r .mark)) (r .last) (o .depth) (lowOf o));
+        begin = λ q. absurd (false≢true (sym (ap (λ (k : Mark). isStart (markOf k)) (made-well .0) ∙ firm .0) ∙ q));
+      }
+
+      -- The place moves on.
+      ahead-element : r .at < length bytes → r .at < y .run .at
+      ahead-element l = subst (λ (i : ℕ). r .at < i) (sym (taken-at n r (o .depth) (lowOf o) (firstDigit s b) (getIn t (r .size) (x .number)) (x .at) (x .mark) e f)) (ahead-look e got l)
+
+-- ---- A turn of the loop ----------------------------------------------------------------------
+
+-- nothing was read. f: it is a fault
+abbrev pub stayed : Run → ℕ → Open → Bool → Cause → ℕ → Turn
+stayed r d low f c b = record { run = r; depth = d; low = low; went = false; faulty = f; cause = c; byte = b }
+
+-- an element was taken, after the look x
+abbrev pub wentBy : Taken → Look → Turn
+wentBy y x = record { run = y .run; depth = x .depth; low = x .low; went = not (y .faulty); faulty = y .faulty; cause = y .cause; byte = y .byte }
+
+-- d: how many nodes are open, low: the innermost; y: what the turn comes to, u: the lent table after it
+pub data TurnMade (n : ℕ) (bytes : List ℕ) (r : Run) (d : ℕ) (low : Open) (t : List (List ℕ)) (y : Turn) (u : List (List ℕ)) : Type 0 where
+  past : length bytes ≤ r .at → y ≡ stayed r d low false WrongByte 0 → u ≡ t → TurnMade n bytes r d low t y u
+  barred : barredBy t r (getD bytes (r .at) 0) ≡ true → y ≡ stayed r d low true NotStorable (r .at) → u ≡ t → TurnMade n bytes r d low t y u
+  out : barredBy t r (getD bytes (r .at) 0) ≡ false → (x : Look) → lookOf x ≡ lookAt bytes (r .at) (markOf (r .mark)) (r .last) d low
+      → x .outcome ≡ RanOut → y ≡ stayed r d low false WrongByte 0 → u ≡ t → TurnMade n bytes r d low t y u
+  fault : barredBy t r (getD bytes (r .at) 0) ≡ false → (x : Look) → lookOf x ≡ lookAt bytes (r .at) (markOf (r .mark)) (r .last) d low
+      → (c : Cause) (i : ℕ) → x .outcome ≡ Fault c i → y ≡ stayed r d low true c i → u ≡ t → TurnMade n bytes r d low t y u
+  took : r .at < length bytes → barredBy t r (getD bytes (r .at) 0) ≡ false → (x : Look) → lookOf x ≡ lookAt bytes (r .at) (markOf (r .mark)) (r .last) d low
+      → (e : Element) → x .outcome ≡ Got e → y ≡ wentBy (takenAt n bytes r d low t x e) x → u ≡ lentAt n bytes r d low t x e → TurnMade n bytes r d low t y u
+
+-- reading halts at s: at a fault, or since the bytes ran out
+abbrev pub HaltsAt : ℕ → List ℕ → State → Bool → Cause → ℕ → Type 0
+HaltsAt n bytes s true c b = advance n bytes s ≡ fails s (causeOf c) b
+HaltsAt n bytes s false c b = advance n bytes s ≡ goes s
+
+-- what a turn comes to: it goes on, or halts
+abbrev pub Comes : ℕ → List ℕ → Run → Opens → List (List ℕ) → Turn → List (List ℕ) → Bool → Type 0
+Comes n bytes r o t y u true =
+    (advance n bytes (stateAt r o t) ≡ goes (stateAt (y .run) (opensTo o (y .depth) (y .low)) u)) × (Kept (y .run) (opensTo o (y .depth) (y .low)) u × ((r .at < length bytes) × (r .at < y .run .at)))
+Comes n bytes r o t y u false = (u ≡ t) × HaltsAt n bytes (stateAt r o t) (y .faulty) (y .cause) (y .byte)
+
+module _ (n : ℕ) (bytes : List ℕ) (r : Run) (o : Opens) (t : List (List ℕ)) (kept : Kept r o t) (young : Young r t) where
+  abbrev ComesBy : Turn → List (List ℕ) → Type 0
+  ComesBy y u = Comes n bytes r o t y u (y .went)
+
+  free : barredBy t r (getD bytes (r .at) 0) ≡ false → barredColon (stateAt r o t) (byteAt bytes (stateAt r o t)) ≡ false
+  free h = barred-rows r o t (byteAt bytes (stateAt r o t)) ∙ h
+
+  comes-took : (x : Look) → lookOf x ≡ lookAt bytes (r .at) (markOf (r .mark)) (r .last) (o .depth) (lowOf o) → (e : Element) → x .outcome ≡ Got e
+      → r .at < length bytes → barredBy t r (getD bytes (r .at) 0) ≡ false → ComesBy (wentBy (takenAt n bytes r (o .depth) (lowOf o) t x e) x) (lentAt n bytes r (o .depth) (lowOf o) t x e)
+  comes-took x seen e got l h = go (takenAt n bytes r (o .depth) (lowOf o) t x e .faulty) refl
+    where
+      y : Taken
+      y = takenAt n bytes r (o .depth) (lowOf o) t x e
+
+      go : (f : Bool) → y .faulty ≡ f → Comes n bytes r o t (wentBy y x) (lentAt n bytes r (o .depth) (lowOf o) t x e) (not f)
+      go true i =
+          let k = advance-refused n bytes r o t kept x seen e got young i (free h) in
+          (k .1, subst (λ (f : Bool). HaltsAt n bytes (stateAt r o t) f (y .cause) (y .byte)) (sym i) (k .0))
+      go false i = (advance-element n bytes r o t kept x seen e got young i (free h), (kept-element n bytes r o t kept x seen e got young i, (l, ahead-element n bytes r o t kept x seen e got young i l)))
+
+  -- WHAT A TURN COMES TO
+  comes : (y : Turn) (u : List (List ℕ)) → TurnMade n bytes r (o .depth) (lowOf o) t y u → ComesBy y u
+  comes y u (past h e k) = subst (λ (z : Turn). ComesBy z u) (sym e) (k, advance-past n bytes (stateAt r o t) h)
+  comes y u (barred h e k) = subst (λ (z : Turn). ComesBy z u) (sym e) (k, advance-barred n bytes r o t (barred-rows r o t (byteAt bytes (stateAt r o t)) ∙ h))
+  comes y u (out h x seen i e k) = subst (λ (z : Turn). ComesBy z u) (sym e) (k, advance-out n bytes r o t kept x seen i (free h))
+  comes y u (fault h x seen c j i e k) = subst (λ (z : Turn). ComesBy z u) (sym e) (k, advance-fault n bytes r o t kept x seen c j i (free h))
+  comes y u (took l h x seen el i e k) = subst (λ (z : Turn). ComesBy z u) (sym e) (subst (ComesBy (wentBy (takenAt n bytes r (o .depth) (lowOf o) t x el) x)) (sym k) (comes-took x seen el i l h))
+
+  -- A turn that goes on is an element more.
+  pub turn-went : (y : Turn) (u : List (List ℕ)) → TurnMade n bytes r (o .depth) (lowOf o) t y u → y .went ≡ true → Comes n bytes r o t y u true
+  turn-went y u h e = subst (Comes n bytes r o t y u) e (comes y u h)
+
+  -- Another halts.
+  pub turn-halts : (y : Turn) (u : List (List ℕ)) → TurnMade n bytes r (o .depth) (lowOf o) t y u → y .went ≡ false → Comes n bytes r o t y u false
+  turn-halts y u h e = subst (Comes n bytes r o t y u) e (comes y u h)

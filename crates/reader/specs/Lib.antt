@@ -1,0 +1,15 @@
+pub mod Glance
+pub mod Capped
+pub mod GlanceLaws
+pub mod Cite
+pub mod OpenLaws
+pub mod PlaceLaws
+pub mod SeenLaws
+pub mod Taking
+pub mod Table
+pub mod Simulation
+pub mod CappedElement
+pub mod TableLaws
+pub mod Advance
+pub mod Turn
+pub mod Loop

@@ -1,0 +1,148 @@
+-- What the loop reaches is a state of the theory's reading. Assumes nothing.
+use mathlib.Core.Path.{_≡_, refl, sym, ap, _∙_, subst}
+use mathlib.Core.Logic.{_⊎_, inr, ⊎-elim}
+use mathlib.Core.Bool.{Bool, true, false}
+use mathlib.Core.List.{List}
+use Prim.Native.Nat.{ℕ, suc, _-_, _<_, _≤_}
+use native.Mathlib.Omega.{arith}
+use lib.ListN.{length, getD, set, replicate, length-replicate}
+use Rattle.reading.specs.Reading.{State}
+use Rattle.reading.specs.Reaching.{At, at-start, at-next, at-covered, at-stamp}
+use Rattle.reader.specs.Cite.{insideOpen, terminalRef, temporaryRef, opensOf, spotsOf}
+use Rattle.reader.specs.declared.Cause.the-variants.{WrongByte}
+use Rattle.reader.specs.declared.Open.{Open}
+use Rattle.reader.specs.declared.Opens.{Opens}
+use Rattle.reader.specs.declared.Mark.the-variants.{Start}
+use Rattle.reader.specs.declared.Run.{Run}
+use Rattle.reader.specs.declared.Spots.{Spots}
+use Rattle.reader.specs.declared.Turn.{Turn}
+use Rattle.reader.specs.declared.Reached.{Reached}
+use Rattle.reader.specs.Table.{getIn}
+use Rattle.reader.specs.Advance.{stateAt, Kept, Young, takenAt, lowOf, opensTo, TurnMade, past, barred, out, fault, took, HaltsAt, Comes, turn-went, turn-halts, list-length, length-lent}
+
+-- ---- The first state -------------------------------------------------------------------------
+
+abbrev pub firstRun : Run
+firstRun = record { at = 0; mark = Start; last = temporaryRef; size = 0; covered = 0; complement = false; pair = record { first = terminalRef; turned = false; second = terminalRef } }
+
+abbrev pub firstOpens : Opens
+firstOpens = record { nodes = replicate 32 insideOpen; depth = 0 }
+
+-- Code stands where reading stands after some steps.
+pub record Stands (n : ℕ) (bytes : List ℕ) (r : Run) (o : Opens) (t : List (List ℕ)) : Type 0 where
+  pub steps : ℕ
+  pub here : At n bytes steps (stateAt r o t)
+  pub kept : Kept r o t
+
+-- It stands so at the start, whatever the table holds.
+pub stands-first : (n : ℕ) (bytes : List ℕ) (t : List (List ℕ)) → 1024 ≤ length t → Stands n bytes firstRun firstOpens t
+unfolding opensOf
+stands-first n bytes t h = record {
+  steps = 0;
+  here = at-start n bytes;
+  kept = record {
+    room = h;
+    small = omega arith;
+    held = record { room = omega arith; counts = λ k i l. absurd (i (omega (arith, l))) };
+    nodes = length-replicate 32 insideOpen;
+    deep = omega arith;
+    begin = λ _. refl;
+  };
+}
+
+-- ---- What is reached -------------------------------------------------------------------------
+
+-- The last of the steps passed the words from `from` on, inside `deep` open nodes.
+pub record PassedLast (n : ℕ) (bytes : List ℕ) (steps stop from deep : ℕ) : Type 0 where
+  pub before : ℕ
+  pub last : steps ≡ suc before
+  pub state : State
+  pub here : At n bytes before state
+  pub covered : state .covered ≡ from
+  pub low : from ≤ stop
+  pub depth : length (state .place .opens) ≡ deep
+
+-- Past the stop the last step passed it; else reading halts.
+abbrev pub Ends : (n : ℕ) (bytes : List ℕ) (stop : ℕ) (y : Reached) (u : List (List ℕ)) → ℕ → Bool → Type 0
+Ends n bytes stop y u steps true = HaltsAt n bytes (stateAt (y .run) (y .opens) u) (y .faulty) (y .cause) (y .byte)
+Ends n bytes stop y u steps false = (stop < y .run .covered) × PassedLast n bytes steps stop (y .from) (y .deep)
+
+pub record ReachedBy (n : ℕ) (bytes : List ℕ) (stop : ℕ) (y : Reached) (u : List (List ℕ)) : Type 0 where
+  pub stands : Stands n bytes (y .run) (y .opens) u
+  pub ends : Ends n bytes stop y u (stands .steps) (y .halted)
+
+-- What the loop keeps: where it stands; and past the stop, the last step.
+pub record Running (n : ℕ) (bytes : List ℕ) (stop : ℕ) (r : Run) (o : Opens) (from deep : ℕ) (t : List (List ℕ)) : Type 0 where
+  pub stands : Stands n bytes r o t
+  pub past : (r .covered ≤ stop) ⊎ PassedLast n bytes (stands .steps) stop from deep
+
+module _ (n : ℕ) (bytes : List ℕ) (few : n ≤ 32) (r : Run) (o : Opens) (t : List (List ℕ)) (h : Stands n bytes r o t) where
+  young : Young r t
+  young = at-stamp n bytes (h .steps) (stateAt r o t) few (h .here)
+
+  -- The covered count fits.
+  pub stands-covered : r .covered ≤ 4294967296
+  stands-covered = at-covered n bytes (h .steps) (stateAt r o t) few (h .here)
+
+  -- the turn's result y, with the lent table u
+  module _ (y : Turn) (u : List (List ℕ)) (made : TurnMade n bytes r (o .depth) (lowOf o) t y u) where
+    -- A turn that does not go on halts, and lends nothing.
+    halts-here : y .went ≡ false → (u ≡ t) × HaltsAt n bytes (stateAt r o t) (y .faulty) (y .cause) (y .byte)
+    halts-here = turn-halts n bytes r o t (h .kept) young y u made
+
+    went : y .went ≡ true → Comes n bytes r o t y u true
+    went = turn-went n bytes r o t (h .kept) young y u made
+
+    -- A turn that goes on is a step more, and passes what it passes inside the open nodes before it.
+    goes-here : y .went ≡ true → (stop : ℕ) → r .covered ≤ stop → Running n bytes stop (y .run) (opensTo o (y .depth) (y .low)) (r .covered) (o .depth) u
+    goes-here e stop l = record {
+      stands = record {
+        steps = suc (h .steps);
+        here = at-next n bytes (h .steps) (stateAt r o t) (stateAt (y .run) (opensTo o (y .depth) (y .low)) u) (h .here) (went e .0);
+        kept = went e .1 .0;
+      };
+      past = inr (record { before = h .steps; last = refl; state = stateAt r o t; here = h .here; covered = refl; low = l; depth = list-length o (h .kept .deep) });
+    }
+
+    -- It moves on.
+    ahead-here : y .went ≡ true → length bytes - y .run .at < length bytes - r .at
+    ahead-here e = omega (arith, went e .1 .1 .0, went e .1 .1 .1)
+
+-- ---- The code's turn -------------------------------------------------------------------------
+
+-- i, j: the places of the innermost entry and of the one after it
+module _ (n : ℕ) (bytes : List ℕ) (few : n ≤ 32) (stop : ℕ) (r : Run) (o : Opens) (t : List (List ℕ)) (h : Stands n bytes r o t) (p : Spots) (spots : p ≡ spotsOf (o .depth))
+    (y : Turn) (u : List (List ℕ)) (made : TurnMade n bytes r (o .depth) (getD (o .nodes) (p .low) insideOpen) t y u) where
+  made-low : TurnMade n bytes r (o .depth) (lowOf o) t y u
+  made-low = subst (λ (q : Spots). TurnMade n bytes r (o .depth) (getD (o .nodes) (q .low) insideOpen) t y u) spots made
+
+  -- The loop halts.
+  pub loop-halts : y .went ≡ false → (from deep : ℕ) → ReachedBy n bytes stop (record { run = r; opens = o; from = from; deep = deep; halted = true; faulty = y .faulty; cause = y .cause; byte = y .byte }) u
+  loop-halts e from deep =
+      let k = halts-here n bytes few r o t h y u made-low e in
+      subst (ReachedBy n bytes stop (record { run = r; opens = o; from = from; deep = deep; halted = true; faulty = y .faulty; cause = y .cause; byte = y .byte })) (sym (k .0)) (record { stands = h; ends = k .1 })
+
+  -- The loop goes on.
+  pub loop-goes : y .went ≡ true → r .covered ≤ stop → (z : Open) → z ≡ insideOpen
+      → Running n bytes stop (y .run) (record { nodes = set (set (o .nodes) (p .high) z) (p .low) (y .low); depth = y .depth }) (r .covered) (o .depth) u
+  loop-goes e l z ze =
+      subst (λ (x : Open). Running n bytes stop (y .run) (record { nodes = set (set (o .nodes) (p .high) x) (p .low) (y .low); depth = y .depth }) (r .covered) (o .depth) u) (sym ze)
+      (subst (λ (q : Spots). Running n bytes stop (y .run) (record { nodes = set (set (o .nodes) (q .high) insideOpen) (q .low) (y .low); depth = y .depth }) (r .covered) (o .depth) u) (sym spots)
+      (goes-here n bytes few r o t h y u made-low e stop l))
+
+  -- It moves on.
+  pub loop-moves : y .went ≡ true → length bytes - y .run .at < length bytes - r .at
+  loop-moves = ahead-here n bytes few r o t h y u made-low
+
+-- A turn keeps the length of the lent table.
+pub turn-length : (n : ℕ) (bytes : List ℕ) (r : Run) (d : ℕ) (low : Open) (t : List (List ℕ)) (y : Turn) (u : List (List ℕ)) → TurnMade n bytes r d low t y u → length u ≡ length t
+turn-length n bytes r d low t y u (past h e k) = ap length k
+turn-length n bytes r d low t y u (barred h e k) = ap length k
+turn-length n bytes r d low t y u (out h x seen i e k) = ap length k
+turn-length n bytes r d low t y u (fault h x seen a j i e k) = ap length k
+turn-length n bytes r d low t y u (took l h x seen el i e k) = ap length k ∙ length-lent r d (x .number) (getIn t (r .size) (x .number)) (takenAt n bytes r d low t x el) t
+
+-- The loop is past its stop.
+pub loop-past : (n : ℕ) (bytes : List ℕ) (stop : ℕ) (r : Run) (o : Opens) (from deep : ℕ) (t : List (List ℕ)) → Running n bytes stop r o from deep t → stop < r .covered
+    → ReachedBy n bytes stop (record { run = r; opens = o; from = from; deep = deep; halted = false; faulty = false; cause = WrongByte; byte = 0 }) t
+loop-past n bytes stop r o from deep t h l = record { stands = h .stands; ends = (l, ⊎-elim (λ (k : r .covered ≤ stop). absurd (omega (arith, k, l))) (λ (k : PassedLast n bytes (h .stands .steps) stop from deep). k) (h .past)) }

@@ -1,0 +1,93 @@
+-- One element more, as code takes it: the cases of `withElement` on the records that code holds. Assumes nothing.
+use mathlib.Core.Bool.{Bool, true, false, cond, _||_, not}
+use mathlib.Core.Path.{_≡_, refl, ap, _∙_}
+use Prim.Native.Nat.{ℕ, _+_, _-_, _*_, _%_, _<_, _≤_, _^_}
+use native.Mathlib.Nat.{mod-eq-of-lt, one-mul}
+use native.Mathlib.Omega.{arith}
+use lib.Pow.{pow-mono}
+use lib.Dec.{ltb, eqb}
+use Rattle.reading.specs.Reading.{isStart, isLead}
+use Rattle.reader.specs.Cite.{markOf, terminalRef, temporaryRef, entryRef}
+use Rattle.reader.specs.declared.Cause.{Cause}
+use Rattle.reader.specs.declared.Cause.the-variants.{WrongByte, DeclaredSize, TooDeep, NotInTable, OtherLevel, NotStorable, BadNumber}
+use Rattle.reader.specs.declared.Element.{Element}
+use Rattle.reader.specs.declared.Element.the-variants.{Opening, Number, Constant, Turn, Closing, Storing, End}
+use Rattle.reader.specs.declared.Mark.{Mark}
+use Rattle.reader.specs.declared.Open.{Open}
+use Rattle.reader.specs.declared.Ref.{Ref}
+use Rattle.reader.specs.declared.Run.{Run}
+use Rattle.reader.specs.declared.Row.{Row}
+use Rattle.reader.specs.declared.Taken.{Taken}
+
+abbrev pub goesOf : Run → Taken
+goesOf r = record { run = r; faulty = false; cause = WrongByte; byte = 0; sizes = false; stores = false }
+
+abbrev pub failsOf : Run → Cause → ℕ → Taken
+failsOf r c b = record { run = r; faulty = true; cause = c; byte = b; sizes = false; stores = false }
+
+abbrev pub movedTo : Run → ℕ → Mark → Run
+movedTo r at m = record { at = at; mark = m; last = r .last; size = r .size; covered = r .covered; complement = r .complement; pair = r .pair }
+
+abbrev pub passedTo : ℕ → Run → ℕ → Ref → ℕ → Mark → Run
+passedTo n r d x at m = record { at = at; mark = m; last = x; size = r .size; covered = r .covered + 2 ^ (n - d); complement = r .complement; pair = r .pair }
+
+abbrev pub turnedTo : Run → ℕ → Mark → Run
+turnedTo r at m = record { at = at; mark = m; last = r .last; size = r .size; covered = r .covered; complement = isLead (markOf (r .mark)) || r .complement; pair = r .pair }
+
+abbrev pub sizedTo : Run → ℕ → ℕ → ℕ → Mark → Taken
+sizedTo r g v at m =
+    cond (ltb 1024 v) (failsOf r DeclaredSize g)
+    (record { run = record { at = at; mark = m; last = r .last; size = v; covered = r .covered; complement = r .complement; pair = r .pair }; faulty = false; cause = WrongByte; byte = 0; sizes = true; stores = false })
+
+abbrev pub foundTo : ℕ → Run → ℕ → ℕ → ℕ → Row → ℕ → Mark → Taken
+foundTo n r d g v x at m =
+    cond (eqb (x .level) 0) (failsOf r NotInTable g)
+    (cond (eqb (x .level) (d + 1)) (goesOf (passedTo n r d (entryRef v (x .stamp)) at m)) (failsOf r OtherLevel g))
+
+-- the terminal, or a node with a number
+abbrev pub isKeptOf : Ref → Bool
+isKeptOf a = cond (eqb (a .number) 0) (eqb (a .stamp) 0) true
+
+-- `)` of two children
+abbrev pub closedTwo : Run → Open → ℕ → Mark → Run
+closedTwo r o at m = record { at = at; mark = m; last = temporaryRef; size = r .size; covered = r .covered; complement = r .complement; pair = record { first = o .first; turned = o .turned; second = r .last } }
+
+abbrev pub closedTo : ℕ → Run → ℕ → Open → ℕ → Mark → Taken
+closedTo n r d o at m = cond (eqb d 0) (goesOf (movedTo r at m)) (cond (o .second) (goesOf (closedTwo r o at m)) (cond (isKeptOf (r .last)) (goesOf (passedTo n r d (r .last) at m)) (failsOf r NotStorable (r .at))))
+
+abbrev pub isBadOf : Run → ℕ → Row → Bool
+isBadOf r k x = (eqb k 0 || ltb (r .size) k) || (not (eqb (x .parents) 0) || (eqb (r .pair .first .number) k || eqb (r .pair .second .number) k))
+
+-- a stamp that does not fit stays at the largest (none comes so far: `at-stamp`)
+abbrev pub nextStamp : ℕ → ℕ
+nextStamp g = cond (ltb g 4294967295) (g + 1) g
+
+abbrev pub storedRun : Run → ℕ → Row → ℕ → Mark → Run
+storedRun r k x at m = record { at = at; mark = m; last = entryRef k (nextStamp (x .stamp)); size = r .size; covered = r .covered; complement = r .complement; pair = r .pair }
+
+abbrev pub storedTo : Run → ℕ → Row → ℕ → Mark → Taken
+storedTo r k x at m = cond (isBadOf r k x) (failsOf r BadNumber (r .at + 1)) (record { run = storedRun r k x at m; faulty = false; cause = WrongByte; byte = 0; sizes = false; stores = true })
+
+abbrev pub takenOf : ℕ → Run → ℕ → Open → ℕ → Element → Row → ℕ → Mark → Taken
+takenOf n r d o g Opening x at m = cond (ltb n (d + 1)) (failsOf r TooDeep (r .at)) (goesOf (movedTo r at m))
+takenOf n r d o g (Number v) x at m = cond (isStart (markOf (r .mark))) (sizedTo r g v at m) (foundTo n r d g v x at m)
+takenOf n r d o g Constant x at m = goesOf (passedTo n r d terminalRef at m)
+takenOf n r d o g Turn x at m = goesOf (turnedTo r at m)
+takenOf n r d o g Closing x at m = closedTo n r d o at m
+takenOf n r d o g (Storing k) x at m = storedTo r k x at m
+takenOf n r d o g End x at m = goesOf (movedTo r at m)
+
+-- ---- Words -----------------------------------------------------------------------------------
+
+pow-most : (n d : ℕ) → n ≤ 32 → 2 ^ (n - d) ≤ 4294967296
+pow-most n d h = pow-mono {i = n - d} {j = 32} (omega arith)
+
+pub no-words : (n d : ℕ) → n < d → 1 ≡ 2 ^ (n - d)
+no-words n d h = let z : n - d ≡ 0 = omega arith in rw z refl
+
+-- the words of a node fit in 64 bits
+pub few-words : (n d : ℕ) → n ≤ 32 → 1 * 2 ^ (n - d) % 18446744073709551616 ≡ 2 ^ (n - d)
+few-words n d h = ap (λ (x : ℕ). x % 18446744073709551616) (one-mul (2 ^ (n - d))) ∙ mod-eq-of-lt (omega (arith, pow-most n d h))
+
+pub words-most : (n d : ℕ) → n ≤ 32 → 1 * 2 ^ (n - d) % 18446744073709551616 ≤ 4294967296
+words-most n d h = omega (arith, few-words n d h, pow-most n d h)

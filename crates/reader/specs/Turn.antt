@@ -1,0 +1,64 @@
+-- What the calls of one turn come to: a barred `:`, and the table that an element leaves. Assumes nothing.
+use mathlib.Core.Path.{_≡_, refl, sym, ap, ap₂, _∙_}
+use mathlib.Core.Bool.{Bool, true, false, not, _&&_, _||_}
+use mathlib.Core.List.{List}
+use Prim.Native.Nat.{ℕ}
+use borrow.Author.Tests.{eq-eqb, ne-eqb}
+use lib.Dec.{eqb}
+use lib.ListN.{getD}
+use Rattle.reading.specs.Bytes.{colon}
+use Rattle.reading.specs.Reading.{isTwo}
+use Rattle.reading.specs.StepLaws.{digitPlace}
+use Rattle.reader.specs.Cite.{markOf}
+use Rattle.reader.specs.declared.Element.{Element}
+use Rattle.reader.specs.declared.Look.{Look}
+use Rattle.reader.specs.declared.Open.{Open}
+use Rattle.reader.specs.declared.Ref.{Ref}
+use Rattle.reader.specs.declared.Run.{Run}
+use Rattle.reader.specs.declared.Row.{Row}
+use Rattle.reader.specs.declared.Taken.{Taken}
+use Rattle.reader.specs.Taking.{takenOf}
+use Rattle.reader.specs.Table.{getIn, storeAt}
+use Rattle.reader.specs.Advance.{barsBy, barredBy, rowTo, lentTo, takenAt, lentAt}
+
+module _ (t : List (List ℕ)) (r : Run) (b : ℕ) where
+  pub barred-other : (b ≡ colon → ⊥) → false ≡ barredBy t r b
+  barred-other h = rw (ne-eqb b colon h) (go (isTwo (markOf (r .mark))))
+    where
+      go : (m : Bool) → false ≡ ((m && false) && (barsBy t (r .size) (r .pair .first) || barsBy t (r .size) (r .pair .second)))
+      go true = refl
+      go false = refl
+
+  pub barred-mark : isTwo (markOf (r .mark)) ≡ false → false ≡ barredBy t r b
+  barred-mark h = rw h refl
+
+  module _ (two : isTwo (markOf (r .mark)) ≡ true) (here : b ≡ colon) where
+    pub barred-first : barsBy t (r .size) (r .pair .first) ≡ true → true ≡ barredBy t r b
+    barred-first e = rw (two, eq-eqb b colon here, e) refl
+
+    pub barred-second : barsBy t (r .size) (r .pair .first) ≡ false → barsBy t (r .size) (r .pair .second) ≡ barredBy t r b
+    barred-second e = rw (two, eq-eqb b colon here, e) refl
+
+-- what a call of `get` tells of a child
+pub bars-got : (t l : List (List ℕ)) (z : ℕ) (x : Row) (a : Ref) → l ≡ t → x ≡ getIn l z (a .number) → not (eqb (x .stamp) (a .stamp)) ≡ barsBy t z a
+bars-got t l z x a le xe = ap (λ (w : Row). not (eqb (w .stamp) (a .stamp))) (xe ∙ ap (λ (u : List (List ℕ)). getIn u z (a .number)) le)
+
+-- a storing puts its record
+pub lent-stored : (t : List (List ℕ)) (r : Run) (d k : ℕ) (x w : Row) (y : Taken) → y .stores ≡ true → w ≡ rowTo r d x → storeAt t (r .size) k w ≡ lentTo r d k x y t
+lent-stored t r d k x w y s e = rw s (ap (storeAt t (r .size) k) e)
+
+-- What the calls of a turn that takes an element come to. l: the table after the call of `barred`, m: after that of `get`
+module _ (n : ℕ) (bytes : List ℕ) (r : Run) (d : ℕ) (low : Open) (t l m : List (List ℕ)) (x : Look) (e : Element) (first : l ≡ t) (second : m ≡ l)
+    (g : ℕ) (digit : g ≡ digitPlace (r .at) (getD bytes (r .at) 0)) (w : Row) (row : w ≡ getIn l (r .size) (x .number))
+    (y : Taken) (taken : y ≡ takenOf n r d low g e w (x .at) (x .mark)) where
+  row-first : w ≡ getIn t (r .size) (x .number)
+  row-first = row ∙ ap (λ (u : List (List ℕ)). getIn u (r .size) (x .number)) first
+
+  pub turn-taken : y ≡ takenAt n bytes r d low t x e
+  turn-taken = taken ∙ ap₂ (λ (i : ℕ) (v : Row). takenOf n r d low i e v (x .at) (x .mark)) digit row-first
+
+  pub turn-lent : (u : List (List ℕ)) → u ≡ lentTo r d (x .number) w y m → u ≡ lentAt n bytes r d low t x e
+  turn-lent u h =
+      h
+      ∙ ap₂ (λ (v : Row) (z : Taken). lentTo r d (x .number) v z m) row-first turn-taken
+      ∙ ap (lentTo r d (x .number) (getIn t (r .size) (x .number)) (takenAt n bytes r d low t x e)) (second ∙ first)
