@@ -535,6 +535,10 @@ module _ (n : ℕ) (bytes : List ℕ) (r : Run) (o : Opens) (t : List (List ℕ)
           ∙ ap readBy f
           ∙ ap (λ (u : List Node). goes (stateOf (y .run) os′ u)) table-made
 
+      -- The size has been read.
+      later-element : isStart (markOf (y .run .mark)) ≡ false
+      later-element = ap (λ (k : Mark). isStart (markOf k)) (made-well .0) ∙ firm .0
+
       -- What code keeps true stays so.
       kept-element : Kept (y .run) after-look lent
       kept-element = record {
@@ -543,7 +547,7 @@ module _ (n : ℕ) (bytes : List ℕ) (r : Run) (o : Opens) (t : List (List ℕ)
         held = subst (Held lent) (sym (made-well .1 .0)) (subst (λ (u : List (List ℕ)). Held u (sizeTo r e)) (sym lent-here) (held-next r o (o .depth) e y t kept f (made-well .1 .1)));
         nodes = length-set (set (o .nodes) (highAt (o .depth)) insideOpen) (lowAt (o .depth)) (x .low) ∙ length-set (o .nodes) (highAt (o .depth)) insideOpen ∙ kept .nodes;
         deep = subst (λ (u : Looked). u .depth ≤ 32) (sym seen) (look-depth bytes (r .at) (markOf (r .mark)) (r .last) (o .depth) (lowOf o));
-        begin = λ q. absurd (false≢true (sym (ap (λ (k : Mark). isStart (markOf k)) (made-well .0) ∙ firm .0) ∙ q));
+        begin = λ q. absurd (false≢true (sym later-element ∙ q));
       }
 
       -- The place moves on.
@@ -579,7 +583,7 @@ HaltsAt n bytes s false c b = advance n bytes s ≡ goes s
 -- what a turn comes to: it goes on, or halts
 abbrev pub Comes : ℕ → List ℕ → Run → Opens → List (List ℕ) → Turn → List (List ℕ) → Bool → Type 0
 Comes n bytes r o t y u true =
-    (advance n bytes (stateAt r o t) ≡ goes (stateAt (y .run) (opensTo o (y .depth) (y .low)) u)) × (Kept (y .run) (opensTo o (y .depth) (y .low)) u × ((r .at < length bytes) × (r .at < y .run .at)))
+    (advance n bytes (stateAt r o t) ≡ goes (stateAt (y .run) (opensTo o (y .depth) (y .low)) u)) × (Kept (y .run) (opensTo o (y .depth) (y .low)) u × ((r .at < length bytes) × ((r .at < y .run .at) × (isStart (markOf (y .run .mark)) ≡ false))))
 Comes n bytes r o t y u false = (u ≡ t) × HaltsAt n bytes (stateAt r o t) (y .faulty) (y .cause) (y .byte)
 
 module _ (n : ℕ) (bytes : List ℕ) (r : Run) (o : Opens) (t : List (List ℕ)) (kept : Kept r o t) (young : Young r t) where
@@ -600,7 +604,7 @@ module _ (n : ℕ) (bytes : List ℕ) (r : Run) (o : Opens) (t : List (List ℕ)
       go true i =
           let k = advance-refused n bytes r o t kept x seen e got young i (free h) in
           (k .1, subst (λ (f : Bool). HaltsAt n bytes (stateAt r o t) f (y .cause) (y .byte)) (sym i) (k .0))
-      go false i = (advance-element n bytes r o t kept x seen e got young i (free h), (kept-element n bytes r o t kept x seen e got young i, (l, ahead-element n bytes r o t kept x seen e got young i l)))
+      go false i = (advance-element n bytes r o t kept x seen e got young i (free h), (kept-element n bytes r o t kept x seen e got young i, (l, (ahead-element n bytes r o t kept x seen e got young i l, later-element n bytes r o t kept x seen e got young i))))
 
   -- WHAT A TURN COMES TO
   comes : (y : Turn) (u : List (List ℕ)) → TurnMade n bytes r (o .depth) (lowOf o) t y u → ComesBy y u

@@ -13,3 +13,9 @@ pub mod TableLaws
 pub mod Advance
 pub mod Turn
 pub mod Loop
+pub mod Answers
+pub mod Truths
+pub mod WalkLaws
+pub mod TruthLaws
+pub mod CallsMade
+pub mod FillMade

@@ -6,12 +6,13 @@ use mathlib.Core.List.{List}
 use Prim.Native.Nat.{ℕ, suc, _-_, _<_, _≤_}
 use native.Mathlib.Omega.{arith}
 use lib.ListN.{length, getD, set, replicate, length-replicate}
-use Rattle.reading.specs.Reading.{State}
+use Rattle.reading.specs.Reading.{State, isStart}
 use Rattle.reading.specs.Reaching.{At, at-start, at-next, at-covered, at-stamp}
-use Rattle.reader.specs.Cite.{insideOpen, terminalRef, temporaryRef, opensOf, spotsOf}
+use Rattle.reader.specs.Cite.{markOf, insideOpen, terminalRef, temporaryRef, opensOf, spotsOf}
 use Rattle.reader.specs.declared.Cause.the-variants.{WrongByte}
 use Rattle.reader.specs.declared.Open.{Open}
 use Rattle.reader.specs.declared.Opens.{Opens}
+use Rattle.reader.specs.declared.Mark.{Mark}
 use Rattle.reader.specs.declared.Mark.the-variants.{Start}
 use Rattle.reader.specs.declared.Run.{Run}
 use Rattle.reader.specs.declared.Spots.{Spots}
@@ -35,7 +36,7 @@ pub record Stands (n : ℕ) (bytes : List ℕ) (r : Run) (o : Opens) (t : List (
   pub kept : Kept r o t
 
 -- It stands so at the start, whatever the table holds.
-pub stands-first : (n : ℕ) (bytes : List ℕ) (t : List (List ℕ)) → 1024 ≤ length t → Stands n bytes firstRun firstOpens t
+unfoldable pub stands-first : (n : ℕ) (bytes : List ℕ) (t : List (List ℕ)) → 1024 ≤ length t → Stands n bytes firstRun firstOpens t
 unfolding opensOf
 stands-first n bytes t h = record {
   steps = 0;
@@ -50,10 +51,18 @@ stands-first n bytes t h = record {
   };
 }
 
+-- So does code that begins there.
+pub stands-begun : (n : ℕ) (bytes : List ℕ) (t : List (List ℕ)) (r : Run) (o : Opens) → 1024 ≤ length t → r ≡ firstRun → o ≡ firstOpens → Stands n bytes r o t
+stands-begun n bytes t r o room re oe = subst (λ (x : Run). Stands n bytes x o t) (sym re) (subst (λ (y : Opens). Stands n bytes firstRun y t) (sym oe) (stands-first n bytes t room))
+
+-- No word is covered yet.
+pub first-none : (r : Run) (stop : ℕ) → r ≡ firstRun → r .covered ≤ stop
+first-none r stop e = let z : r .covered ≡ 0 = ap (λ (x : Run). x .covered) e in omega (arith, z)
+
 -- ---- What is reached -------------------------------------------------------------------------
 
--- The last of the steps passed the words from `from` on, inside `deep` open nodes.
-pub record PassedLast (n : ℕ) (bytes : List ℕ) (steps stop from deep : ℕ) : Type 0 where
+-- The last of the steps, which has come to the mark m, passed the words from `from` on, inside `deep` open nodes.
+pub record PassedLast (n : ℕ) (bytes : List ℕ) (m : Mark) (steps stop from deep : ℕ) : Type 0 where
   pub before : ℕ
   pub last : steps ≡ suc before
   pub state : State
@@ -61,11 +70,13 @@ pub record PassedLast (n : ℕ) (bytes : List ℕ) (steps stop from deep : ℕ) 
   pub covered : state .covered ≡ from
   pub low : from ≤ stop
   pub depth : length (state .place .opens) ≡ deep
+  pub shallow : deep ≤ 32
+  pub later : isStart (markOf m) ≡ false
 
 -- Past the stop the last step passed it; else reading halts.
 abbrev pub Ends : (n : ℕ) (bytes : List ℕ) (stop : ℕ) (y : Reached) (u : List (List ℕ)) → ℕ → Bool → Type 0
-Ends n bytes stop y u steps true = HaltsAt n bytes (stateAt (y .run) (y .opens) u) (y .faulty) (y .cause) (y .byte)
-Ends n bytes stop y u steps false = (stop < y .run .covered) × PassedLast n bytes steps stop (y .from) (y .deep)
+Ends n bytes stop y u steps true = (y .run .covered ≤ stop) × HaltsAt n bytes (stateAt (y .run) (y .opens) u) (y .faulty) (y .cause) (y .byte)
+Ends n bytes stop y u steps false = (stop < y .run .covered) × PassedLast n bytes (y .run .mark) steps stop (y .from) (y .deep)
 
 pub record ReachedBy (n : ℕ) (bytes : List ℕ) (stop : ℕ) (y : Reached) (u : List (List ℕ)) : Type 0 where
   pub stands : Stands n bytes (y .run) (y .opens) u
@@ -74,7 +85,7 @@ pub record ReachedBy (n : ℕ) (bytes : List ℕ) (stop : ℕ) (y : Reached) (u 
 -- What the loop keeps: where it stands; and past the stop, the last step.
 pub record Running (n : ℕ) (bytes : List ℕ) (stop : ℕ) (r : Run) (o : Opens) (from deep : ℕ) (t : List (List ℕ)) : Type 0 where
   pub stands : Stands n bytes r o t
-  pub past : (r .covered ≤ stop) ⊎ PassedLast n bytes (stands .steps) stop from deep
+  pub past : (r .covered ≤ stop) ⊎ PassedLast n bytes (r .mark) (stands .steps) stop from deep
 
 module _ (n : ℕ) (bytes : List ℕ) (few : n ≤ 32) (r : Run) (o : Opens) (t : List (List ℕ)) (h : Stands n bytes r o t) where
   young : Young r t
@@ -101,12 +112,12 @@ module _ (n : ℕ) (bytes : List ℕ) (few : n ≤ 32) (r : Run) (o : Opens) (t 
         here = at-next n bytes (h .steps) (stateAt r o t) (stateAt (y .run) (opensTo o (y .depth) (y .low)) u) (h .here) (went e .0);
         kept = went e .1 .0;
       };
-      past = inr (record { before = h .steps; last = refl; state = stateAt r o t; here = h .here; covered = refl; low = l; depth = list-length o (h .kept .deep) });
+      past = inr (record { before = h .steps; last = refl; state = stateAt r o t; here = h .here; covered = refl; low = l; depth = list-length o (h .kept .deep); shallow = h .kept .deep; later = went e .1 .1 .1 .1 });
     }
 
     -- It moves on.
     ahead-here : y .went ≡ true → length bytes - y .run .at < length bytes - r .at
-    ahead-here e = omega (arith, went e .1 .1 .0, went e .1 .1 .1)
+    ahead-here e = omega (arith, went e .1 .1 .0, went e .1 .1 .1 .0)
 
 -- ---- The code's turn -------------------------------------------------------------------------
 
@@ -117,10 +128,10 @@ module _ (n : ℕ) (bytes : List ℕ) (few : n ≤ 32) (stop : ℕ) (r : Run) (o
   made-low = subst (λ (q : Spots). TurnMade n bytes r (o .depth) (getD (o .nodes) (q .low) insideOpen) t y u) spots made
 
   -- The loop halts.
-  pub loop-halts : y .went ≡ false → (from deep : ℕ) → ReachedBy n bytes stop (record { run = r; opens = o; from = from; deep = deep; halted = true; faulty = y .faulty; cause = y .cause; byte = y .byte }) u
-  loop-halts e from deep =
+  pub loop-halts : y .went ≡ false → r .covered ≤ stop → (from deep : ℕ) → ReachedBy n bytes stop (record { run = r; opens = o; from = from; deep = deep; halted = true; faulty = y .faulty; cause = y .cause; byte = y .byte }) u
+  loop-halts e l from deep =
       let k = halts-here n bytes few r o t h y u made-low e in
-      subst (ReachedBy n bytes stop (record { run = r; opens = o; from = from; deep = deep; halted = true; faulty = y .faulty; cause = y .cause; byte = y .byte })) (sym (k .0)) (record { stands = h; ends = k .1 })
+      subst (ReachedBy n bytes stop (record { run = r; opens = o; from = from; deep = deep; halted = true; faulty = y .faulty; cause = y .cause; byte = y .byte })) (sym (k .0)) (record { stands = h; ends = (l, k .1) })
 
   -- The loop goes on.
   pub loop-goes : y .went ≡ true → r .covered ≤ stop → (z : Open) → z ≡ insideOpen
@@ -145,4 +156,4 @@ turn-length n bytes r d low t y u (took l h x seen el i e k) = ap length k ∙ l
 -- The loop is past its stop.
 pub loop-past : (n : ℕ) (bytes : List ℕ) (stop : ℕ) (r : Run) (o : Opens) (from deep : ℕ) (t : List (List ℕ)) → Running n bytes stop r o from deep t → stop < r .covered
     → ReachedBy n bytes stop (record { run = r; opens = o; from = from; deep = deep; halted = false; faulty = false; cause = WrongByte; byte = 0 }) t
-loop-past n bytes stop r o from deep t h l = record { stands = h .stands; ends = (l, ⊎-elim (λ (k : r .covered ≤ stop). absurd (omega (arith, k, l))) (λ (k : PassedLast n bytes (h .stands .steps) stop from deep). k) (h .past)) }
+loop-past n bytes stop r o from deep t h l = record { stands = h .stands; ends = (l, ⊎-elim (λ (k : r .covered ≤ stop). absurd (omega (arith, k, l))) (λ (k : PassedLast n bytes (r .mark) (h .stands .steps) stop from deep). k) (h .past)) }

@@ -21,7 +21,8 @@ use Rattle.reader.specs.declared.Glance.{Glance}
 use Rattle.reader.specs.declared.Top.{Top}
 use Rattle.reader.specs.declared.Look.{Look}
 
-deep-most : (d : ℕ) → deepOf d ≤ 32
+-- No depth is above 32.
+pub deep-most : (d : ℕ) → deepOf d ≤ 32
 deep-most d = go (ltb 32 d) refl
   where
     go : (t : Bool) → ltb 32 d ≡ t → cond t 32 d ≤ 32

@@ -93,7 +93,8 @@ ref-ways a = go (eqb (a .number) 0) refl (eqb (a .stamp) 0)
     go true e false = (eqb-true (a .number) 0 e, refl)
     go false e u = (refl, refl)
 
-child-of : (a : Ref) → a .number ≡ child (refOf a)
+-- The number of a child is the paper's.
+pub child-of : (a : Ref) → a .number ≡ child (refOf a)
 child-of a = ref-ways a .0
 
 entry-of : (k g : ℕ) → (k ≡ 0 → ⊥) → refOf (entryRef k g) ≡ entry k g

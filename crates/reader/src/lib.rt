@@ -1,18 +1,30 @@
 ghost use mathlib.Core.Path.{_≡_};
-ghost use mathlib.Core.Bool.{true, false, cond};
-ghost use Prim.Native.Nat.{ℕ, _+_, _*_, _-_, _<_, _≤_, _^_};
-ghost use lib.ListN.{length, getD, getElem?};
+ghost use mathlib.Core.Bool.{true, false, cond, _&&_, _||_};
+ghost use lib.Dec.{eqb, ltb};
+ghost use Prim.Native.Nat.{ℕ, _+_, _*_, _-_, _<_, _≤_, _/_, _^_};
+ghost use lib.ListN.{length, getD, getElem?, replicate};
 ghost use Rattle.reading.specs.Bytes.{isDigit};
 ghost use Rattle.reading.specs.Element.{numberAt, begin, step};
-ghost use Rattle.reading.specs.Reading.{isStart, isLead, isTwo};
+ghost use Rattle.reading.specs.Reading.{isStart, isLead, isTwo, reading};
 ghost use Rattle.reader.specs.Glance.{glance, endSeen, innerSeen, colonSeen, spaceSeen, nodeSeen, numberSeen, storingSeen, sizeSeen, leadSeen, endedSeen, wrongAt};
 ghost use Rattle.reader.specs.Capped.{cap, capScan, capGlance, capStep};
-ghost use Rattle.reader.specs.Cite.{kindTable, scanOf, markOf, topsOf, seenOf, plain, numbered, gaveBy, failedBy, waitedBy, stageOf, isAfter, insideOpen, begunOpen, sideOf, spotsOf, deepOf, lookOf, lookAt, placeOf, steppedOf};
+ghost use Rattle.reader.specs.Cite.{kindTable, openList, scanOf, markOf, causeOf, topsOf, seenOf, plain, numbered, gaveBy, failedBy, waitedBy, stageOf, isAfter, insideOpen, begunOpen, sideOf, spotsOf, deepOf, lookOf, lookAt, placeOf, steppedOf};
 ghost use Rattle.reader.specs.Taking.{goesOf, failsOf, movedTo, passedTo, turnedTo, sizedTo, foundTo, closedTwo, closedTo, isKeptOf, isBadOf, nextStamp, storedTo, takenOf};
-ghost use Rattle.reader.specs.Table.{noRow, getIn, putAt, countedTo, countAt, storeAt, clearTo};
+ghost use Rattle.reader.specs.Table.{noRow, noRecord, getIn, putAt, countedTo, countAt, storeAt, clearTo};
 ghost use Rattle.reading.specs.StepLaws.{digitPlace};
 ghost use Rattle.reader.specs.Advance.{barredBy, rowTo, lentTo, stayed, wentBy, TurnMade};
+ghost use Rattle.lists.specs.Lists.{differ};
+ghost use Rattle.reading.specs.Deciding.{decided, complemented, options, trace};
+ghost use Rattle.reading.specs.Causes.{refusal};
+ghost use Rattle.reading.specs.Calls.{complete, cut, extent, verdictOf, bytesFrom, check, decide, fill};
+ghost use Rattle.reading.specs.Covered.{parity};
+ghost use Rattle.reading.specs.TableWalk.{rowWalk};
+ghost use Rattle.reader.specs.TableLaws.{tableOf};
+ghost use Rattle.reader.specs.Answers.{refusalOf, checkingOf, verdictsOf, decidingOf, fillingOf};
+ghost use Rattle.reader.specs.Truths.{firstEdge, secondEdge, withWordIn, putNodeIn};
 ghost use Rattle.reader.specs.Loop.{firstRun, firstOpens, Stands, ReachedBy};
+ghost use Rattle.reader.specs.CallsMade.{checkedBy, decidedBy, edgeAt, wordAt, AsLong};
+ghost use mathlib.Core.Option.{none};
 
 // The kind of each byte: 0 digit, 1 bracket, 2 mark, 3 space, 4 line end, 5 point, 6 foreign.
 const KINDS: [u8; 256] = [
@@ -1709,4 +1721,392 @@ fn run_on(
         cause: Cause::WrongByte,
         byte: 0,
     }
+}
+
+// ---- Answers
+
+// Why a call is turned down: the cause, the stream (0: none) and the byte.
+pub struct Refusal {
+    pub cause: Cause,
+    pub stream: u32,
+    pub byte: usize,
+}
+
+// What checking answers: the declared size (0 while unfinished), the covered count, and whether the stream has its point.
+pub struct Checked {
+    pub size: u32,
+    pub covered: u64,
+    pub complete: bool,
+}
+
+pub enum Checking {
+    Refused(Refusal),
+    Done(Checked),
+}
+
+pub enum Verdict {
+    No,
+    Yes,
+    NotYet,
+}
+
+pub enum Deciding {
+    Refused(Refusal),
+    Done(Verdict),
+}
+
+// What filling answers: the covered count.
+pub enum Filling {
+    Refused(Refusal),
+    Done(u64),
+}
+
+// ---- Deciding by the table
+
+// The decision of a word: no, turned about if b.
+fn verdict_of(b: bool) -> Verdict
+    ensures { λ r. ⌜ verdictsOf r ≡ verdictOf (decided b) ⌝ }
+{
+    if b { Verdict::Yes } else { Verdict::No }
+}
+
+// a, turned about if t
+fn turned_about(t: bool, a: bool) -> bool
+    ensures { λ r. ⌜ r ≡ differ t a ⌝ }
+{
+    if t { !a } else { a }
+}
+
+// The edges to second children that are complemented, of the open nodes: an odd number?
+fn parity_of(o: Opens) -> bool
+    ensures { λ r. ⌜ r ≡ parity (openList o) ⌝ }
+{
+    let d = deep(o.depth);
+    let mut i = 0;
+    let mut p = false;
+    while i < d {
+        let e = o.nodes[i];
+        let two = e.second;
+        if two {
+            p = turned_about(e.turned, p);
+        }
+        i += 1;
+    }
+    p
+}
+
+// What a node stands for: a number (0: the terminal), turned about or not.
+struct Edge {
+    number: u32,
+    turned: bool,
+}
+
+// The number of an edge, of level l, stands for a node of level i inside brackets, or is the terminal.
+fn skips(e: Edge, i: u32, l: u32) -> bool
+    ensures { λ r. ⌜ r ≡ (eqb (e .number) 0 || ltb i l) ⌝ }
+{
+    if e.number == 0 {
+        return true;
+    }
+    i < l
+}
+
+// The first child of the node of level i that e stands for; x: its record
+fn first_edge(x: Row, i: u32, e: Edge) -> Edge
+    ensures { λ r. ⌜ r ≡ firstEdge x i e ⌝ }
+{
+    if skips(e, i, x.level) {
+        return e;
+    }
+    Edge {
+        number: x.first,
+        turned: e.turned,
+    }
+}
+
+// Its second child.
+fn second_edge(x: Row, i: u32, e: Edge) -> Edge
+    ensures { λ r. ⌜ r ≡ secondEdge x i e ⌝ }
+{
+    if skips(e, i, x.level) {
+        return e;
+    }
+    Edge {
+        number: x.second,
+        turned: turned_about(x.complement, e.turned),
+    }
+}
+
+// The word w of the node of level i, m options below it, that e stands for. z: how many numbers there are
+fn walk_down(t: &mut [[u32; 6]], z: u32, m: u32, i: u32, e: Edge, w: u64) -> Verdict
+    requires { ⌜ (m ≤ 32) × (i + m ≤ 64) ⌝ }
+    ensures { λ r. ⌜ (verdictsOf r ≡ verdictOf (complemented (e .turned) (rowWalk (tableOf (now (t .entry)) z) i (e .number) (options m w)))) × (now (t .exit) ≡ now (t .entry)) ⌝ }
+{
+    if e.number == 0 {
+        return verdict_of(e.turned);
+    }
+    if m == 0 {
+        return Verdict::NotYet;
+    }
+    let x = get(t, z, e.number);
+    let half = 1u64 << (m - 1);
+    if w < half {
+        return walk_down(t, z, m - 1, i + 1, first_edge(x, i, e), w);
+    }
+    walk_down(t, z, m - 1, i + 1, second_edge(x, i, e), w - half)
+}
+
+// ---- Truth tables
+
+// Every byte becomes zero.
+fn wipe(v: &mut [u8])
+    ensures { λ _. ⌜ now (v .exit) ≡ replicate (length (now (v .entry))) 0 ⌝ }
+{
+    let mut i = 0;
+    while i < v.len() {
+        v[i] = 0;
+        i += 1;
+    }
+}
+
+// The word w becomes 1; it was 0.
+fn put_word(v: &mut [u8], w: usize)
+    ensures { λ _. ⌜ now (v .exit) ≡ withWordIn (now (v .entry)) w ⌝ }
+{
+    let i = w / 8;
+    if v.len() <= i {
+        return;
+    }
+    let b = v[i];
+    v[i] = std::num::wrapping_add_u8(b, 1u8 << (w % 8));
+}
+
+// One word: yes for the terminal turned about.
+fn put_edge(v: &mut [u8], e: Edge, w: usize)
+    ensures { λ _. ⌜ now (v .exit) ≡ cond (eqb (e .number) 0 && e .turned) (withWordIn (now (v .entry)) w) (now (v .entry)) ⌝ }
+{
+    if e.number != 0 {
+        return;
+    }
+    let t = e.turned;
+    if t {
+        put_word(v, w);
+    }
+}
+
+// The words from w on of the node of level i, m options below it, that e stands for. z: how many numbers there are
+fn fill_node(t: &mut [[u32; 6]], z: u32, v: &mut [u8], m: u32, i: u32, e: Edge, w: usize)
+    requires { ⌜ (m ≤ 16) × ((i + m ≤ 64) × (w + 2 ^ m ≤ 65536)) ⌝ }
+    ensures { λ _. ⌜ (now (v .exit) ≡ putNodeIn m (tableOf (now (t .entry)) z) i (e .number) (e .turned) w (now (v .entry))) × (now (t .exit) ≡ now (t .entry)) ⌝ }
+{
+    if m == 0 {
+        put_edge(v, e, w);
+        return;
+    }
+    let x = get(t, z, e.number);
+    let half = 1usize << (m - 1);
+    fill_node(t, z, v, m - 1, i + 1, first_edge(x, i, e), w);
+    fill_node(t, z, v, m - 1, i + 1, second_edge(x, i, e), w + half);
+}
+
+// ---- The calls
+
+// Tested before any stream is read.
+fn early(c: Cause) -> Refusal
+    ensures { λ r. ⌜ refusalOf r ≡ refusal (causeOf c) 0 0 ⌝ }
+{
+    Refusal {
+        cause: c,
+        stream: 0,
+        byte: 0,
+    }
+}
+
+// The fault that a loop has met, in stream 1.
+fn late(r: Reached) -> Refusal
+    ensures { λ x. ⌜ refusalOf x ≡ refusal (causeOf (r .cause)) 1 (r .byte) ⌝ }
+{
+    let c = r.cause;
+    Refusal {
+        cause: c,
+        stream: 1,
+        byte: r.byte,
+    }
+}
+
+fn is_over(m: Mark) -> bool
+    ensures { λ r. ⌜ cond r complete cut ≡ extent (markOf m) ⌝ }
+{
+    match m {
+        Mark::Start => false,
+        Mark::Lead => false,
+        Mark::Begins => false,
+        Mark::AfterDigit => false,
+        Mark::AfterTwo => false,
+        Mark::AfterOne => false,
+        Mark::Over => true,
+    }
+}
+
+fn checked_at(r: Reached) -> Checking
+    ensures { λ x. ⌜ checkingOf x ≡ checkedBy r ⌝ }
+{
+    let f = r.faulty;
+    if f {
+        return Checking::Refused(late(r));
+    }
+    let q = r.run;
+    let m = q.mark;
+    Checking::Done(Checked {
+        size: q.size,
+        covered: q.covered,
+        complete: is_over(m),
+    })
+}
+
+// CHECKING a stream: causes 1 and 4, then those of the stream.
+pub fn check(n: u32, s: &[u8], t: &mut [[u32; 6]]) -> Checking
+    ensures { λ r. ⌜ record { answer = checkingOf r; table = now (t .exit) } ≡ check noRecord n (now (s .entry)) (now (t .entry)) ⌝ }
+{
+    if 32 < n {
+        return Checking::Refused(early(Cause::OptionCount));
+    }
+    if t.len() < 1024 {
+        return Checking::Refused(early(Cause::WorkTable));
+    }
+    let k = kinds();
+    let r = run_on(&k, n, s, t, first_run(), first_opens(), 4294967296);
+    let z = t.len();
+    clear(t, z);
+    checked_at(r)
+}
+
+// What the words passed last stand for.
+fn edge_of(r: Reached) -> Edge
+    ensures { λ x. ⌜ x ≡ edgeAt r ⌝ }
+{
+    let o = r.opens;
+    let p = parity_of(o);
+    let q = r.run;
+    let l = q.last;
+    Edge {
+        number: l.number,
+        turned: turned_about(p, q.complement),
+    }
+}
+
+// The options below d open nodes.
+fn below(n: u32, d: usize) -> u32
+    requires { ⌜ d ≤ 32 ⌝ }
+    ensures { λ r. ⌜ r ≡ n - d ⌝ }
+{
+    let e = d as u32;
+    if n < e { 0 } else { n - e }
+}
+
+fn decided_at(r: Reached, v: Verdict) -> Deciding
+    ensures { λ x. ⌜ decidingOf x ≡ decidedBy r (verdictsOf v) ⌝ }
+{
+    let f = r.faulty;
+    if f {
+        return Deciding::Refused(late(r));
+    }
+    Deciding::Done(v)
+}
+
+// The word w, which the loop's last element passed.
+fn word_at(t: &mut [[u32; 6]], n: u32, r: Reached, w: u64) -> Verdict
+    requires { ⌜ (n ≤ 32) × ((r .deep ≤ 32) × (r .from ≤ w)) ⌝ }
+    ensures { λ x. ⌜ (verdictsOf x ≡ wordAt (now (t .entry)) n r w) × (now (t .exit) ≡ now (t .entry)) ⌝ }
+{
+    let q = r.run;
+    let d = r.deep;
+    let i = d as u32 + 1;
+    walk_down(t, q.size, below(n, d), i, edge_of(r), w - r.from)
+}
+
+// DECIDING a word: causes 1, 4 and 5, then those of the stream.
+pub fn decide(n: u32, s: &[u8], w: u64, t: &mut [[u32; 6]]) -> Deciding
+    ensures { λ r. ⌜ record { answer = decidingOf r; table = now (t .exit) } ≡ decide noRecord n (now (s .entry)) w (now (t .entry)) ⌝ }
+{
+    if 32 < n {
+        return Deciding::Refused(early(Cause::OptionCount));
+    }
+    if t.len() < 1024 {
+        return Deciding::Refused(early(Cause::WorkTable));
+    }
+    if 1u64 << n <= w {
+        return Deciding::Refused(early(Cause::WordRange));
+    }
+    let k = kinds();
+    let r = run_on(&k, n, s, t, first_run(), first_opens(), w);
+    let h = r.halted;
+    if h {
+        let z = t.len();
+        clear(t, z);
+        return decided_at(r, Verdict::NotYet);
+    }
+    let v = word_at(t, n, r, w);
+    let q = r.run;
+    let o = r.opens;
+    let e = run_on(&k, n, s, t, q, o, 4294967296);
+    let z = t.len();
+    clear(t, z);
+    decided_at(e, v)
+}
+
+// Node by node, the words that the stream covers.
+fn fill_words(k: &[u8; 256], n: u32, s: &[u8], v: &mut [u8], t: &mut [[u32; 6]])
+    requires { ⌜ (now k ≡ kindTable) × ((3 ≤ n) × ((n ≤ 16) × ((1024 ≤ length (now t)) × ((reading n (now s) .fault ≡ none) × (now v ≡ replicate (2 ^ n / 8) 0))))) ⌝ }
+    ensures { λ _. ⌜ (now (v .exit) ≡ bytesFrom (2 ^ n / 8) n (trace n (now (s .entry))) 0) × AsLong (now (t .exit)) (now (t .entry)) ⌝ }
+{
+    let mut run = first_run();
+    let mut opens = first_opens();
+    loop {
+        let c = run.covered;
+        let x = run_on(k, n, s, t, run, opens, c);
+        let h = x.halted;
+        if h {
+            return;
+        }
+        let q = x.run;
+        let d = x.deep;
+        let i = d as u32 + 1;
+        fill_node(t, q.size, v, below(n, d), i, edge_of(x), x.from as usize);
+        run = q;
+        let o = x.opens;
+        opens = o;
+    }
+}
+
+// FILLING a truth table: causes 1, 4 and 6, then those of the stream, which is read once more to fill.
+pub fn fill(n: u32, s: &[u8], v: &mut [u8], t: &mut [[u32; 6]]) -> Filling
+    ensures { λ r. ⌜ record { answer = fillingOf r; table = now (t .exit); truths = now (v .exit) } ≡ fill noRecord n (now (s .entry)) (now (v .entry)) (now (t .entry)) ⌝ }
+{
+    if n < 3 {
+        return Filling::Refused(early(Cause::OptionCount));
+    }
+    if 16 < n {
+        return Filling::Refused(early(Cause::OptionCount));
+    }
+    if t.len() < 1024 {
+        return Filling::Refused(early(Cause::WorkTable));
+    }
+    if v.len() != (1usize << n) / 8 {
+        return Filling::Refused(early(Cause::TruthTable));
+    }
+    let k = kinds();
+    let r = run_on(&k, n, s, t, first_run(), first_opens(), 4294967296);
+    let f = r.faulty;
+    if f {
+        let z = t.len();
+        clear(t, z);
+        return Filling::Refused(late(r));
+    }
+    wipe(v);
+    fill_words(&k, n, s, v, t);
+    let z = t.len();
+    clear(t, z);
+    let q = r.run;
+    Filling::Done(q.covered)
 }

@@ -1,8 +1,8 @@
 -- What code's loop reaches: where reading stands after some steps, how it goes on or ends there, and what it has decided and filled so far.
 -- Assumes nothing.
 use mathlib.Core.Path.{_≡_, refl, sym, ap, _∙_, subst}
-use mathlib.Core.Logic.{_⊎_, inl, inr, ⊎-elim}
-use mathlib.Core.List.{List, []}
+use mathlib.Core.Logic.{_⊎_, ⊎-elim}
+use mathlib.Core.List.{List}
 use Prim.Native.Nat.{ℕ, suc, _+_, _-_, _/_, _<_, _≤_, _^_}
 use native.Mathlib.Omega.{arith}
 use lib.ListN.{length, replicate}
@@ -13,25 +13,19 @@ use Rattle.reading.specs.Nodes.{child, stamp}
 use Rattle.reading.specs.Causes.{Cause}
 use Rattle.reading.specs.Element.{afterTwo}
 use Rattle.reading.specs.Reading.{State, Reading, goes, fails, fresh, level, advance, next, reading}
-use Rattle.reading.specs.Deciding.{options, complemented, Drawing, drawing, Trace, nextTrace, traceOn, trace, decisionOf}
+use Rattle.reading.specs.Deciding.{options, complemented, Trace, nextTrace, traceOn, trace, decisionOf}
 use Rattle.reading.specs.Calls.{notYet, verdictOf, verdict, bytesFrom}
 use Rattle.reading.specs.Prefix.{traceOn-add, traceOn-last, trace-reading}
-use Rattle.reading.specs.Settled.{Moved, rests, refuses, farther, advance-moved, trace-rests, trace-stays, trace-onward, trace-settled}
+use Rattle.reading.specs.Settled.{trace-rests, trace-stays, trace-onward, trace-settled}
 use Rattle.reading.specs.Covered.{parity, GoodTrace, grown-on, grown-count, trace-covered}
 use Rattle.reading.specs.TableWalk.{rowWalk, tied-on}
-use Rattle.reading.specs.Passing.{startTrace, passed-decision}
+use Rattle.reading.specs.Passing.{startTrace, passed-decision, passed-size}
 use Rattle.reading.specs.StampBound.{covered-within, stamp-most}
 use Rattle.reading.specs.Filling.{putNode, filled-none, filled-same, filled-passed}
 
 -- reading stands at s, after f steps without a fault
 abbrev pub At : ℕ → List ℕ → ℕ → State → Type 0
 At n bytes f s = traceOn f n bytes startTrace .reading ≡ goes s
-
--- a step that does not fail stays, or gets farther
-moved-ahead : (l : ℕ) (s : State) (d : Drawing) (r : Reading) (x : Drawing) → Moved l s d r x → (s′ : State) → r ≡ goes s′ → (s′ ≡ s) ⊎ ((s .place .at < s′ .place .at) × (s′ .place .at ≤ l))
-moved-ahead l s d r x rests s′ e = inl (ap (λ (y : Reading). y .state) (sym e))
-moved-ahead l s d r x (refuses c b y h k) s′ e = let z : _≡_ {A = ℕ} 0 1 = cc (ap (λ (y : Reading). y .fault) e) in absurd (omega arith)
-moved-ahead l s d r x (farther s″ y h k) s′ e = let p = ap (λ (y : Reading). y .state .place .at) e in inr (omega (arith, p), omega (arith, p))
 
 module _ (n : ℕ) (bytes : List ℕ) where
   -- the trace after f steps
@@ -81,10 +75,6 @@ module _ (n : ℕ) (bytes : List ℕ) where
   pub at-end : (f : ℕ) (s : State) → At n bytes f s → advance n bytes s ≡ goes s → reading n bytes ≡ goes s
   at-end f s h e = sym (trace-reading n bytes) ∙ ap (λ (t : Trace). t .reading) (at-end-trace f s h e) ∙ h
 
-  -- A step without a fault stays, or gets farther inside the bytes.
-  pub at-ahead : (s s′ : State) → advance n bytes s ≡ goes s′ → (s′ ≡ s) ⊎ ((s .place .at < s′ .place .at) × (s′ .place .at ≤ length bytes))
-  at-ahead s s′ e = let d = drawing [] [] in moved-ahead (length bytes) s d _ _ (advance-moved n bytes s d) s′ e
-
   -- ---- bounds
 
   -- At most 2^n words are covered,
@@ -100,6 +90,33 @@ module _ (n : ℕ) (bytes : List ℕ) where
   at-stamp f s l h e k =
       let m = rw (now-state f s h) at (stamp-most f n bytes k) in
       omega (arith, m e, pow-mono {i = n} {j = 32} l)
+
+  -- the trace after g steps goes on from that after f
+  trace-later : (f g : ℕ) → f ≤ g → traceAt g ≡ traceOn (g - f) n bytes (traceAt f)
+  trace-later f g l = let i : g ≡ f + (g - f) = omega arith in ap traceAt i ∙ traceOn-add f (g - f) n bytes startTrace
+
+  -- The covered count only grows,
+  pub at-grows : (f g : ℕ) (s s′ : State) → f ≤ g → At n bytes f s → At n bytes g s′ → s .covered ≤ s′ .covered
+  at-grows f g s s′ l h h′ =
+      let q = tied-on f n bytes .good in
+      omega (arith, grown-count n (traceAt f) _ q (grown-on (g - f) n bytes (traceAt f) q), ap (λ (t : Trace). t .reading .state .covered) (trace-later f g l), ap (λ (r : Reading). r .state .covered) h, ap (λ (r : Reading). r .state .covered) h′)
+
+  -- up to that of the stream,
+  pub at-most : (f : ℕ) (s r : State) → At n bytes f s → reading n bytes ≡ goes r → s .covered ≤ r .covered
+  at-most f s r h e =
+      let q = tied-on f n bytes .good in
+      omega (arith, grown-count n (traceAt f) _ q (grown-on (suc (length bytes)) n bytes (traceAt f) q), ap (λ (t : Trace). t .reading .state .covered) (trace-onward n bytes f), trace-covered n bytes, ap (λ (x : Reading). x .state .covered) e, ap (λ (x : Reading). x .state .covered) h)
+
+  -- by the words of the node that a step passes.
+  pub at-passes : (f : ℕ) (s s′ : State) → At n bytes f s → At n bytes (suc f) s′ → s .covered < s′ .covered → s′ .covered ≡ s .covered + 2 ^ (n - length (s .place .opens))
+  at-passes f s s′ h h′ l =
+      let e = now-state f s h in
+      let e′ = next-state f s′ h′ in
+      ⊎-elim
+      (λ (k : s′ .covered ≡ s .covered). absurd (omega (arith, k, l)))
+      (λ (k : s′ .covered ≡ s .covered + 2 ^ (n - length (s .place .opens))). k)
+      (subst (λ (x : State). (s′ .covered ≡ x .covered) ⊎ (s′ .covered ≡ x .covered + 2 ^ (n - length (x .place .opens)))) e
+      (subst (λ (y : State). let x = traceAt f .reading .state in (y .covered ≡ x .covered) ⊎ (y .covered ≡ x .covered + 2 ^ (n - length (x .place .opens)))) e′ (passed-size f n bytes)))
 
   -- ---- deciding
 
@@ -135,8 +152,7 @@ module _ (n : ℕ) (bytes : List ℕ) where
   -- steps that pass no word leave it
   filled-later : (f g : ℕ) (s s′ : State) → f ≤ g → At n bytes f s → At n bytes g s′ → s .covered ≡ s′ .covered → (k : ℕ) → bytesFrom k n (traceAt g) 0 ≡ bytesFrom k n (traceAt f) 0
   filled-later f g s s′ l h h′ e k =
-      let i : g ≡ f + (g - f) = omega arith in
-      let z : traceAt g ≡ traceOn (g - f) n bytes (traceAt f) = ap traceAt i ∙ traceOn-add f (g - f) n bytes startTrace in
+      let z = trace-later f g l in
       let c : traceOn (g - f) n bytes (traceAt f) .reading .state .covered ≡ traceAt f .reading .state .covered = omega (arith, ap (λ (t : Trace). t .reading .state .covered) z, ap (λ (r : Reading). r .state .covered) h, ap (λ (r : Reading). r .state .covered) h′) in
       let q = tied-on f n bytes .good in
       ap (λ (t : Trace). bytesFrom k n t 0) z ∙ filled-same n (traceAt f) (traceOn (g - f) n bytes (traceAt f)) q (grown-on (g - f) n bytes (traceAt f) q) k c

@@ -52,7 +52,7 @@ same-length c = search needs
 
 -- src/lib.rt:1592:13
 returns : tie.Need-returns Inv-loop μ-loop
-returns c = let i = c .before .before .before .before .before .before .before .before .loop .inv in loop-halts (c .before .before .before .before .before .before .before .before .before .before .args .n) (c .before .before .before .before .before .before .before .before .before .before .args .s .now) (i .1 .0) (c .before .before .before .before .before .before .before .before .before .before .args .stop) (c .before .before .before .before .before .before .before .before .loop .run) (c .before .before .before .before .before .before .before .before .loop .opens) (c .before .before .before .before .before .before .before .before .loop .t) (i .1 .1 .1 .stands) (c .before .before .before .before .before .spots-of .result) (c .before .before .before .before .before .spots-of .ensures .0) (c .before .before .take-turn .result) _ (c .before .before .take-turn .ensures) (not-true _ (c .if2 .taken)) (c .before .before .before .before .before .before .before .before .loop .from) (c .before .before .before .before .before .before .before .before .loop .deep)
+returns c = let i = c .before .before .before .before .before .before .before .before .loop .inv in loop-halts (c .before .before .before .before .before .before .before .before .before .before .args .n) (c .before .before .before .before .before .before .before .before .before .before .args .s .now) (i .1 .0) (c .before .before .before .before .before .before .before .before .before .before .args .stop) (c .before .before .before .before .before .before .before .before .loop .run) (c .before .before .before .before .before .before .before .before .loop .opens) (c .before .before .before .before .before .before .before .before .loop .t) (i .1 .1 .1 .stands) (c .before .before .before .before .before .spots-of .result) (c .before .before .before .before .before .spots-of .ensures .0) (c .before .before .take-turn .result) _ (c .before .before .take-turn .ensures) (not-true _ (c .if2 .taken)) (c .before .before .before .before .before .before .if1 .taken) (c .before .before .before .before .before .before .before .before .loop .from) (c .before .before .before .before .before .before .before .before .loop .deep)
 
 -- src/lib.rt:1608:26
 inside-requires : tie.Need-inside-requires Inv-loop μ-loop

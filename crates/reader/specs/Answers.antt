@@ -1,0 +1,40 @@
+-- What the calls answer, as the paper has it: refusals with the paper's number of each cause, verdicts, extents. Assumes nothing.
+use mathlib.Core.Bool.{Bool, true, false, cond}
+use mathlib.Core.List.{List}
+use Prim.Native.Nat.{ℕ}
+use Rattle.reading.specs.Causes as C
+use Rattle.reading.specs.Calls as R
+use Rattle.reader.specs.Cite.{causeOf}
+use Rattle.reader.specs.declared.Refusal.{Refusal}
+use Rattle.reader.specs.declared.Checked.{Checked}
+use Rattle.reader.specs.declared.Checking.{Checking}
+use Rattle.reader.specs.declared.Checking.the-variants as K
+use Rattle.reader.specs.declared.Verdict.{Verdict}
+use Rattle.reader.specs.declared.Verdict.the-variants.{No, Yes, NotYet}
+use Rattle.reader.specs.declared.Deciding.{Deciding}
+use Rattle.reader.specs.declared.Deciding.the-variants as D
+use Rattle.reader.specs.declared.Filling.{Filling}
+use Rattle.reader.specs.declared.Filling.the-variants as F
+
+abbrev pub refusalOf : Refusal → C.Refusal
+refusalOf r = C.refusal (causeOf (r .cause)) (r .stream) (r .byte)
+
+abbrev pub checkedAs : Checked → R.Checked
+checkedAs x = record { size = x .size; covered = x .covered; extent = cond (x .complete) R.complete R.cut }
+
+abbrev pub checkingOf : Checking → C.Result R.Checked
+checkingOf (K.Refused r) = C.refused (refusalOf r)
+checkingOf (K.Done x) = C.done (checkedAs x)
+
+abbrev pub verdictsOf : Verdict → R.Verdict
+verdictsOf No = R.isNo
+verdictsOf Yes = R.isYes
+verdictsOf NotYet = R.notYet
+
+abbrev pub decidingOf : Deciding → C.Result R.Verdict
+decidingOf (D.Refused r) = C.refused (refusalOf r)
+decidingOf (D.Done v) = C.done (verdictsOf v)
+
+abbrev pub fillingOf : Filling → C.Result ℕ
+fillingOf (F.Refused r) = C.refused (refusalOf r)
+fillingOf (F.Done k) = C.done k

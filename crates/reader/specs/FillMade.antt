@@ -1,0 +1,132 @@
+-- Filling a truth table node by node, from what the loop reaches. Assumes nothing.
+use mathlib.Core.Path.{_≡_, refl, sym, ap, ap₂, _∙_, subst}
+use mathlib.Core.Logic.{⊎-elim}
+use mathlib.Core.Bool.{Bool, true, false, cond}
+use mathlib.Core.List.{List, []}
+use mathlib.Core.Option.{none, some}
+use Prim.Native.Nat.{ℕ, suc, _+_, _-_, _/_, _<_, _≤_, _^_}
+use native.Mathlib.Omega.{arith}
+use lib.ListN.{length, replicate}
+use lib.Pow.{pow-mono}
+use Rattle.lists.specs.Lists.{differ, decide-le}
+use Rattle.reading.specs.Nodes.{Node, child}
+use Rattle.reading.specs.Reading.{State, Fault, Reading, reading}
+use Rattle.reading.specs.Deciding.{Trace, traceOn, trace}
+use Rattle.reading.specs.Calls.{bytesFrom}
+use Rattle.reading.specs.Covered.{parity}
+use Rattle.reading.specs.Settled.{never-some}
+use Rattle.reading.specs.Passing.{startTrace}
+use Rattle.reading.specs.Filling.{putNode}
+use Rattle.reading.specs.Reaching.{At, at-fault, at-end, at-end-trace, at-within, at-grows, at-most, at-passes, filled-first, filled-alike, filled-on}
+use Rattle.reader.specs.Cite.{refOf, causeOf, openList}
+use Rattle.reader.specs.TableLaws.{tableOf}
+use Rattle.reader.specs.Simulation.{child-of}
+use Rattle.reader.specs.Advance.{stateAt, HaltsAt}
+use Rattle.reader.specs.Loop.{firstRun, firstOpens, Stands, stands-first, PassedLast, Ends, ReachedBy}
+use Rattle.reader.specs.Truths.{putNodeIn}
+use Rattle.reader.specs.TruthLaws.{put-truths}
+use Rattle.reader.specs.CallsMade.{edgeAt}
+use Rattle.reader.specs.declared.Edge.{Edge}
+use Rattle.reader.specs.declared.Opens.{Opens}
+use Rattle.reader.specs.declared.Run.{Run}
+use Rattle.reader.specs.declared.Reached.{Reached}
+
+-- What filling keeps: the truth table has the words that are covered where the loop stands.
+pub record FilledTo (n : ℕ) (bytes : List ℕ) (r : Run) (o : Opens) (t : List (List ℕ)) (v : List ℕ) : Type 0 where
+  pub stands : Stands n bytes r o t
+  pub words : v ≡ bytesFrom (2 ^ n / 8) n (traceOn (stands .steps) n bytes startTrace) 0
+
+-- At the start it is all zero.
+filled-start : (n : ℕ) (bytes : List ℕ) (t : List (List ℕ)) (v : List ℕ) → 1024 ≤ length t → v ≡ replicate (2 ^ n / 8) 0 → FilledTo n bytes firstRun firstOpens t v
+unfolding stands-first
+filled-start n bytes t v room e = record { stands = stands-first n bytes t room; words = e ∙ sym (filled-first n bytes (2 ^ n / 8)) }
+
+-- So for code that begins there.
+pub filled-begun : (n : ℕ) (bytes : List ℕ) (t : List (List ℕ)) (v : List ℕ) (r : Run) (o : Opens) → 1024 ≤ length t → v ≡ replicate (2 ^ n / 8) 0 → r ≡ firstRun → o ≡ firstOpens → FilledTo n bytes r o t v
+filled-begun n bytes t v r o room e re oe = subst (λ (x : Run). FilledTo n bytes x o t v) (sym re) (subst (λ (y : Opens). FilledTo n bytes firstRun y t v) (sym oe) (filled-start n bytes t v room e))
+
+-- x: what the loop reaches from where r stands, with r's covered count as its stop
+module _ (n : ℕ) (bytes : List ℕ) (r : Run) (o : Opens) (t : List (List ℕ)) (v : List ℕ) (h : FilledTo n bytes r o t v)
+    (x : Reached) (u : List (List ℕ)) (reached : ReachedBy n bytes (r .covered) x u) where
+  abbrev s : State
+  s = stateAt r o t
+
+  abbrev s′ : State
+  s′ = stateAt (x .run) (x .opens) u
+
+  abbrev filled : ℕ → List ℕ
+  filled f = bytesFrom (2 ^ n / 8) n (traceOn f n bytes startTrace) 0
+
+  here : At n bytes (h .stands .steps) s
+  here = h .stands .here
+
+  there : At n bytes (reached .stands .steps) s′
+  there = reached .stands .here
+
+  -- Where reading halts without a fault, the truth table is the stream's.
+  pub words-whole : x .halted ≡ true → reading n bytes .fault ≡ none → v ≡ bytesFrom (2 ^ n / 8) n (trace n bytes) 0
+  words-whole e clean = let k = subst (Ends n bytes (r .covered) x u (reached .stands .steps)) e (reached .ends) in go (x .faulty) (k .0) (k .1)
+    where
+      go : (b : Bool) → x .run .covered ≤ r .covered → HaltsAt n bytes s′ b (x .cause) (x .byte) → v ≡ bytesFrom (2 ^ n / 8) n (trace n bytes) 0
+      go true l k = never-some (record { cause = causeOf (x .cause); byte = x .byte }) (sym clean ∙ ap (λ (y : Reading). y .fault) (at-fault n bytes (reached .stands .steps) s′ (causeOf (x .cause)) (x .byte) there k))
+      go false l k =
+          let most : r .covered ≤ x .run .covered = at-most n bytes (h .stands .steps) s s′ here (at-end n bytes (reached .stands .steps) s′ there k) in
+          h .words
+          ∙ filled-alike n bytes (h .stands .steps) (reached .stands .steps) s s′ here there (omega (arith, l, most)) (2 ^ n / 8)
+          ∙ ap (λ (y : Trace). bytesFrom (2 ^ n / 8) n y 0) (sym (at-end-trace n bytes (reached .stands .steps) s′ there k))
+
+  module _ (e : x .halted ≡ false) where
+    past : (r .covered < x .run .covered) × PassedLast n bytes (x .run .mark) (reached .stands .steps) (r .covered) (x .from) (x .deep)
+    past = subst (Ends n bytes (r .covered) x u (reached .stands .steps)) e (reached .ends)
+
+    abbrev p : PassedLast n bytes (x .run .mark) (reached .stands .steps) (r .covered) (x .from) (x .deep)
+    p = past .1
+
+    there-last : At n bytes (suc (p .before)) s′
+    there-last = subst (λ (f : ℕ). At n bytes f s′) (p .last) there
+
+    -- what is passed begins where the table is filled to
+    from-here : x .from ≡ r .covered
+    from-here = ⊎-elim
+        (λ (l : h .stands .steps ≤ p .before). omega (arith, p .low, p .covered, at-grows n bytes (h .stands .steps) (p .before) s (p .state) l here (p .here)))
+        (λ (l : p .before < h .stands .steps). absurd (omega (arith, past .0, at-grows n bytes (suc (p .before)) (h .stands .steps) s′ s (omega (arith, l)) there-last here)))
+        (decide-le (h .stands .steps) (p .before))
+
+    -- The words that are passed fit. m: the options below
+    pub words-fit : (m : ℕ) → n ≤ 16 → m ≡ n - x .deep → (m ≤ 16) × ((x .deep + 1 + m ≤ 64) × (x .from + 2 ^ m ≤ 65536))
+    words-fit m few e =
+        let a = at-passes n bytes (p .before) (p .state) s′ (p .here) there-last (omega (arith, p .covered, p .low, past .0)) in
+        let b : x .from + 2 ^ m ≡ x .run .covered = sym (a ∙ ap₂ (λ (c d : ℕ). c + 2 ^ (n - d)) (p .covered) (p .depth) ∙ ap (λ (d : ℕ). x .from + 2 ^ d) (sym e)) in
+        (omega (arith, few, e), (omega (arith, few, e, p .shallow), omega (arith, b, at-within n bytes (reached .stands .steps) s′ there, pow-mono {i = n} {j = 16} few)))
+
+    pub words-shallow : x .deep ≤ 32
+    words-shallow = p .shallow
+
+    -- the node that is passed fills its words
+    words-more : (w : List ℕ) → 3 ≤ n → w ≡ putNodeIn (n - x .deep) (tableOf u (x .run .size)) (x .deep + 1) (edgeAt x .number) (edgeAt x .turned) (x .from) v → FilledTo n bytes (x .run) (x .opens) u w
+    words-more w three k = record { stands = reached .stands; words = k ∙ ap (putNodeIn (n - x .deep) (tableOf u (x .run .size)) (x .deep + 1) (edgeAt x .number) (edgeAt x .turned) (x .from)) before-words ∙ put-truths (n - x .deep) (tableOf u (x .run .size)) (x .deep + 1) (edgeAt x .number) (edgeAt x .turned) (x .from) (2 ^ n / 8) n (traceOn (p .before) n bytes startTrace) (traceOn (reached .stands .steps) n bytes startTrace) after-words }
+      where
+        before-words : v ≡ filled (p .before)
+        before-words = h .words ∙ filled-alike n bytes (h .stands .steps) (p .before) s (p .state) here (p .here) (sym (p .covered ∙ from-here)) (2 ^ n / 8)
+
+        N : List Node → ℕ → ℕ → ℕ → List ℕ
+        N tb d a i = putNode (n - d) tb (d + 1) a (differ (parity (openList (x .opens))) (x .run .complement)) i (filled (p .before))
+
+        after-words : filled (reached .stands .steps) ≡ N (tableOf u (x .run .size)) (x .deep) (x .run .last .number) (x .from)
+        after-words =
+            ap filled (p .last)
+            ∙ filled-on n bytes (p .before) (p .state) s′ (p .here) there-last (omega (arith, p .covered, p .low, past .0)) three
+            ∙ ap (λ (b : Bool). N (cond b [] (tableOf u (x .run .size))) (length (p .state .place .opens)) (child (refOf (x .run .last))) (p .state .covered)) (p .later)
+            ∙ ap₂ (λ (d i : ℕ). N (tableOf u (x .run .size)) d (child (refOf (x .run .last))) i) (p .depth) (p .covered)
+            ∙ ap (λ (a : ℕ). N (tableOf u (x .run .size)) (x .deep) a (x .from)) (sym (child-of (x .run .last)))
+
+    -- THE NODE THAT IS PASSED fills its words: what code has for the options below it, its edge and the tables after.
+    pub words-turn : (m : ℕ) (e : Edge) (w : List ℕ) (u′ : List (List ℕ)) → 3 ≤ n → m ≡ n - x .deep → e ≡ edgeAt x
+        → w ≡ putNodeIn m (tableOf u (x .run .size)) (x .deep + 1) (e .number) (e .turned) (x .from) v → u′ ≡ u → FilledTo n bytes (x .run) (x .opens) u′ w
+    words-turn m e w u′ three me ee k ue =
+        subst (λ (y : List (List ℕ)). FilledTo n bytes (x .run) (x .opens) y w) (sym ue)
+        (words-more w three (k ∙ ap₂ (λ (i : ℕ) (a : Edge). putNodeIn i (tableOf u (x .run .size)) (x .deep + 1) (a .number) (a .turned) (x .from) v) me ee))
+
+    -- More words are covered.
+    pub words-less : 2 ^ n - x .run .covered < 2 ^ n - r .covered
+    words-less = omega (arith, past .0, at-within n bytes (reached .stands .steps) s′ there)

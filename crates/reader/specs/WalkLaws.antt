@@ -1,0 +1,123 @@
+-- Going down the nodes of the table as code does: an edge to a child at a time; and the complements around a place. Assumes nothing.
+use mathlib.Core.Path.{_≡_, refl, sym, ap, ap₂, _∙_}
+use mathlib.Core.Logic.{⊎-elim}
+use mathlib.Core.Bool.{Bool, true, false, cond}
+use mathlib.Core.List.{List, _∷_}
+use Prim.Native.Nat.{ℕ, suc, _+_, _-_, _*_, _%_, _^_, _<_, _≤_}
+use native.Mathlib.Numerals.{add-one}
+use native.Mathlib.Omega.{arith}
+use lib.ListN.{getD}
+use borrow.Author.Tests.{ne-eqb, lt-ltb, le-ltb}
+use Rattle.lists.specs.Lists.{differ, decide-le}
+use Rattle.reading.specs.Nodes.{Node, node}
+use Rattle.reading.specs.Element as T
+use Rattle.reading.specs.Deciding.{options, Decision, undecided, decided, complemented}
+use Rattle.reading.specs.Words.{options-low, options-high, complemented-twice}
+use Rattle.reading.specs.Covered.{parity}
+use Rattle.reading.specs.TableWalk.{rowWalk, rowWalk-zero, rowWalk-skip, rowWalk-go}
+use Rattle.reader.specs.Cite.{refOf, openOf, insideOpen, opensOf}
+use Rattle.reader.specs.Simulation.{rowNode}
+use Rattle.reader.specs.Table.{getIn}
+use Rattle.reader.specs.TableLaws.{tableOf, table-node}
+use Rattle.reader.specs.Taking.{few-words}
+use Rattle.reader.specs.Truths.{firstEdge, secondEdge}
+use Rattle.reader.specs.declared.Edge.{Edge}
+use Rattle.reader.specs.declared.Open.{Open}
+use Rattle.reader.specs.declared.Row.{Row}
+
+-- ---- The walk --------------------------------------------------------------------------------
+
+-- the node of level i that e stands for, under the options from level i on
+abbrev pub edgeWalk : List Node → ℕ → Edge → List Bool → Decision
+edgeWalk t i e os = complemented (e .turned) (rowWalk t i (e .number) os)
+
+-- The terminal decides no, turned about or not.
+pub walk-terminal : (t : List Node) (i : ℕ) (e : Edge) (os : List Bool) → e .number ≡ 0 → decided (e .turned) ≡ edgeWalk t i e os
+walk-terminal t i e os z = sym (ap (λ (c : ℕ). complemented (e .turned) (rowWalk t i c os)) z ∙ ap (complemented (e .turned)) (rowWalk-zero t i os) ∙ no (e .turned))
+  where
+    no : (b : Bool) → complemented b (decided false) ≡ decided b
+    no true = refl
+    no false = refl
+
+-- A number with no option left decides nothing.
+pub walk-over : (t : List Node) (i : ℕ) (e : Edge) (m w : ℕ) → (e .number ≡ 0 → ⊥) → m ≡ 0 → undecided ≡ edgeWalk t i e (options m w)
+unfolding rowWalk options
+walk-over t i e m w some z = sym (ap (λ (k : ℕ). edgeWalk t i e (options k w)) z ∙ rw (ne-eqb (e .number) 0 some) refl)
+
+module _ (t : List (List ℕ)) (z i : ℕ) (e : Edge) (x : Row) (some : e .number ≡ 0 → ⊥) (got : x ≡ getIn t z (e .number)) where
+  here : node (tableOf t z) (e .number) ≡ rowNode x
+  here = table-node t z (e .number) ∙ ap rowNode (sym got)
+
+  level-here : node (tableOf t z) (e .number) .level ≡ x .level
+  level-here = ap (λ (y : Node). y .level) here
+
+  -- inside brackets the option is passed over
+  skipped : (o : Bool) (os : List Bool) → i < x .level → edgeWalk (tableOf t z) i e (o ∷ os) ≡ edgeWalk (tableOf t z) (i + 1) e os
+  skipped o os h = ap (complemented (e .turned)) (rowWalk-skip (tableOf t z) i (e .number) o os some (omega (arith, level-here, h)))
+
+  -- the option picks the child
+  gone : (o : Bool) (os : List Bool) → x .level ≤ i
+      → rowWalk (tableOf t z) i (e .number) (o ∷ os) ≡ cond o (complemented (x .complement) (rowWalk (tableOf t z) (i + 1) (x .second) os)) (rowWalk (tableOf t z) (i + 1) (x .first) os)
+  gone o os h =
+      rowWalk-go (tableOf t z) i (e .number) o os some (omega (arith, level-here, h))
+      ∙ ap (λ (y : Node). cond o (complemented (y .complement) (rowWalk (tableOf t z) (i + 1) (y .second) os)) (rowWalk (tableOf t z) (i + 1) (y .first) os)) here
+
+  walk-first : (os : List Bool) → edgeWalk (tableOf t z) i e (false ∷ os) ≡ edgeWalk (tableOf t z) (i + 1) (firstEdge x i e) os
+  walk-first os = ⊎-elim
+      (λ (h : x .level ≤ i). rw (ne-eqb (e .number) 0 some, le-ltb i (x .level) h) (ap (complemented (e .turned)) (gone false os h)))
+      (λ (h : i < x .level). rw (ne-eqb (e .number) 0 some, lt-ltb i (x .level) h) (skipped false os h))
+      (decide-le (x .level) i)
+
+  walk-second : (os : List Bool) → edgeWalk (tableOf t z) i e (true ∷ os) ≡ edgeWalk (tableOf t z) (i + 1) (secondEdge x i e) os
+  walk-second os = ⊎-elim
+      (λ (h : x .level ≤ i). rw (ne-eqb (e .number) 0 some, le-ltb i (x .level) h) (ap (complemented (e .turned)) (gone true os h) ∙ complemented-twice (e .turned) (x .complement) (rowWalk (tableOf t z) (i + 1) (x .second) os)))
+      (λ (h : i < x .level). rw (ne-eqb (e .number) 0 some, lt-ltb i (x .level) h) (skipped true os h))
+      (decide-le (x .level) i)
+
+  -- A WORD BELOW THE HALF goes on in the first child, any other in the second. half: as code has 2 ^ (m - 1)
+  module _ (m w : ℕ) (more : m ≡ 0 → ⊥) (most : m ≤ 32) where
+    abbrev half : ℕ
+    half = 1 * 2 ^ (m - 1) % 18446744073709551616
+
+    one-more : suc (m - 1) ≡ m
+    one-more = omega (arith, more)
+
+    -- u, f: the table and the child as the calls before leave them
+    pub walk-low : (u : List (List ℕ)) (f : Edge) → u ≡ t → f ≡ firstEdge x i e → w < half
+        → edgeWalk (tableOf u z) (i + 1) f (options (m - 1) w) ≡ edgeWalk (tableOf t z) i e (options m w)
+    walk-low u f same child h =
+        ap₂ (λ (v : List (List ℕ)) (g : Edge). edgeWalk (tableOf v z) (i + 1) g (options (m - 1) w)) same child
+        ∙ sym (walk-first (options (m - 1) w))
+        ∙ ap (edgeWalk (tableOf t z) i e) (sym (options-low (m - 1) w (omega (arith, few-words m 1 most, h))) ∙ ap (λ (k : ℕ). options k w) one-more)
+
+    pub walk-high : (u : List (List ℕ)) (f : Edge) → u ≡ t → f ≡ secondEdge x i e → half ≤ w
+        → edgeWalk (tableOf u z) (i + 1) f (options (m - 1) (w - half)) ≡ edgeWalk (tableOf t z) i e (options m w)
+    walk-high u f same child h =
+        ap₂ (λ (v : List (List ℕ)) (g : Edge). edgeWalk (tableOf v z) (i + 1) g (options (m - 1) (w - half))) same child
+        ∙ ap (λ (k : ℕ). edgeWalk (tableOf t z) (i + 1) (secondEdge x i e) (options (m - 1) (w - k))) (few-words m 1 most)
+        ∙ sym (walk-second (options (m - 1) (w - 2 ^ (m - 1))))
+        ∙ ap (edgeWalk (tableOf t z) i e) (sym (options-high (m - 1) w (omega (arith, few-words m 1 most, h))) ∙ ap (λ (k : ℕ). options k w) one-more)
+
+-- ---- The complements around a place ----------------------------------------------------------
+
+pub parity-none : (ns : List Open) → false ≡ parity (opensOf ns 0)
+unfolding parity opensOf
+parity-none ns = refl
+
+parity-suc : (ns : List Open) (i : ℕ) → parity (opensOf ns (suc i)) ≡ cond (getD ns i insideOpen .second) (differ (getD ns i insideOpen .turned) (parity (opensOf ns i))) (parity (opensOf ns i))
+unfolding parity opensOf
+parity-suc ns i = go (getD ns i insideOpen)
+  where
+    go : (o : Open) → parity (openOf o ∷ opensOf ns i) ≡ cond (o .second) (differ (o .turned) (parity (opensOf ns i))) (parity (opensOf ns i))
+    go o = by (o .second)
+      where
+        by : (b : Bool) → parity (cond b (T.inSecond (refOf (o .first)) (o .turned)) T.inFirst ∷ opensOf ns i) ≡ cond b (differ (o .turned) (parity (opensOf ns i))) (parity (opensOf ns i))
+        by true = refl
+        by false = refl
+
+-- One open node more: the edge to its second child counts, if it is there that the place is.
+pub parity-more : (ns : List Open) (i : ℕ) (b : Bool) → getD ns i insideOpen .second ≡ b
+    → cond b (differ (getD ns i insideOpen .turned) (parity (opensOf ns i))) (parity (opensOf ns i)) ≡ parity (opensOf ns (i + 1))
+parity-more ns i b e =
+    sym (parity-suc ns i ∙ ap (λ (c : Bool). cond c (differ (getD ns i insideOpen .turned) (parity (opensOf ns i))) (parity (opensOf ns i))) e)
+    ∙ ap (λ (k : ℕ). parity (opensOf ns k)) (sym (add-one i))
