@@ -20,7 +20,7 @@ use Rattle.lists.specs.Looks.{look-inside}
 use Rattle.reading.specs.StepLaws.{AheadBy, digitPlace, step-ahead}
 use Rattle.reading.specs.ParentCounts.{parents}
 use Rattle.reader.specs.Capped.{capOutcome, capStep}
-use Rattle.reader.specs.Cite.{markOf, refOf, elementOf, causeOf, outcomeOf, numberOf, openOf, insideOpen, opensOf, deepOf, openList, sideOf, lowAt, highAt, lookAt, lookOf, Looked}
+use Rattle.reader.specs.Cite.{markOf, refOf, elementOf, causeOf, outcomeOf, outcomeIn, numberOf, openOf, insideOpen, opensOf, deepOf, openList, sideOf, lowAt, highAt, lookAt, lookOf, Looked}
 use Rattle.reader.specs.OpenLaws.{open-length, low-suc, Begun, Firm, glance-firm}
 use Rattle.reader.specs.PlaceLaws.{deep-self, look-depth, place-step}
 use Rattle.reader.specs.declared.Cause.{Cause}
@@ -419,7 +419,7 @@ module _ (n : ℕ) (bytes : List ℕ) (r : Run) (o : Opens) (t : List (List ℕ)
   onto = T.place (x .at) (markOf (x .mark)) (openList after-look) (refOf (r .last))
 
   -- a step of reading by the look
-  advance-look : barredColon s b ≡ false → advance n bytes s ≡ after n s (firstDigit s b) (outcomeOf (x .outcome)) onto
+  advance-look : barredColon s b ≡ false → advance n bytes s ≡ after n s (firstDigit s b) (outcomeOf (outcomeIn x)) onto
   advance-look free =
       let p : Place = record { at = r .at; mark = r .mark; opens = o; last = r .last } in
       let e = place-step bytes p (kept .nodes) (lowAt (o .depth)) (highAt (o .depth)) refl refl x seen in
@@ -428,17 +428,17 @@ module _ (n : ℕ) (bytes : List ℕ) (r : Run) (o : Opens) (t : List (List ℕ)
       ∙ ap (λ (y : T.Step). after n s (firstDigit s b) (y .outcome) (y .place)) (sym e)
 
   -- a fault of the step is the fault of the theory's reading
-  advance-fault : (c : Cause) (i : ℕ) → x .outcome ≡ Fault c i → barredColon s b ≡ false → advance n bytes s ≡ fails s (causeOf c) i
+  advance-fault : (c : Cause) (i : ℕ) → outcomeIn x ≡ Fault c i → barredColon s b ≡ false → advance n bytes s ≡ fails s (causeOf c) i
   unfolding after
   advance-fault c i e free = advance-look free ∙ ap (λ (y : Outcome). after n s (firstDigit s b) (outcomeOf y) onto) e
 
   -- where the bytes run out the theory's reading stays
-  advance-out : x .outcome ≡ RanOut → barredColon s b ≡ false → advance n bytes s ≡ goes s
+  advance-out : outcomeIn x ≡ RanOut → barredColon s b ≡ false → advance n bytes s ≡ goes s
   unfolding after
   advance-out e free = advance-look free ∙ ap (λ (y : Outcome). after n s (firstDigit s b) (outcomeOf y) onto) e
 
   -- an element ends behind its place
-  ahead-look : (e : Element) → x .outcome ≡ Got e → r .at < length bytes → r .at < x .at
+  ahead-look : (e : Element) → outcomeIn x ≡ Got e → r .at < length bytes → r .at < x .at
   ahead-look e got l =
       let p : Place = record { at = r .at; mark = r .mark; opens = o; last = r .last } in
       let j = place-step bytes p (kept .nodes) (lowAt (o .depth)) (highAt (o .depth)) refl refl x seen in
@@ -447,7 +447,7 @@ module _ (n : ℕ) (bytes : List ℕ) (r : Run) (o : Opens) (t : List (List ℕ)
       (subst (λ (z : T.Step). AheadBy (r .at) (digitPlace (r .at) b) (length bytes) (z .outcome) (z .place .at)) (sym j) (cap-ahead (r .at) (digitPlace (r .at) b) (length bytes) (T.step (s .place) bytes .outcome) (T.step (s .place) bytes .place .at) k)) .0
 
   -- the look gives the element e
-  module _ (e : Element) (got : x .outcome ≡ Got e) (young : Young r t) where
+  module _ (e : Element) (got : outcomeIn x ≡ Got e) (young : Young r t) where
     -- the look has the element's number
     number-in : x .number ≡ numberIn e
     number-in = ap (λ (u : Looked). u .number) seen ∙ sym (ap (λ (u : Looked). numberOf (u .outcome)) seen) ∙ ap (λ (u : Outcome). numberOf (outcomeOf u)) got ∙ go e
@@ -569,11 +569,11 @@ pub data TurnMade (n : ℕ) (bytes : List ℕ) (r : Run) (d : ℕ) (low : Open) 
   past : length bytes ≤ r .at → y ≡ stayed r d low false WrongByte 0 → u ≡ t → TurnMade n bytes r d low t y u
   barred : barredBy t r (getD bytes (r .at) 0) ≡ true → y ≡ stayed r d low true NotStorable (r .at) → u ≡ t → TurnMade n bytes r d low t y u
   out : barredBy t r (getD bytes (r .at) 0) ≡ false → (x : Look) → lookOf x ≡ lookAt bytes (r .at) (markOf (r .mark)) (r .last) d low
-      → x .outcome ≡ RanOut → y ≡ stayed r d low false WrongByte 0 → u ≡ t → TurnMade n bytes r d low t y u
+      → outcomeIn x ≡ RanOut → y ≡ stayed r d low false WrongByte 0 → u ≡ t → TurnMade n bytes r d low t y u
   fault : barredBy t r (getD bytes (r .at) 0) ≡ false → (x : Look) → lookOf x ≡ lookAt bytes (r .at) (markOf (r .mark)) (r .last) d low
-      → (c : Cause) (i : ℕ) → x .outcome ≡ Fault c i → y ≡ stayed r d low true c i → u ≡ t → TurnMade n bytes r d low t y u
+      → (c : Cause) (i : ℕ) → outcomeIn x ≡ Fault c i → y ≡ stayed r d low true c i → u ≡ t → TurnMade n bytes r d low t y u
   took : r .at < length bytes → barredBy t r (getD bytes (r .at) 0) ≡ false → (x : Look) → lookOf x ≡ lookAt bytes (r .at) (markOf (r .mark)) (r .last) d low
-      → (e : Element) → x .outcome ≡ Got e → y ≡ wentBy (takenAt n bytes r d low t x e) x → u ≡ lentAt n bytes r d low t x e → TurnMade n bytes r d low t y u
+      → (e : Element) → outcomeIn x ≡ Got e → y ≡ wentBy (takenAt n bytes r d low t x e) x → u ≡ lentAt n bytes r d low t x e → TurnMade n bytes r d low t y u
 
 -- reading halts at s: at a fault, or since the bytes ran out
 abbrev pub HaltsAt : ℕ → List ℕ → State → Bool → Cause → ℕ → Type 0
@@ -593,7 +593,7 @@ module _ (n : ℕ) (bytes : List ℕ) (r : Run) (o : Opens) (t : List (List ℕ)
   free : barredBy t r (getD bytes (r .at) 0) ≡ false → barredColon (stateAt r o t) (byteAt bytes (stateAt r o t)) ≡ false
   free h = barred-rows r o t (byteAt bytes (stateAt r o t)) ∙ h
 
-  comes-took : (x : Look) → lookOf x ≡ lookAt bytes (r .at) (markOf (r .mark)) (r .last) (o .depth) (lowOf o) → (e : Element) → x .outcome ≡ Got e
+  comes-took : (x : Look) → lookOf x ≡ lookAt bytes (r .at) (markOf (r .mark)) (r .last) (o .depth) (lowOf o) → (e : Element) → outcomeIn x ≡ Got e
       → r .at < length bytes → barredBy t r (getD bytes (r .at) 0) ≡ false → ComesBy (wentBy (takenAt n bytes r (o .depth) (lowOf o) t x e) x) (lentAt n bytes r (o .depth) (lowOf o) t x e)
   comes-took x seen e got l h = go (takenAt n bytes r (o .depth) (lowOf o) t x e .faulty) refl
     where

@@ -24,6 +24,8 @@ use Rattle.reader.specs.declared.Top.{Top}
 use Rattle.reader.specs.declared.Top.the-variants.{Empty, Inner, Outer}
 use Rattle.reader.specs.declared.Stage.{Stage}
 use Rattle.reader.specs.declared.Stage.the-variants.{First, Node, Ended, Past}
+use Rattle.reader.specs.declared.Sight.{Sight}
+use Rattle.reader.specs.declared.Sight.the-variants as S
 use Rattle.reader.specs.declared.Glance.{Glance}
 use Rattle.reader.specs.declared.Num.{Num}
 use Rattle.reader.specs.declared.Open.{Open}
@@ -164,6 +166,52 @@ turnedBy G.pop = false
 turnedBy G.secondPush = false
 turnedBy (G.second t) = t
 
+-- the element that a step comes to, of the number v (none where it comes to no element)
+abbrev pub elementIn : Sight → ℕ → Element
+elementIn S.Opening v = Opening
+elementIn S.Number v = Number v
+elementIn S.Constant v = Constant
+elementIn S.Turn v = Turn
+elementIn S.Closing v = Closing
+elementIn S.Storing v = Storing v
+elementIn S.End v = End
+elementIn S.Fault v = End
+elementIn S.Out v = End
+
+-- what a step comes to, with the element's number v or the fault
+abbrev pub sighted : Sight → ℕ → Cause → ℕ → Outcome
+sighted S.Opening v c b = Got Opening
+sighted S.Number v c b = Got (Number v)
+sighted S.Constant v c b = Got Constant
+sighted S.Turn v c b = Got Turn
+sighted S.Closing v c b = Got Closing
+sighted S.Storing v c b = Got (Storing v)
+sighted S.End v c b = Got End
+sighted S.Fault v c b = Fault c b
+sighted S.Out v c b = RanOut
+
+abbrev pub isFault : Sight → Bool
+isFault S.Opening = false
+isFault S.Number = false
+isFault S.Constant = false
+isFault S.Turn = false
+isFault S.Closing = false
+isFault S.Storing = false
+isFault S.End = false
+isFault S.Fault = true
+isFault S.Out = false
+
+abbrev pub isOut : Sight → Bool
+isOut S.Opening = false
+isOut S.Number = false
+isOut S.Constant = false
+isOut S.Turn = false
+isOut S.Closing = false
+isOut S.Storing = false
+isOut S.End = false
+isOut S.Fault = false
+isOut S.Out = true
+
 -- a glance as code holds it, the change as numbers
 pub record Seen : Type 0 where
   pub outcome : T.Outcome
@@ -178,16 +226,16 @@ abbrev pub plain : ℕ → G.Glance → Seen
 plain d g = record { outcome = g .outcome; number = numberOf (g .outcome); at = g .at; mark = g .mark; depth = depthBy (g .change) d; second = secondBy (g .change); turned = turnedBy (g .change) }
 
 abbrev pub seenOf : Glance → Seen
-seenOf g = record { outcome = outcomeOf (g .outcome); number = g .number; at = g .at; mark = markOf (g .mark); depth = g .depth; second = g .second; turned = g .turned }
+seenOf g = record { outcome = outcomeOf (sighted (g .sight) (g .number) (g .cause) (g .byte)); number = g .number; at = g .at; mark = markOf (g .mark); depth = g .depth; second = g .second; turned = g .turned }
 
-abbrev pub gaveBy : Element → ℕ → ℕ → Mark → ℕ → Bool → Bool → Glance
-gaveBy e v at m d two t = record { outcome = Got e; number = v; at = at; mark = m; depth = d; second = two; turned = t }
+abbrev pub gaveBy : Sight → ℕ → ℕ → Mark → ℕ → Bool → Bool → Glance
+gaveBy e v at m d two t = record { sight = e; cause = WrongByte; byte = 0; number = v; at = at; mark = m; depth = d; second = two; turned = t }
 
 abbrev pub failedBy : ℕ → Mark → ℕ → Cause → ℕ → Glance
-failedBy at m d c b = record { outcome = Fault c b; number = 0; at = at; mark = m; depth = d; second = false; turned = false }
+failedBy at m d c b = record { sight = S.Fault; cause = c; byte = b; number = 0; at = at; mark = m; depth = d; second = false; turned = false }
 
 abbrev pub waitedBy : ℕ → Mark → ℕ → Glance
-waitedBy at m d = record { outcome = RanOut; number = 0; at = at; mark = m; depth = d; second = false; turned = false }
+waitedBy at m d = record { sight = S.Out; cause = WrongByte; byte = 0; number = 0; at = at; mark = m; depth = d; second = false; turned = false }
 
 -- a number or a bracket as a second child, or not
 abbrev pub numbered : Bool → G.Change
@@ -248,8 +296,12 @@ lookBy g last low = record { outcome = g .outcome; number = g .number; at = g .a
 abbrev pub lookAt : List ℕ → ℕ → T.Mark → Ref → ℕ → Open → Looked
 lookAt bytes at m last depth low = lookBy (plain (deepOf depth) (capGlance (G.glance bytes at m (sideOf (deepOf depth) low) (deepOf depth)))) last low
 
+-- what a look comes to
+abbrev pub outcomeIn : Look → Outcome
+outcomeIn x = sighted (x .sight) (x .number) (x .cause) (x .byte)
+
 abbrev pub lookOf : Look → Looked
-lookOf r = record { outcome = outcomeOf (r .outcome); number = r .number; at = r .at; mark = markOf (r .mark); depth = r .depth; low = r .low }
+lookOf r = record { outcome = outcomeOf (outcomeIn r); number = r .number; at = r .at; mark = markOf (r .mark); depth = r .depth; low = r .low }
 
 abbrev pub placeOf : Place → T.Place
 placeOf p = T.place (p .at) (markOf (p .mark)) (openList (p .opens)) (refOf (p .last))

@@ -12,7 +12,7 @@ use Rattle.reading.specs.Element as T
 use Rattle.reading.specs.Nodes as N
 use Rattle.reader.specs.Glance as G
 use Rattle.reader.specs.Capped.{capGlance, capStep}
-use Rattle.reader.specs.Cite.{refOf, markOf, outcomeOf, topsOf, depthBy, secondBy, turnedBy, Seen, plain, seenOf, opensOf, insideOpen, begunOpen, deepOf, sideOf, lowAt, highAt, Looked, lookBy, lookAt, lookOf, placeOf, steppedOf}
+use Rattle.reader.specs.Cite.{refOf, markOf, outcomeOf, sighted, outcomeIn, topsOf, depthBy, secondBy, turnedBy, Seen, plain, seenOf, opensOf, insideOpen, begunOpen, deepOf, sideOf, lowAt, highAt, Looked, lookBy, lookAt, lookOf, placeOf, steppedOf}
 use Rattle.reader.specs.OpenLaws.{open-length, open-top, open-change, glance-room, Pushes}
 use Rattle.reader.specs.declared.Open.{Open}
 use Rattle.reader.specs.declared.Ref.{Ref}
@@ -67,9 +67,9 @@ pub look-made : (bytes : List ℕ) (at : ℕ) (m : T.Mark) (last : Ref) (depth :
     → (d : ℕ) → d ≡ deepOf depth → (t : Top) → topsOf t ≡ sideOf d low
     → (g : Glance) → seenOf g ≡ plain d (capGlance (G.glance bytes at m (topsOf t) d))
     → (e : Open) → e ≡ cond (g .second) (begunOpen last (g .turned)) low
-    → lookOf (record { outcome = g .outcome; number = g .number; at = g .at; mark = g .mark; depth = g .depth; low = e }) ≡ lookAt bytes at m last depth low
+    → lookOf (record { sight = g .sight; cause = g .cause; byte = g .byte; number = g .number; at = g .at; mark = g .mark; depth = g .depth; low = e }) ≡ lookAt bytes at m last depth low
 look-made bytes at m last depth low d de t te g ge e ee =
-    ap (λ (x : Open). record { outcome = outcomeOf (g .outcome); number = g .number; at = g .at; mark = markOf (g .mark); depth = g .depth; low = x }) ee
+    ap (λ (x : Open). record { outcome = outcomeOf (sighted (g .sight) (g .number) (g .cause) (g .byte)); number = g .number; at = g .at; mark = markOf (g .mark); depth = g .depth; low = x }) ee
     ∙ ap (λ (y : Seen). lookBy y last low) (ge ∙ ap (λ (x : G.Top). plain d (capGlance (G.glance bytes at m x d))) te)
     ∙ ap (λ (k : ℕ). lookBy (plain k (capGlance (G.glance bytes at m (sideOf k low) k))) last low) de
 
@@ -94,7 +94,7 @@ module _ (bytes : List ℕ) (p : Place) (long : length (p .opens .nodes) ≡ 32)
 
   pub place-step : (i j : ℕ) → i ≡ lowAt (p .opens .depth) → j ≡ highAt (p .opens .depth)
       → (x : Look) → lookOf x ≡ lookAt bytes (p .at) (markOf (p .mark)) (p .last) (p .opens .depth) (entry i)
-      → steppedOf (record { outcome = x .outcome; place = record { at = x .at; mark = x .mark; opens = record { nodes = set (set ns j insideOpen) i (x .low); depth = x .depth }; last = p .last } })
+      → steppedOf (record { outcome = outcomeIn x; place = record { at = x .at; mark = x .mark; opens = record { nodes = set (set ns j insideOpen) i (x .low); depth = x .depth }; last = p .last } })
       ≡ capStep (T.step (placeOf p) bytes)
   place-step i j ie je x xe =
       let il : i ≡ lowAt d = ie ∙ low-deep (p .opens .depth) in
@@ -109,6 +109,6 @@ module _ (bytes : List ℕ) (p : Place) (long : length (p .opens .nodes) ≡ 32)
       ∙ ap (λ (y : Looked). opensOf (set (set ns (highAt d) insideOpen) (lowAt d) (y .low)) (deepOf (y .depth))) same
       ∙ ap (λ (k : ℕ). opensOf (set (set ns (highAt d) insideOpen) (lowAt d) (cond (secondBy c) (begunOpen (p .last) (turnedBy c)) (entry (lowAt d)))) k) (deep-self (depthBy c d) (depth-after c d most room))
       ∙ open-change ns long (p .last) c d most room in
-      ap (λ (l : List T.Open). record { outcome = outcomeOf (x .outcome); place = T.place (x .at) (markOf (x .mark)) l (refOf (p .last)) }) opens
+      ap (λ (l : List T.Open). record { outcome = outcomeOf (outcomeIn x); place = T.place (x .at) (markOf (x .mark)) l (refOf (p .last)) }) opens
       ∙ ap (λ (y : Looked). record { outcome = y .outcome; place = T.place (y .at) (y .mark) (G.changed c (refOf (p .last)) (opensOf ns d)) (refOf (p .last)) }) same
       ∙ sym by-look

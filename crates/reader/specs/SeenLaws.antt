@@ -13,9 +13,11 @@ use Rattle.reading.specs.Element as T
 use Rattle.reader.specs.Glance as G
 use Rattle.reader.specs.Capped.{capGlance}
 use Rattle.reader.specs.GlanceLaws.{glance-here}
-use Rattle.reader.specs.Cite.{kindNumber, kindsFrom, kindTable, elementOf, markOf, stageOf, isAfter, numberOf, plain, seenOf, gaveBy, numbered}
-use Rattle.reader.specs.declared.Element.{Element}
-use Rattle.reader.specs.declared.Element.the-variants.{Opening}
+use Rattle.reader.specs.Cite.{kindNumber, kindsFrom, kindTable, markOf, stageOf, isAfter, elementIn, sighted, isFault, isOut, plain, seenOf, gaveBy, numbered}
+use Rattle.reader.specs.declared.Cause.{Cause}
+use Rattle.reader.specs.declared.Outcome.the-variants.{Got, Fault, RanOut}
+use Rattle.reader.specs.declared.Sight.{Sight}
+use Rattle.reader.specs.declared.Sight.the-variants as S
 use Rattle.reader.specs.declared.Mark.{Mark}
 use Rattle.reader.specs.declared.Mark.the-variants.{Start, Lead, Begins, AfterDigit, AfterTwo, AfterOne, Over}
 use Rattle.reader.specs.declared.Stage.{Stage}
@@ -49,15 +51,43 @@ table-digit b h =
 
 -- ---- What an element comes to ----------------------------------------------------------------
 
--- an element that opens and closes nothing, of a second child or not
-pub seen-number : (e : Element) (at : ℕ) (m : Mark) (d : ℕ) (two : Bool) → seenOf (gaveBy e (numberOf (T.got (elementOf e))) at m d two false) ≡ plain d (G.gave (elementOf e) at (markOf m) (numbered two))
-seen-number e at m d true = refl
-seen-number e at m d false = refl
+-- a number or the constant, of a second child or not
+pub seen-value : (v at : ℕ) (m : Mark) (d : ℕ) (two : Bool) → seenOf (gaveBy S.Number v at m d two false) ≡ plain d (G.gave (T.number v) at (markOf m) (numbered two))
+seen-value v at m d true = refl
+seen-value v at m d false = refl
+
+pub seen-constant : (at : ℕ) (m : Mark) (d : ℕ) (two : Bool) → seenOf (gaveBy S.Constant 0 at m d two false) ≡ plain d (G.gave T.constant at (markOf m) (numbered two))
+seen-constant at m d true = refl
+seen-constant at m d false = refl
 
 -- a bracket
-pub seen-push : (at : ℕ) (d : ℕ) (two : Bool) → seenOf (gaveBy Opening 0 at Begins (d + 1) two false) ≡ plain d (G.gave T.opening at T.begins (cond two G.secondPush G.push))
+pub seen-push : (at : ℕ) (d : ℕ) (two : Bool) → seenOf (gaveBy S.Opening 0 at Begins (d + 1) two false) ≡ plain d (G.gave T.opening at T.begins (cond two G.secondPush G.push))
 seen-push at d true = refl
 seen-push at d false = refl
+
+-- ---- What a look comes to --------------------------------------------------------------------
+
+module _ (v : ℕ) (c : Cause) (b : ℕ) where
+  -- the outcome by the two tests
+  sight-ways : (w : Sight) → sighted w v c b ≡ cond (isFault w) (Fault c b) (cond (isOut w) RanOut (Got (elementIn w v)))
+  sight-ways S.Opening = refl
+  sight-ways S.Number = refl
+  sight-ways S.Constant = refl
+  sight-ways S.Turn = refl
+  sight-ways S.Closing = refl
+  sight-ways S.Storing = refl
+  sight-ways S.End = refl
+  sight-ways S.Fault = refl
+  sight-ways S.Out = refl
+
+  pub sight-fault : (w : Sight) → isFault w ≡ true → sighted w v c b ≡ Fault c b
+  sight-fault w e = sight-ways w ∙ rw e refl
+
+  pub sight-out : (w : Sight) → isFault w ≡ false → isOut w ≡ true → sighted w v c b ≡ RanOut
+  sight-out w e f = sight-ways w ∙ rw (e, f) refl
+
+  pub sight-got : (w : Sight) → isFault w ≡ false → isOut w ≡ false → sighted w v c b ≡ Got (elementIn w v)
+  sight-got w e f = sight-ways w ∙ rw (e, f) refl
 
 -- ---- The ways by the stage -------------------------------------------------------------------
 

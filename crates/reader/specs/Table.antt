@@ -10,6 +10,8 @@ use native.Mathlib.Numerals.{add-one}
 use borrow.Author.Tests.{ne-eqb, lt-ltb, le-ltb}
 use lib.Dec.{ltb, eqb}
 use lib.ListN.{length, getD, set, drop, replicate, drop-of-length-le, List·getD-eq-default}
+use mathlib.Core.Logic.{⊎-elim}
+use Rattle.lists.specs.Lists.{decide-le}
 use Rattle.reader.specs.declared.Row.{Row}
 
 abbrev pub noRow : Row
@@ -140,8 +142,15 @@ pub clear-more : (t : List (List ℕ)) (i : ℕ) → i < length t → set (clear
 clear-more t i h = rw add-one (clear-suc t i h)
 
 -- past the end there is nothing left
-pub clear-all : (t : List (List ℕ)) (i m : ℕ) → length t ≤ i → i ≤ m → clearTo t i ≡ clearTo t m
+clear-all : (t : List (List ℕ)) (i m : ℕ) → length t ≤ i → i ≤ m → clearTo t i ≡ clearTo t m
 clear-all t i m h l =
     let a : min i (length t) ≡ min m (length t) = omega arith in
     let b : length t ≤ m = omega (arith, h, l) in
     ap₂ (λ (k : ℕ) (d : List (List ℕ)). replicate k noRecord ++ d) a (drop-of-length-le t h ∙ sym (drop-of-length-le t b))
+
+-- no more records than there are
+pub clear-least : (t : List (List ℕ)) (m : ℕ) → clearTo t (min m (length t)) ≡ clearTo t m
+clear-least t m = ⊎-elim
+    (λ (h : m ≤ length t). let e : min m (length t) ≡ m = omega (arith, h) in ap (clearTo t) e)
+    (λ (h : length t < m). let e : min m (length t) ≡ length t = omega (arith, h) in ap (clearTo t) e ∙ clear-all t (length t) m (omega arith) (omega (arith, h)))
+    (decide-le m (length t))

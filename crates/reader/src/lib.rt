@@ -1,14 +1,14 @@
 ghost use mathlib.Core.Path.{_≡_};
 ghost use mathlib.Core.Bool.{true, false, cond, _&&_, _||_};
 ghost use lib.Dec.{eqb, ltb};
-ghost use Prim.Native.Nat.{ℕ, _+_, _*_, _-_, _<_, _≤_, _/_, _^_};
+ghost use Prim.Native.Nat.{ℕ, min, _+_, _*_, _-_, _<_, _≤_, _/_, _^_};
 ghost use lib.ListN.{length, getD, getElem?, replicate};
 ghost use Rattle.reading.specs.Bytes.{isDigit};
 ghost use Rattle.reading.specs.Element.{numberAt, begin, step};
 ghost use Rattle.reading.specs.Reading.{isStart, isLead, isTwo, reading};
 ghost use Rattle.reader.specs.Glance.{glance, endSeen, innerSeen, colonSeen, spaceSeen, nodeSeen, numberSeen, storingSeen, sizeSeen, leadSeen, endedSeen, wrongAt};
 ghost use Rattle.reader.specs.Capped.{cap, capScan, capGlance, capStep};
-ghost use Rattle.reader.specs.Cite.{kindTable, openList, scanOf, markOf, causeOf, topsOf, seenOf, plain, numbered, gaveBy, failedBy, waitedBy, stageOf, isAfter, insideOpen, begunOpen, sideOf, spotsOf, deepOf, lookOf, lookAt, placeOf, steppedOf};
+ghost use Rattle.reader.specs.Cite.{kindTable, elementIn, isFault, isOut, outcomeIn, openList, scanOf, markOf, causeOf, topsOf, seenOf, plain, numbered, gaveBy, failedBy, waitedBy, stageOf, isAfter, insideOpen, begunOpen, sideOf, spotsOf, deepOf, lookOf, lookAt, placeOf, steppedOf};
 ghost use Rattle.reader.specs.Taking.{goesOf, failsOf, movedTo, passedTo, turnedTo, sizedTo, foundTo, closedTwo, closedTo, isKeptOf, isBadOf, nextStamp, storedTo, takenOf};
 ghost use Rattle.reader.specs.Table.{noRow, noRecord, getIn, putAt, countedTo, countAt, storeAt, clearTo};
 ghost use Rattle.reading.specs.StepLaws.{digitPlace};
@@ -325,6 +325,7 @@ pub enum Mark {
 }
 
 // What a node refers to: a number with its stamp; with the number 0 the terminal, if the stamp is 0 too, else nothing that stays.
+#[repr(C)]
 pub struct Ref {
     pub number: u32,
     pub stamp: u32,
@@ -368,14 +369,29 @@ enum Stage {
     Past,
 }
 
-// A step by little: what it comes to, with the element's number, and the place after it: how many nodes are open then, whether the second child of the
+// What a step comes to, without its numbers: one of the elements, a fault, or that the bytes ran out.
+enum Sight {
+    Opening,
+    Number,
+    Constant,
+    Turn,
+    Closing,
+    Storing,
+    End,
+    Fault,
+    Out,
+}
+
+// A step by little: what it comes to, with the element's number or the fault, and the place after it: how many nodes are open then, whether the second child of the
 // innermost begins, and after a `~`.
 struct Glance {
-    outcome: Outcome,
-    number: u32,
+    byte: usize,
     at: usize,
-    mark: Mark,
     depth: usize,
+    number: u32,
+    sight: Sight,
+    cause: Cause,
+    mark: Mark,
     second: bool,
     turned: bool,
 }
@@ -452,11 +468,13 @@ fn number_at(k: &[u8; 256], s: &[u8], at: usize) -> Num
 // ---- A step by little
 
 // The element e, of the number v. two, t: the innermost's second child begins, after a `~`
-fn gave(e: Element, v: u32, at: usize, m: Mark, d: usize, two: bool, t: bool) -> Glance
+fn gave(e: Sight, v: u32, at: usize, m: Mark, d: usize, two: bool, t: bool) -> Glance
     ensures { λ r. ⌜ r ≡ gaveBy e v at m d two t ⌝ }
 {
     Glance {
-        outcome: Outcome::Got(e),
+        sight: e,
+        cause: Cause::WrongByte,
+        byte: 0,
         number: v,
         at: at,
         mark: m,
@@ -470,7 +488,9 @@ fn failed(at: usize, m: Mark, d: usize, c: Cause, b: usize) -> Glance
     ensures { λ r. ⌜ r ≡ failedBy at m d c b ⌝ }
 {
     Glance {
-        outcome: Outcome::Fault(c, b),
+        sight: Sight::Fault,
+        cause: c,
+        byte: b,
         number: 0,
         at: at,
         mark: m,
@@ -484,7 +504,9 @@ fn waited(at: usize, m: Mark, d: usize) -> Glance
     ensures { λ r. ⌜ r ≡ waitedBy at m d ⌝ }
 {
     Glance {
-        outcome: Outcome::RanOut,
+        sight: Sight::Out,
+        cause: Cause::WrongByte,
+        byte: 0,
         number: 0,
         at: at,
         mark: m,
@@ -510,15 +532,7 @@ fn size_seen(k: &[u8; 256], s: &[u8], at: usize, m: Mark, d: usize) -> Glance
     }
     let b = s[e];
     if b == b'\n' {
-        return gave(
-            Element::Number(x.value),
-            x.value,
-            e + 1,
-            Mark::Lead,
-            d,
-            false,
-            false,
-        );
+        return gave(Sight::Number, x.value, e + 1, Mark::Lead, d, false, false);
     }
     failed(at, m, d, Cause::WrongByte, e)
 }
@@ -543,25 +557,9 @@ fn number_seen(
     }
     let v = x.value;
     if v == 0 {
-        return gave(
-            Element::Constant,
-            0,
-            x.next,
-            Mark::AfterDigit,
-            d,
-            two,
-            false,
-        );
+        return gave(Sight::Constant, 0, x.next, Mark::AfterDigit, d, two, false);
     }
-    gave(
-        Element::Number(v),
-        v,
-        x.next,
-        Mark::AfterDigit,
-        d,
-        two,
-        false,
-    )
+    gave(Sight::Number, v, x.next, Mark::AfterDigit, d, two, false)
 }
 
 // A number to store, whose first digit stands at `from`.
@@ -575,15 +573,7 @@ fn storing_seen(k: &[u8; 256], s: &[u8], from: usize, at: usize, m: Mark, d: usi
         return waited(at, m, d);
     }
     let v = x.value;
-    gave(
-        Element::Storing(v),
-        v,
-        x.next,
-        Mark::AfterDigit,
-        d,
-        false,
-        false,
-    )
+    gave(Sight::Storing, v, x.next, Mark::AfterDigit, d, false, false)
 }
 
 // A node begins, as a second child or not.
@@ -596,7 +586,7 @@ fn node_seen(k: &[u8; 256], s: &[u8], at: usize, m: Mark, d: usize, two: bool) -
         if 32 <= d {
             return failed(at, m, d, Cause::TooDeep, at);
         }
-        return gave(Element::Opening, 0, at + 1, Mark::Begins, d + 1, two, false);
+        return gave(Sight::Opening, 0, at + 1, Mark::Begins, d + 1, two, false);
     }
     if !is_digit(k, b) {
         return failed(at, m, d, Cause::WrongByte, at);
@@ -643,11 +633,11 @@ fn inner_seen(k: &[u8; 256], s: &[u8], at: usize, m: Mark, d: usize, digital: bo
 {
     let b = s[at];
     if b == b'~' {
-        return gave(Element::Turn, 0, at + 1, Mark::Begins, d, true, true);
+        return gave(Sight::Turn, 0, at + 1, Mark::Begins, d, true, true);
     }
     if b == b')' {
         return gave(
-            Element::Closing,
+            Sight::Closing,
             0,
             at + 1,
             Mark::AfterOne,
@@ -691,7 +681,7 @@ fn end_seen(
     match top {
         Top::Empty => {
             if b == b'.' {
-                return gave(Element::End, 0, at + 1, Mark::Over, d, false, false);
+                return gave(Sight::End, 0, at + 1, Mark::Over, d, false, false);
             }
             failed(at, m, d, Cause::WrongByte, at)
         }
@@ -699,7 +689,7 @@ fn end_seen(
         Top::Outer => {
             if b == b')' {
                 return gave(
-                    Element::Closing,
+                    Sight::Closing,
                     0,
                     at + 1,
                     Mark::AfterTwo,
@@ -803,7 +793,7 @@ fn begin_seen(k: &[u8; 256], s: &[u8], at: usize, m: Mark, d: usize) -> Glance
     let b = s[at];
     if b == b'~' {
         if is_lead(m) {
-            return gave(Element::Turn, 0, at + 1, Mark::Begins, d, false, false);
+            return gave(Sight::Turn, 0, at + 1, Mark::Begins, d, false, false);
         }
     }
     node_seen(k, s, at, m, d, false)
@@ -843,13 +833,15 @@ fn glance_at(k: &[u8; 256], s: &[u8], at: usize, m: Mark, top: Top, d: usize) ->
 // ---- The place
 
 // An open node: whether its second child has begun; what its first child was, and whether a `~` stands after it.
+#[repr(C)]
 pub struct Open {
+    pub first: Ref,
     pub second: bool,
     pub turned: bool,
-    pub first: Ref,
 }
 
 // The open nodes, the outermost first, and how many there are.
+#[repr(C)]
 pub struct Opens {
     pub nodes: [Open; 32],
     pub depth: usize,
@@ -936,12 +928,14 @@ fn deep(d: usize) -> usize
 // What a look at the bytes comes to: the outcome with its number, the place after it, how many nodes are open then, and the entry of the innermost
 // before it.
 struct Look {
-    outcome: Outcome,
-    number: u32,
+    byte: usize,
     at: usize,
-    mark: Mark,
     depth: usize,
     low: Open,
+    number: u32,
+    sight: Sight,
+    cause: Cause,
+    mark: Mark,
 }
 
 // One element on, by little: the byte's place, what stands before it, what ended last, how many nodes are open and the innermost.
@@ -952,10 +946,13 @@ fn look_at(k: &[u8; 256], s: &[u8], at: usize, m: Mark, last: Ref, depth: usize,
     let d = deep(depth);
     let g = glance_at(k, s, at, m, top_of(d, low), d);
     let e = entry_of(low, last, g.second, g.turned);
-    let out = g.outcome;
+    let w = g.sight;
+    let c = g.cause;
     let m1 = g.mark;
     Look {
-        outcome: out,
+        sight: w,
+        cause: c,
+        byte: g.byte,
         number: g.number,
         at: g.at,
         mark: m1,
@@ -972,6 +969,69 @@ fn entry_of(low: Open, last: Ref, two: bool, t: bool) -> Open
         return begun(last, t);
     }
     low
+}
+
+fn is_fault(w: Sight) -> bool
+    ensures { λ r. ⌜ r ≡ isFault w ⌝ }
+{
+    match w {
+        Sight::Opening => false,
+        Sight::Number => false,
+        Sight::Constant => false,
+        Sight::Turn => false,
+        Sight::Closing => false,
+        Sight::Storing => false,
+        Sight::End => false,
+        Sight::Fault => true,
+        Sight::Out => false,
+    }
+}
+
+fn is_out(w: Sight) -> bool
+    ensures { λ r. ⌜ r ≡ isOut w ⌝ }
+{
+    match w {
+        Sight::Opening => false,
+        Sight::Number => false,
+        Sight::Constant => false,
+        Sight::Turn => false,
+        Sight::Closing => false,
+        Sight::Storing => false,
+        Sight::End => false,
+        Sight::Fault => false,
+        Sight::Out => true,
+    }
+}
+
+// The element, with its number v.
+fn element_of(w: Sight, v: u32) -> Element
+    ensures { λ r. ⌜ r ≡ elementIn w v ⌝ }
+{
+    match w {
+        Sight::Opening => Element::Opening,
+        Sight::Number => Element::Number(v),
+        Sight::Constant => Element::Constant,
+        Sight::Turn => Element::Turn,
+        Sight::Closing => Element::Closing,
+        Sight::Storing => Element::Storing(v),
+        Sight::End => Element::End,
+        Sight::Fault => Element::End,
+        Sight::Out => Element::End,
+    }
+}
+
+fn outcome_of(x: Look) -> Outcome
+    ensures { λ r. ⌜ r ≡ outcomeIn x ⌝ }
+{
+    let w = x.sight;
+    if is_fault(w) {
+        let c = x.cause;
+        return Outcome::Fault(c, x.byte);
+    }
+    if is_out(w) {
+        return Outcome::RanOut;
+    }
+    Outcome::Got(element_of(w, x.number))
 }
 
 impl Place {
@@ -1014,10 +1074,9 @@ impl Place {
         o.nodes[j] = inside();
         o.nodes[i] = l;
         o.depth = x.depth;
-        let out = x.outcome;
         let m1 = x.mark;
         Stepped {
-            outcome: out,
+            outcome: outcome_of(x),
             place: Place {
                 at: x.at,
                 mark: m1,
@@ -1033,20 +1092,20 @@ impl Place {
 // The children of the two-child node that ended last, and whether a `~` stands between them.
 pub struct Pair {
     pub first: Ref,
-    pub turned: bool,
     pub second: Ref,
+    pub turned: bool,
 }
 
 // What reading has come to, but for the open nodes and the table: the place, the declared size, the covered count, a leading `~`,
 // and the children of the two-child node that ended last.
 pub struct Run {
     pub at: usize,
-    pub mark: Mark,
-    pub last: Ref,
-    pub size: u32,
     pub covered: u64,
-    pub complement: bool,
+    pub last: Ref,
     pub pair: Pair,
+    pub size: u32,
+    pub mark: Mark,
+    pub complement: bool,
 }
 
 // A record of the table: the level (0: none), the children, the edge to the second complemented, how often the number was given out, and how
@@ -1063,9 +1122,9 @@ struct Row {
 // An element taken: what reading has come to; the fault, if there is one; whether its number is the size, or is stored.
 struct Taken {
     run: Run,
+    byte: usize,
     faulty: bool,
     cause: Cause,
-    byte: usize,
     sizes: bool,
     stores: bool,
 }
@@ -1455,14 +1514,18 @@ fn store(t: &mut [[u32; 6]], z: u32, k: u32, x: Row)
 fn clear(t: &mut [[u32; 6]], m: usize)
     ensures { λ _. ⌜ now (t .exit) ≡ clearTo (now (t .entry)) m ⌝ }
 {
+    let e = least(m, t.len());
     let mut i = 0;
-    while i < t.len() {
-        if m <= i {
-            return;
-        }
+    while i < e {
         t[i] = [0; 6];
         i += 1;
     }
+}
+
+fn least(a: usize, b: usize) -> usize
+    ensures { λ r. ⌜ r ≡ min a b ⌝ }
+{
+    if a < b { a } else { b }
 }
 
 // ---- One turn
@@ -1528,11 +1591,11 @@ fn lend(t: &mut [[u32; 6]], r: Run, d: u32, k: u32, x: Row, y: Taken)
 struct Turn {
     run: Run,
     depth: usize,
+    byte: usize,
     low: Open,
     went: bool,
     faulty: bool,
     cause: Cause,
-    byte: usize,
 }
 
 fn halted(r: Run, d: usize, low: Open, f: bool, c: Cause, b: usize) -> Turn
@@ -1598,18 +1661,20 @@ fn take_turn(
     let m = r.mark;
     let last = r.last;
     let x = look_at(k, s, at, m, last, d, low);
-    let out = x.outcome;
-    match out {
-        Outcome::RanOut => halted(r, d, low, false, Cause::WrongByte, 0),
-        Outcome::Fault(c, i) => halted(r, d, low, true, c, i),
-        Outcome::Got(e) => {
-            let row = get(t, r.size, x.number);
-            let m1 = x.mark;
-            let y = take_element(n, r, d as u32, low, digit_place(b, at), e, row, x.at, m1);
-            lend(t, r, d as u32, x.number, row, y);
-            went_on(y, x)
-        }
+    let w = x.sight;
+    if is_fault(w) {
+        let c = x.cause;
+        return halted(r, d, low, true, c, x.byte);
     }
+    if is_out(w) {
+        return halted(r, d, low, false, Cause::WrongByte, 0);
+    }
+    let e = element_of(w, x.number);
+    let row = get(t, r.size, x.number);
+    let m1 = x.mark;
+    let y = take_element(n, r, d as u32, low, digit_place(b, at), e, row, x.at, m1);
+    lend(t, r, d as u32, x.number, row, y);
+    went_on(y, x)
 }
 
 // ---- The loop

@@ -1,60 +1,75 @@
-use mathlib.Core.Path.{_≡_, refl, ap, _∙_}
+-- The first i records are cleared, up to m or the end.
+-- Assumes nothing.
+use mathlib.Core.Path.{_≡_, refl, sym, ap, _∙_}
 use mathlib.Core.List.{List}
-use Prim.Native.Nat.{ℕ, _-_, _≤_, _<_}
+use Prim.Native.Nat.{ℕ, _<_}
 use native.Mathlib.Omega.{arith}
-use lib.ListN.{length, set, length-set}
-use Rattle.reader.specs.Table.{noRecord, clearTo, clear-none, clear-more, clear-all}
+use lib.ListN.{set, length-set}
+use Rattle.reader.specs.Table.{noRecord, clear-none, clear-more, clear-least}
+use mathlib.Core.Path.{_≡_}
+use Prim.Native.Nat.{min, _-_, _≤_}
+use lib.ListN.{length}
+use Rattle.reader.specs.Table.{clearTo}
 use borrow.Author.Needs.{needs}
 use Rattle.reader.proofs.clear.Statement.{statement}
 use Rattle.reader.proofs.clear.Tie as tie
 use Rattle.reader.proofs.clear.Reads as reads
 use Rattle.reader.proofs.clear.Lts as lts
+use Rattle.reader.proofs.least.Reads as least-reads
 
 abbrev Inv-loop : tie.InvT-loop
-Inv-loop t₀ m i₀ t i = (i ≤ length t₀) × (i ≤ m) × (length t ≡ length t₀) × (t ≡ clearTo t₀ i)
+Inv-loop t₀ m e i₀ t i = (i ≤ e) × ((e ≡ min m (length t₀)) × ((length t ≡ length t₀) × (t ≡ clearTo t₀ i)))
 
 abbrev μ-loop : tie.MeasureT-loop
-μ-loop t₀ m i₀ t i = length t₀ - i
+μ-loop t₀ m e i₀ t i = e - i
 
--- src/lib.rt:350:5
+-- src/lib.rt:1549:9
+least-requires : tie.Need-least-requires Inv-loop μ-loop
+least-requires c κs = search needs
+
+-- src/lib.rt:1551:5
 loop-holds : tie.Need-loop-holds Inv-loop μ-loop
-loop-holds c = (omega arith, omega arith, refl, clear-none _)
+loop-holds c = (omega arith, (c .least .ensures, (refl, clear-none _)))
 
--- src/lib.rt:352:13
-same-length : tie.Need-same-length Inv-loop μ-loop
-same-length c = search needs
+-- src/lib.rt:1552:9
+mul-t8 : tie.Need-mul-t8 Inv-loop μ-loop
+mul-t8 c = search needs
 
--- src/lib.rt:352:13
-returns : tie.Need-returns Inv-loop μ-loop
-returns c = let e : c .before .before .loop .i ≡ c .before .before .before .args .m = omega (arith, c .if1 .taken, c .before .before .loop .inv .1) in c .before .before .loop .inv .3 ∙ ap (clearTo (c .before .before .before .args .t .now)) e
-
--- src/lib.rt:354:9
-mul-t4 : tie.Need-mul-t4 Inv-loop μ-loop
-mul-t4 c = search needs
-
--- src/lib.rt:354:9
+-- src/lib.rt:1552:9
 slice-set-from-t : tie.Need-slice-set-from-t Inv-loop μ-loop
 slice-set-from-t c = search needs
 
--- src/lib.rt:355:9
+-- src/lib.rt:1553:9
 add-i : tie.Need-add-i Inv-loop μ-loop
 add-i c = search needs
 
--- src/lib.rt:350:5
+-- src/lib.rt:1551:5
 loop-less : tie.Need-loop-less Inv-loop μ-loop
 loop-less c = search needs
 
--- src/lib.rt:350:5
+-- src/lib.rt:1551:5
 loop-again : tie.Need-loop-again Inv-loop μ-loop
-loop-again c = let h : c .before .before .loop .i < length (c .before .before .before .args .t .now) = omega (arith, c .before .loop-test .taken, c .before .before .loop .inv .2) in (omega (arith, h), omega (arith, c .if1 .left), length-set (c .before .before .loop .t) (c .before .before .loop .i) noRecord ∙ c .before .before .loop .inv .2, ap (λ (x : List (List ℕ)). set x (c .before .before .loop .i) noRecord) (c .before .before .loop .inv .3) ∙ clear-more (c .before .before .before .args .t .now) (c .before .before .loop .i) h)
+loop-again c = let i = c .before .loop .inv in
+    let h : c .before .loop .i < length (c .before .before .before .args .t .now) = omega (arith, c .loop-test .taken, i .1 .0) in (
+      omega (arith, c .loop-test .taken),
+      (
+        i .1 .0,
+        (
+          length-set (c .before .loop .t) (c .before .loop .i) noRecord ∙ i .1 .1 .0,
+          ap (λ (x : List (List ℕ)). set x (c .before .loop .i) noRecord) (i .1 .1 .1) ∙ clear-more (c .before .before .before .args .t .now) (c .before .loop .i) h,
+        ),
+      ),
+    )
 
--- src/lib.rt:346:1
-same-length-2 : tie.Need-same-length-2 Inv-loop μ-loop
-same-length-2 c = search needs
+-- src/lib.rt:1546:1
+same-length : tie.Need-same-length Inv-loop μ-loop
+same-length c = search needs
 
--- src/lib.rt:346:1
-returns-2 : tie.Need-returns-2 Inv-loop μ-loop
-returns-2 c = c .before .loop .inv .3 ∙ clear-all (c .before .before .args .t .now) (c .before .loop .i) (c .before .before .args .m) (omega (arith, c .loop-test .left, c .before .loop .inv .2)) (c .before .loop .inv .1)
+-- src/lib.rt:1546:1
+returns : tie.Need-returns Inv-loop μ-loop
+returns c = let i = c .before .loop .inv in
+    let e : c .before .loop .i ≡ min (c .before .before .before .args .m) (length (c .before .before .before .args .t .now)) = omega (arith, c .loop-test .left, i .0, i .1 .0) in
+    i .1 .1 .1 ∙ ap (clearTo (c .before .before .before .args .t .now)) e ∙ clear-least (c .before .before .before .args .t .now) (c .before .before .before .args .m)
 
 pub clear-spec : {M : Type 1} → statement M
 clear-spec =
@@ -62,13 +77,12 @@ clear-spec =
     (tie.spec
     Inv-loop
     μ-loop
+    least-requires
     loop-holds
-    same-length
-    returns
-    mul-t4
+    mul-t8
     slice-set-from-t
     add-i
     loop-less
     loop-again
-    same-length-2
-    returns-2)
+    same-length
+    returns)

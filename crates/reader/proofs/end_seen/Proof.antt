@@ -12,7 +12,7 @@ use Rattle.reader.specs.Glance.{same, pop, gave, wrongAt, endSeen}
 use Rattle.reader.specs.Capped.{capGlance}
 use Rattle.reader.specs.GlanceLaws as G
 use Rattle.reader.specs.Cite.{markOf, topsOf, seenOf, plain, gaveBy}
-use Rattle.reader.specs.declared.Element.the-variants.{Closing}
+use Rattle.reader.specs.declared.Sight.the-variants.{Closing}
 use Rattle.reader.specs.declared.Mark.the-variants.{AfterTwo}
 use Rattle.reader.specs.declared.Top.{Top}
 use borrow.Author.Needs.{needs}

@@ -7,7 +7,7 @@ use Prim.Native.Nat.{ℕ, _+_}
 use lib.ListN.{getD}
 use Rattle.reader.specs.GlanceLaws as G
 use Rattle.reader.specs.Cite.{markOf, seenOf, plain, gaveBy}
-use Rattle.reader.specs.declared.Element.the-variants.{Closing}
+use Rattle.reader.specs.declared.Sight.the-variants.{Closing}
 use Rattle.reader.specs.declared.Mark.the-variants.{AfterOne}
 use borrow.Author.Needs.{needs}
 use Rattle.reader.proofs.inner_seen.Statement.{statement}

@@ -5,9 +5,8 @@ use borrow.Author.Tests.{not-true, not-false}
 use lib.ListN.{getD}
 use Rattle.reading.specs.Element.{numberAt}
 use Rattle.reader.specs.GlanceLaws as G
-use Rattle.reader.specs.SeenLaws.{seen-number}
+use Rattle.reader.specs.SeenLaws.{seen-constant, seen-value}
 use Rattle.reader.specs.Cite.{markOf, seenOf, plain, numbered}
-use Rattle.reader.specs.declared.Element.the-variants.{Number, Constant}
 use Rattle.reader.specs.declared.Mark.the-variants.{AfterDigit}
 use borrow.Author.Needs.{needs}
 use Rattle.reader.proofs.number_seen.Statement.{statement}
@@ -36,7 +35,7 @@ returns-2 c =
     let n = c .before .before .before .number-at in
     let x = numberAt (a .s .now) (a .from) (getD (a .s .now) (a .from) 0) in
     ap seenOf (c .gave .ensures)
-    ∙ seen-number Constant (n .result .next) AfterDigit (a .d) (a .two)
+    ∙ seen-constant (n .result .next) AfterDigit (a .d) (a .two)
     ∙ ap (plain (a .d)) (G.number-zero (n .result .done) (n .result .value) (n .result .next) x (n .ensures) (a .at) (markOf (a .m)) (numbered (a .two)) (not-false _ (c .before .before .if1 .left)) (c .before .if2 .taken))
 
 gave-requires-2 : tie.Need-gave-requires-2
@@ -48,7 +47,7 @@ returns-3 c =
     let n = c .before .before .before .number-at in
     let x = numberAt (a .s .now) (a .from) (getD (a .s .now) (a .from) 0) in
     ap seenOf (c .gave2 .ensures)
-    ∙ seen-number (Number (n .result .value)) (n .result .next) AfterDigit (a .d) (a .two)
+    ∙ seen-value (n .result .value) (n .result .next) AfterDigit (a .d) (a .two)
     ∙ ap (plain (a .d)) (G.number-other (n .result .done) (n .result .value) (n .result .next) x (n .ensures) (a .at) (markOf (a .m)) (numbered (a .two)) (not-false _ (c .before .before .if1 .left)) (c .before .if2 .left))
 
 pub number-seen-spec : {M : Type 1} → statement M

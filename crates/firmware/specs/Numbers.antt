@@ -1,0 +1,71 @@
+-- The answers of the calls as C has them: numbers, each cause with the paper's number. What does not apply is 0. Assumes nothing.
+use mathlib.Core.Path.{_≡_, refl, ap, _∙_}
+use mathlib.Core.Bool.{Bool, true, false, cond}
+use mathlib.Core.List.{List}
+use Prim.Native.Nat.{ℕ}
+use Rattle.lists.specs.Lists.{bit}
+use Rattle.reading.specs.Causes.{Refusal, Result, refused, done, causeRow}
+use Rattle.reading.specs.Calls as R
+use Rattle.reader.specs.Table.{noRecord}
+use Rattle.firmware.specs.declared.RuleChecked.{RuleChecked}
+use Rattle.firmware.specs.declared.RuleDecided.{RuleDecided}
+use Rattle.firmware.specs.declared.RuleFilled.{RuleFilled}
+
+abbrev pub extentNumber : R.Extent → ℕ
+extentNumber R.cut = 0
+extentNumber R.complete = 1
+
+-- a flag for the extent
+pub extent-flag : (b : Bool) → bit b ≡ extentNumber (cond b R.complete R.cut)
+extent-flag true = refl
+extent-flag false = refl
+
+abbrev pub verdictNumber : R.Verdict → ℕ
+verdictNumber R.isNo = 0
+verdictNumber R.isYes = 1
+verdictNumber R.notYet = 2
+
+abbrev pub checkedNumbers : Result R.Checked → RuleChecked
+checkedNumbers (refused r) = record { cause = causeRow (r .cause) .number; stream = r .stream; byte = r .byte; covered = 0; size = 0; extent = 0 }
+checkedNumbers (done x) = record { cause = 0; stream = 0; byte = 0; covered = x .covered; size = x .size; extent = extentNumber (x .extent) }
+
+abbrev pub decidedNumbers : Result R.Verdict → RuleDecided
+decidedNumbers (refused r) = record { cause = causeRow (r .cause) .number; stream = r .stream; byte = r .byte; verdict = 0; spare = 0 }
+decidedNumbers (done v) = record { cause = 0; stream = 0; byte = 0; verdict = verdictNumber v; spare = 0 }
+
+abbrev pub filledNumbers : Result ℕ → RuleFilled
+filledNumbers (refused r) = record { cause = causeRow (r .cause) .number; stream = r .stream; byte = r .byte; covered = 0 }
+filledNumbers (done k) = record { cause = 0; stream = 0; byte = 0; covered = k }
+
+-- an answer, with the work table after the call
+pub record Given (A : Type 0) : Type 0 where
+  pub answer : A
+  pub table : List (List ℕ)
+
+abbrev pub checkGiven : ℕ → List ℕ → List (List ℕ) → Given RuleChecked
+checkGiven n bytes t = let c = R.check noRecord n bytes t in record { answer = checkedNumbers (c .answer); table = c .table }
+
+abbrev pub decideGiven : ℕ → List ℕ → ℕ → List (List ℕ) → Given RuleDecided
+decideGiven n bytes w t = let c = R.decide noRecord n bytes w t in record { answer = decidedNumbers (c .answer); table = c .table }
+
+-- The numbers of what a call answers.
+pub check-numbers : (r : RuleChecked) (a : Result R.Checked) (z : List (List ℕ)) (n : ℕ) (bytes : List ℕ) (t : List (List ℕ)) → r ≡ checkedNumbers a → record { answer = a; table = z } ≡ R.check noRecord n bytes t
+    → record { answer = r; table = z } ≡ checkGiven n bytes t
+check-numbers r a z n bytes t e h = ap (λ (x : RuleChecked). record { answer = x; table = z }) e ∙ ap (λ (x : R.Read R.Checked (List ℕ)). record { answer = checkedNumbers (x .answer); table = x .table }) h
+
+pub decide-numbers : (r : RuleDecided) (a : Result R.Verdict) (z : List (List ℕ)) (n : ℕ) (bytes : List ℕ) (w : ℕ) (t : List (List ℕ)) → r ≡ decidedNumbers a → record { answer = a; table = z } ≡ R.decide noRecord n bytes w t
+    → record { answer = r; table = z } ≡ decideGiven n bytes w t
+decide-numbers r a z n bytes w t e h = ap (λ (x : RuleDecided). record { answer = x; table = z }) e ∙ ap (λ (x : R.Read R.Verdict (List ℕ)). record { answer = decidedNumbers (x .answer); table = x .table }) h
+
+-- likewise with the truth table
+pub record GivenWords : Type 0 where
+  pub answer : RuleFilled
+  pub table : List (List ℕ)
+  pub truths : List ℕ
+
+abbrev pub fillGiven : ℕ → List ℕ → List ℕ → List (List ℕ) → GivenWords
+fillGiven n bytes old t = let c = R.fill noRecord n bytes old t in record { answer = filledNumbers (c .answer); table = c .table; truths = c .truths }
+
+pub fill-numbers : (r : RuleFilled) (a : Result ℕ) (z : List (List ℕ)) (v : List ℕ) (n : ℕ) (bytes old : List ℕ) (t : List (List ℕ)) → r ≡ filledNumbers a → record { answer = a; table = z; truths = v } ≡ R.fill noRecord n bytes old t
+    → record { answer = r; table = z; truths = v } ≡ fillGiven n bytes old t
+fill-numbers r a z v n bytes old t e h = ap (λ (x : RuleFilled). record { answer = x; table = z; truths = v }) e ∙ ap (λ (x : R.Fill (List ℕ)). record { answer = filledNumbers (x .answer); table = x .table; truths = x .truths }) h

@@ -1,0 +1,163 @@
+// The reader that steps, for C, as `include/rule.h` declares it.
+ghost use mathlib.Core.Path.{_≡_};
+ghost use Rattle.reading.specs.Element.{begin, step};
+ghost use Rattle.reader.specs.Capped.{capStep};
+ghost use Rattle.reader.specs.Cite.{markOf, elementOf, outcomeOf, placeOf};
+ghost use Rattle.stepping.specs.Steps.{markFrom, placeFrom, gotNumbers, outcomeNumbers, stepNumbers, stepGiven};
+use firmware::cause_number;
+use reader::Element;
+use reader::Mark;
+use reader::Opens;
+use reader::Outcome;
+use reader::Place;
+use reader::Ref;
+
+#[repr(C)]
+pub struct RulePlace {
+    pub at: usize,
+    pub mark: u32,
+    pub last: Ref,
+    pub opens: Opens,
+}
+
+#[repr(C)]
+pub struct RuleStepped {
+    pub outcome: u32,
+    pub element: u32,
+    pub number: u32,
+    pub cause: u32,
+    pub byte: usize,
+    pub place: RulePlace,
+}
+
+fn mark_number(m: Mark) -> u32
+    ensures { λ r. ⌜ markFrom r ≡ markOf m ⌝ }
+{
+    match m {
+        Mark::Start => 0,
+        Mark::Lead => 1,
+        Mark::Begins => 2,
+        Mark::AfterDigit => 3,
+        Mark::AfterTwo => 4,
+        Mark::AfterOne => 5,
+        Mark::Over => 6,
+    }
+}
+
+fn mark_from(k: u32) -> Mark
+    ensures { λ r. ⌜ markOf r ≡ markFrom k ⌝ }
+{
+    if k == 0 {
+        return Mark::Start;
+    }
+    if k == 1 {
+        return Mark::Lead;
+    }
+    if k == 2 {
+        return Mark::Begins;
+    }
+    if k == 3 {
+        return Mark::AfterDigit;
+    }
+    if k == 4 {
+        return Mark::AfterTwo;
+    }
+    if k == 5 {
+        return Mark::AfterOne;
+    }
+    Mark::Over
+}
+
+fn place_numbers(p: Place) -> RulePlace
+    ensures { λ r. ⌜ placeFrom r ≡ placeOf p ⌝ }
+{
+    let m = p.mark;
+    let o = p.opens;
+    let l = p.last;
+    RulePlace {
+        at: p.at,
+        mark: mark_number(m),
+        last: l,
+        opens: o,
+    }
+}
+
+// Before the first byte of a stream.
+#[no_mangle]
+pub extern "C" fn rule_begin() -> RulePlace
+    ensures { λ r. ⌜ placeFrom r ≡ begin ⌝ }
+{
+    place_numbers(Place::begin())
+}
+
+// The numbers of an outcome, at a place.
+fn stepped_numbers(x: Outcome, p: RulePlace) -> RuleStepped
+    ensures { λ r. ⌜ stepGiven r ≡ record { numbers = outcomeNumbers (outcomeOf x); place = placeFrom p } ⌝ }
+{
+    match x {
+        Outcome::Got(e) => element_numbers(e, p),
+        Outcome::Fault(c, b) => RuleStepped {
+            outcome: 1,
+            element: 0,
+            number: 0,
+            cause: cause_number(c),
+            byte: b,
+            place: p,
+        },
+        Outcome::RanOut => RuleStepped {
+            outcome: 2,
+            element: 0,
+            number: 0,
+            cause: 0,
+            byte: 0,
+            place: p,
+        },
+    }
+}
+
+fn got_numbers(k: u32, v: u32, p: RulePlace) -> RuleStepped
+    ensures { λ r. ⌜ r ≡ record { outcome = 0; element = k; number = v; cause = 0; byte = 0; place = p } ⌝ }
+{
+    RuleStepped {
+        outcome: 0,
+        element: k,
+        number: v,
+        cause: 0,
+        byte: 0,
+        place: p,
+    }
+}
+
+fn element_numbers(e: Element, p: RulePlace) -> RuleStepped
+    ensures { λ r. ⌜ stepGiven r ≡ record { numbers = gotNumbers (elementOf e); place = placeFrom p } ⌝ }
+{
+    match e {
+        Element::Opening => got_numbers(0, 0, p),
+        Element::Number(v) => got_numbers(1, v, p),
+        Element::Constant => got_numbers(2, 0, p),
+        Element::Turn => got_numbers(3, 0, p),
+        Element::Closing => got_numbers(4, 0, p),
+        Element::Storing(v) => got_numbers(5, v, p),
+        Element::End => got_numbers(6, 0, p),
+    }
+}
+
+// One element on.
+#[no_mangle]
+pub extern "C" fn rule_step(place: RulePlace, stream: &[u8]) -> RuleStepped
+    ensures { λ r. ⌜ stepGiven r ≡ stepNumbers (capStep (step (placeFrom place) (now (stream .entry)))) ⌝ }
+{
+    let m = mark_from(place.mark);
+    let o = place.opens;
+    let l = place.last;
+    let p = Place {
+        at: place.at,
+        mark: m,
+        opens: o,
+        last: l,
+    };
+    let x = p.step(stream);
+    let q = x.place;
+    let y = x.outcome;
+    stepped_numbers(y, place_numbers(q))
+}

@@ -1,0 +1,191 @@
+/*
+ * Option rules as decision streams: checking a stream, deciding one word, filling a truth table, and reading a stream element by element.
+ *
+ * A stream is the table size, one LF, an optional `~`, one node, and `.` as last byte. A stream without its point is cut; it is taken like any
+ * other and covers fewer words. n is the option count, 0 to 32; words run from 0 to 2^n - 1, and option 1 has weight 2^(n-1).
+ *
+ * Libraries. libfirmware.a has rule_check, rule_decide and rule_fill; libstepping.a has rule_begin and rule_step. Each stands alone, and both can
+ * be linked together. They are proved, and want nothing but memset of the C library.
+ *
+ * Memory. The caller lends all of it and keeps it: the library allocates nothing, keeps nothing between calls and no pointer after one, and has
+ * no state, so calls on different memory may run at the same time. Lent pieces must not overlap. A piece of length 0 may have a null pointer.
+ * Any bytes may be in a work table or a truth table before a call; no answer depends on them.
+ */
+#ifndef RULE_H
+#define RULE_H
+
+#include <stdbool.h>
+#include <stddef.h>
+#include <stdint.h>
+
+#ifdef __cplusplus
+extern "C" {
+#endif
+
+/* ---- What is lent */
+
+/*
+ * Each piece is lent as a pointer and how many elements stand there.
+ *
+ * A stream is its bytes, or as many as have come so far. They are only read.
+ *
+ * A truth table has word w in binary digit w mod 8 (0 lowest) of byte w / 8.
+ *
+ * A work table has at least RULE_RECORDS records, aligned as uint32_t is. On return from a call that was refused for one of causes 1 to 6 it is as
+ * it was. On every other return all its records are zero, those beyond RULE_RECORDS too.
+ */
+
+/* A record of a work table; its cells have no meaning to the caller. */
+typedef struct {
+    uint32_t cells[6];
+} rule_record;
+
+#define RULE_RECORDS 1024
+
+/* ---- Why a call is refused */
+
+/*
+ * `cause` is RULE_DONE if the call is not refused. Causes 1 to 6 lie in the call; they are tested first, in this order, as far as the call has
+ * them, and name stream 0, byte 0. Causes 7 to 13 lie in the stream; they name stream 1 and the place of the fault, counted from 0. The
+ * lowest place counts, and there the lower number. `stream` and `byte` are 0 if the call is not refused; all that follows them in an answer is 0
+ * if it is.
+ *
+ * No call of this header has an operator or a size to write: causes 2 and 3 are named for completeness.
+ */
+enum {
+    RULE_DONE = 0,
+    RULE_OPTION_COUNT = 1,  /* n above 32; for a truth table, n not 3 to 16 */
+    RULE_OPERATOR = 2,      /* operator above 15 */
+    RULE_SIZE_TO_WRITE = 3, /* size to write above 1,024 */
+    RULE_WORK_TABLE = 4,    /* a work table under 1,024 records */
+    RULE_WORD = 5,          /* word 2^n or more */
+    RULE_TRUTH_TABLE = 6,   /* truth table not 2^n / 8 bytes */
+    RULE_WRONG_BYTE = 7,    /* byte not allowed there: that byte */
+    RULE_DECLARED_SIZE = 8, /* declared size above 1,024: its first digit */
+    RULE_TOO_DEEP = 9,      /* bracket deeper than n: the bracket */
+    RULE_NOT_IN_TABLE = 10, /* number not in the table: its first digit */
+    RULE_OTHER_LEVEL = 11,  /* number at another level: its first digit */
+    RULE_NOT_STORABLE = 12, /* storing barred by a child, or `(A)` of a temporary A: the `:` or `)` */
+    RULE_BAD_NUMBER = 13    /* number to store 0, above the size, a child of a stored node or its own child: its first digit */
+};
+
+/* ---- Checking */
+
+enum { RULE_CUT = 0, RULE_COMPLETE = 1 };
+
+/* The covered count (words from 0 upward that the stream decides), the declared size (0 while it is unfinished), and cut or complete. */
+typedef struct {
+    uint32_t cause, stream;
+    uint64_t byte;
+    uint64_t covered;
+    uint32_t size;
+    uint32_t extent;
+} rule_checked;
+
+/* Checks a stream for option count n. Tests causes 1 and 4, then 7 to 13. Changes nothing but the work table. */
+rule_checked rule_check(uint32_t n, const uint8_t *stream, size_t stream_bytes, rule_record *table, size_t records);
+
+/* ---- Deciding */
+
+enum { RULE_NO = 0, RULE_YES = 1, RULE_NOT_YET = 2 };
+
+/* No, yes, or not yet (the word is at or past the covered count); `spare` is 0. */
+typedef struct {
+    uint32_t cause, stream;
+    uint64_t byte;
+    uint32_t verdict;
+    uint32_t spare;
+} rule_decided;
+
+/*
+ * Decides one word. Tests causes 1, 4 and 5, then 7 to 13 in all of the stream, also past the place that decides the word. Changes nothing but
+ * the work table.
+ */
+rule_decided rule_decide(uint32_t n, const uint8_t *stream, size_t stream_bytes, uint64_t word, rule_record *table, size_t records);
+
+/* ---- Filling a truth table */
+
+/* The covered count. */
+typedef struct {
+    uint32_t cause, stream;
+    uint64_t byte;
+    uint64_t covered;
+} rule_filled;
+
+/*
+ * Writes the decisions of all words into a truth table of 2^n / 8 bytes, n from 3 to 16: 1 for yes, and 0 from the covered count on. Tests
+ * causes 1, 4 and 6, then 7 to 13. If the call is refused, for whatever cause, the truth table is as it was. Changes nothing else but the work
+ * table.
+ */
+rule_filled rule_fill(uint32_t n, const uint8_t *stream, size_t stream_bytes, uint8_t *truths, size_t truth_bytes, rule_record *table, size_t records);
+
+/* ---- Reading element by element */
+
+/*
+ * The reader knows the shapes of a stream, but no option count and no table: it finds RULE_WRONG_BYTE, and RULE_TOO_DEEP at a 33rd open bracket,
+ * and no other fault. It needs no work table.
+ */
+
+/* What a node refers to. */
+typedef struct {
+    uint32_t number, stamp;
+} rule_ref;
+
+/* An open node, with what its first child was. */
+typedef struct {
+    rule_ref first;
+    bool second, turned;
+} rule_open;
+
+/* The open nodes, at most 32 at one time. */
+typedef struct {
+    rule_open nodes[32];
+    size_t depth;
+} rule_opens;
+
+/* A place in a stream. To be passed on, not looked into, but for `at`: the bytes read so far, up to the end of the last element given. */
+typedef struct {
+    size_t at;
+    uint32_t mark;
+    rule_ref last;
+    rule_opens opens;
+} rule_place;
+
+/* An element was given; the stream has a fault; the bytes ran out. */
+enum { RULE_GOT = 0, RULE_FAULT = 1, RULE_RAN_OUT = 2 };
+
+/* The size with its LF is a number; a storing is `:` with its number; a space belongs to what follows it. */
+enum {
+    RULE_OPENING = 0,
+    RULE_NUMBER = 1,
+    RULE_CONSTANT = 2,
+    RULE_TURN = 3,
+    RULE_CLOSING = 4,
+    RULE_STORING = 5,
+    RULE_END = 6
+};
+
+/*
+ * RULE_GOT: the element, its number if it is a number or a storing (4294967295 stands for that number and all above it), and the place after it.
+ * RULE_FAULT: cause and byte, and the place as it was. RULE_RAN_OUT: the place as it was. What an outcome does not use is 0.
+ */
+typedef struct {
+    uint32_t outcome, element, number, cause;
+    size_t byte;
+    rule_place place;
+} rule_stepped;
+
+/* The place before the first byte of any stream. */
+rule_place rule_begin(void);
+
+/*
+ * One element on. `place` comes from rule_begin or from a step in this stream or in a beginning of it: when the bytes ran out and more have come,
+ * step again from the same place with the longer stream.
+ */
+rule_stepped rule_step(rule_place place, const uint8_t *stream, size_t stream_bytes);
+
+#ifdef __cplusplus
+}
+#endif
+
+#endif

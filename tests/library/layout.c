@@ -1,0 +1,37 @@
+/* The sizes and offsets of rule.h that src/foreign.rs counts on. */
+#include "rule.h"
+
+#define SIZE(type, size) _Static_assert(sizeof(type) == (size), #type)
+#define AT(type, field, offset) _Static_assert(offsetof(type, field) == (offset), #type " " #field)
+
+SIZE(rule_record, 24);
+SIZE(rule_checked, 32);
+AT(rule_checked, stream, 4);
+AT(rule_checked, byte, 8);
+AT(rule_checked, covered, 16);
+AT(rule_checked, size, 24);
+AT(rule_checked, extent, 28);
+SIZE(rule_decided, 24);
+AT(rule_decided, stream, 4);
+AT(rule_decided, byte, 8);
+AT(rule_decided, verdict, 16);
+SIZE(rule_filled, 24);
+AT(rule_filled, stream, 4);
+AT(rule_filled, byte, 8);
+AT(rule_filled, covered, 16);
+SIZE(rule_ref, 8);
+SIZE(rule_open, 12);
+AT(rule_open, second, 8);
+AT(rule_open, turned, 9);
+SIZE(rule_opens, 392);
+AT(rule_opens, depth, 384);
+SIZE(rule_place, 416);
+AT(rule_place, mark, 8);
+AT(rule_place, last, 12);
+AT(rule_place, opens, 24);
+SIZE(rule_stepped, 440);
+AT(rule_stepped, element, 4);
+AT(rule_stepped, number, 8);
+AT(rule_stepped, cause, 12);
+AT(rule_stepped, byte, 16);
+AT(rule_stepped, place, 24);

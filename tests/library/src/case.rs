@@ -1,0 +1,134 @@
+//! One case: a call with its arguments, and the line that stands for it.
+//!
+//! | line | call |
+//! |---|---|
+//! | `check N RECORDS "STREAM"` | `rule_check` |
+//! | `decide N RECORDS WORD "STREAM"` | `rule_decide` |
+//! | `fill N RECORDS LENGTH "STREAM"` | `rule_fill` with a truth table of LENGTH bytes |
+//! | `reader "STREAM"` | `rule_begin`, then `rule_step` to its stop |
+//!
+//! RECORDS is the length of the work table. In STREAM a byte that is no printable character, a
+//! space, a quote or a backslash stands as `\n` or `\xNN`. What the lent slices hold before the call
+//! follows from the line.
+
+pub const NAMES: [&str; 4] = ["check", "decide", "fill", "reader"];
+
+#[derive(Clone, Copy, Debug, PartialEq, Eq)]
+pub enum Call {
+    Check,
+    Decide { word: u64 },
+    Fill { truths: usize },
+    Reader,
+}
+
+#[derive(Clone, Debug, PartialEq, Eq)]
+pub struct Case {
+    pub call: Call,
+    pub n: u32,
+    pub records: usize,
+    pub stream: Vec<u8>,
+}
+
+impl Case {
+    /// The number of the call, an index into `NAMES`.
+    pub fn number(&self) -> usize {
+        match self.call {
+            Call::Check => 0,
+            Call::Decide { .. } => 1,
+            Call::Fill { .. } => 2,
+            Call::Reader => 3,
+        }
+    }
+
+    /// The length of the truth table that is lent.
+    pub fn truths(&self) -> usize {
+        match self.call {
+            Call::Fill { truths } => truths,
+            _ => 0,
+        }
+    }
+
+    /// A number that the case alone decides (FNV-1a over its parts).
+    pub fn hash(&self) -> u64 {
+        let last = match self.call {
+            Call::Decide { word } => word,
+            _ => self.truths() as u64,
+        };
+        let numbers = [
+            self.number() as u64,
+            self.n.into(),
+            self.records as u64,
+            last,
+        ];
+        let bytes = numbers.iter().flat_map(|number| number.to_le_bytes());
+        let step = |hash: u64, byte: u8| (hash ^ u64::from(byte)).wrapping_mul(0x100_0000_01b3);
+        bytes
+            .chain(self.stream.iter().copied())
+            .fold(0xcbf2_9ce4_8422_2325, step)
+    }
+
+    /// The case as a line.
+    pub fn line(&self) -> String {
+        let (name, n, records) = (NAMES[self.number()], self.n, self.records);
+        let stream = escaped(&self.stream);
+        match self.call {
+            Call::Check => format!("{name} {n} {records} {stream}"),
+            Call::Decide { word } => format!("{name} {n} {records} {word} {stream}"),
+            Call::Fill { truths } => format!("{name} {n} {records} {truths} {stream}"),
+            Call::Reader => format!("{name} {stream}"),
+        }
+    }
+
+    /// The case of a line.
+    pub fn parse(line: &str) -> Option<Case> {
+        let words: Vec<&str> = line.split_whitespace().collect();
+        let (call, n, records, stream) = match words[..] {
+            ["check", n, records, stream] => (Call::Check, n, records, stream),
+            ["decide", n, records, word, stream] => {
+                let word = word.parse().ok()?;
+                (Call::Decide { word }, n, records, stream)
+            }
+            ["fill", n, records, length, stream] => {
+                let truths = length.parse().ok()?;
+                (Call::Fill { truths }, n, records, stream)
+            }
+            ["reader", stream] => (Call::Reader, "0", "0", stream),
+            _ => return None,
+        };
+        Some(Case {
+            call,
+            n: n.parse().ok()?,
+            records: records.parse().ok()?,
+            stream: unescaped(stream)?,
+        })
+    }
+}
+
+fn escaped(bytes: &[u8]) -> String {
+    let shown = |&byte: &u8| match byte {
+        b'\n' => "\\n".to_string(),
+        b'"' | b'\\' | 0..=b' ' | 0x7f.. => format!("\\x{byte:02x}"),
+        _ => char::from(byte).to_string(),
+    };
+    format!("\"{}\"", bytes.iter().map(shown).collect::<String>())
+}
+
+fn unescaped(text: &str) -> Option<Vec<u8>> {
+    let mut rest = text.strip_prefix('"')?.strip_suffix('"')?;
+    let mut bytes = Vec::new();
+    while let Some(first) = rest.bytes().next() {
+        let used;
+        if let Some(code) = rest.strip_prefix("\\x") {
+            bytes.push(u8::from_str_radix(code.get(..2)?, 16).ok()?);
+            used = 4;
+        } else if rest.starts_with("\\n") {
+            bytes.push(b'\n');
+            used = 2;
+        } else {
+            bytes.push(first);
+            used = 1;
+        }
+        rest = rest.get(used..)?;
+    }
+    Some(bytes)
+}

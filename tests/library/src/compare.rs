@@ -1,0 +1,231 @@
+//! One case put to the library and to the plain walk.
+
+use crate::case::{Call, Case};
+use crate::foreign::{self, Checked, Decided, Filled, Place, Stepped, Stream};
+use crate::lent::Memory;
+use std::fmt::Debug;
+use walk::calls::{check, decide, fill, Decision};
+use walk::reader::{Element, Reader, Step};
+use walk::refusal::Refusal;
+
+/// What the walk's records hold before a call.
+const GARBAGE: u64 = 7;
+
+/// 0 if the walk takes the case (for the reader: the bytes ran out), else the cause of its refusal; an
+/// error says how the library differs.
+pub fn compare(case: &Case) -> Result<usize, String> {
+    let mut memory = Memory::new(case);
+    let outcome = match case.call {
+        Call::Check => compare_check(case, &mut memory)?,
+        Call::Decide { word } => compare_decide(case, word, &mut memory)?,
+        Call::Fill { .. } => compare_fill(case, &mut memory)?,
+        Call::Reader => compare_reader(case, &mut memory)?,
+    };
+    if !memory.stream.unchanged() {
+        return Err("the stream or what stands beside it was changed".to_string());
+    }
+    Ok(outcome as usize)
+}
+
+fn compare_check(case: &Case, memory: &mut Memory) -> Result<u32, String> {
+    let mut table = vec![GARBAGE; case.records];
+    let expected = match check(case.n.into(), &case.stream, &mut table) {
+        Ok(checked) => Checked {
+            covered: checked.covered,
+            size: small(checked.size),
+            extent: checked.complete.into(),
+            ..Checked::default()
+        },
+        Err(refusal) => {
+            let (cause, stream, byte) = refused(refusal);
+            Checked {
+                cause,
+                stream,
+                byte,
+                ..Checked::default()
+            }
+        }
+    };
+    // SAFETY: the slices are lent as rule.h asks.
+    let given = unsafe { foreign::rule_check(case.n, memory.stream(), memory.table()) };
+    same(expected, given)?;
+    same_memory(memory, &table, &[])?;
+    Ok(expected.cause)
+}
+
+fn compare_decide(case: &Case, word: u64, memory: &mut Memory) -> Result<u32, String> {
+    let mut table = vec![GARBAGE; case.records];
+    let expected = match decide(case.n.into(), &case.stream, word, &mut table) {
+        Ok(decision) => Decided {
+            verdict: match decision {
+                Decision::No => 0,
+                Decision::Yes => 1,
+                Decision::NotYet => 2,
+            },
+            ..Decided::default()
+        },
+        Err(refusal) => {
+            let (cause, stream, byte) = refused(refusal);
+            Decided {
+                cause,
+                stream,
+                byte,
+                ..Decided::default()
+            }
+        }
+    };
+    // SAFETY: the slices are lent as rule.h asks.
+    let given = unsafe { foreign::rule_decide(case.n, memory.stream(), word, memory.table()) };
+    same(expected, given)?;
+    same_memory(memory, &table, &[])?;
+    Ok(expected.cause)
+}
+
+fn compare_fill(case: &Case, memory: &mut Memory) -> Result<u32, String> {
+    let mut table = vec![GARBAGE; case.records];
+    let mut truths = memory.truths.was().to_vec();
+    let expected = match fill(case.n.into(), &case.stream, &mut truths, &mut table) {
+        Ok(covered) => Filled {
+            covered,
+            ..Filled::default()
+        },
+        Err(refusal) => {
+            let (cause, stream, byte) = refused(refusal);
+            Filled {
+                cause,
+                stream,
+                byte,
+                ..Filled::default()
+            }
+        }
+    };
+    let (stream, lent) = (memory.stream(), memory.truths());
+    // SAFETY: the slices are lent as rule.h asks.
+    let given = unsafe { foreign::rule_fill(case.n, stream, lent, memory.table()) };
+    same(expected, given)?;
+    same_memory(memory, &table, &truths)?;
+    Ok(expected.cause)
+}
+
+/// The whole stream; then a beginning of it, and from where that ran out the whole stream again.
+fn compare_reader(case: &Case, memory: &mut Memory) -> Result<u32, String> {
+    let whole = memory.stream();
+    // SAFETY: it takes nothing.
+    let begun = unsafe { foreign::rule_begin() };
+    same(0, begun.at)?;
+    let (_, _, cause) = follow(Reader::new(&case.stream), begun, whole)?;
+    let length = case.hash() as usize % (case.stream.len() + 1);
+    let beginning = Stream { length, ..whole };
+    let (place, elements, _) = follow(Reader::new(&case.stream[..length]), begun, beginning)?;
+    let mut reader = Reader::new(&case.stream);
+    for _ in 0..elements {
+        reader.step();
+    }
+    follow(reader, place, whole)?;
+    Ok(cause)
+}
+
+/// Step both to the stop and twice more: the place there, how many elements there were, the cause.
+fn follow(
+    mut reader: Reader,
+    mut place: Place,
+    stream: Stream,
+) -> Result<(Place, usize, u32), String> {
+    let (mut elements, mut stops) = (0, 0);
+    loop {
+        let step = reader.step();
+        // SAFETY: the bytes are lent as rule.h asks, and the place comes from a beginning of them.
+        let given = unsafe { foreign::rule_step(place, stream) };
+        let mut expected = stepped(step, given.place);
+        expected.place.at = reader.place();
+        if !matches!(step, Step::Element { .. }) {
+            expected.place = place;
+        }
+        same(expected, given)?;
+        place = given.place;
+        if let Step::Element { .. } = step {
+            elements += 1;
+            continue;
+        }
+        stops += 1;
+        if stops == 3 {
+            return Ok((place, elements, given.cause));
+        }
+    }
+}
+
+/// The walk's answer of one step; of a place only `at` has a meaning outside the library.
+fn stepped(step: Step, place: Place) -> Stepped {
+    let (outcome, element, number, cause, byte) = match step {
+        Step::Element { element, .. } => {
+            let (element, number) = match element {
+                Element::Opening => (0, 0),
+                Element::Number(number) => (1, number),
+                Element::Constant => (2, 0),
+                Element::Turn => (3, 0),
+                Element::Closing => (4, 0),
+                Element::Storing(number) => (5, number),
+                Element::End => (6, 0),
+            };
+            let capped = u32::try_from(number).unwrap_or(u32::MAX);
+            (0, element, capped, 0, 0)
+        }
+        Step::Fault(fault) => (1, 0, 0, small(fault.cause), fault.byte),
+        Step::RanOut => (2, 0, 0, 0, 0),
+    };
+    Stepped {
+        outcome,
+        element,
+        number,
+        cause,
+        byte,
+        place,
+    }
+}
+
+/// What the lent slices must hold: the records are zero where the walk's are, else as they were.
+fn same_memory(memory: &Memory, table: &[u64], truths: &[u8]) -> Result<(), String> {
+    let say = |text: &str| Err(text.to_string());
+    if !memory.table.guarded() {
+        return say("something beside the work table was changed");
+    }
+    if !memory.truths.guarded() {
+        return say("something beside the truth table was changed");
+    }
+    if memory.truths.now() != truths {
+        let place = (0..truths.len()).find(|&at| memory.truths.now()[at] != truths[at]);
+        let at = place.unwrap_or(0);
+        let (given, due) = (memory.truths.now()[at], truths[at]);
+        return Err(format!(
+            "byte {at} of the truth table is {given:#04x}, not {due:#04x}"
+        ));
+    }
+    let zero = table.iter().all(|&record| record == 0);
+    if !zero && memory.table.now() != memory.table.was() {
+        return say("the work table was changed");
+    }
+    if zero && memory.table.now().iter().any(|record| record != &[0; 6]) {
+        return say("the work table is not all zero");
+    }
+    Ok(())
+}
+
+fn same<T: Debug + PartialEq>(expected: T, given: T) -> Result<(), String> {
+    if expected == given {
+        return Ok(());
+    }
+    Err(format!("the walk: {expected:?}\nthe library: {given:?}"))
+}
+
+fn refused(refusal: Refusal) -> (u32, u32, u64) {
+    let Refusal {
+        cause,
+        stream,
+        byte,
+    } = refusal;
+    (small(cause), small(stream), byte as u64)
+}
+
+fn small(number: u64) -> u32 {
+    u32::try_from(number).expect("a small number")
+}

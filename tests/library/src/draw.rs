@@ -1,0 +1,458 @@
+//! The cases for a seed: those of `walk::generate`, every cut of some streams, then random ones until the
+//! count is reached.
+
+use crate::case::{Call, Case};
+use walk::deciding::truth_digit;
+use walk::functions::random_function;
+use walk::generate::{cases, nested, staircase};
+use walk::random::Random;
+use walk::reading::read;
+use walk::shapes::{cut, damaged, shaped};
+use walk::writing::write_words;
+
+/// Of so many cases, one is of the walk's own.
+const OWN: usize = 10;
+
+/// Streams that are cut at each place.
+const CUT_STREAMS: usize = 200;
+
+/// Long streams that random cases start from.
+const LONG_STREAMS: usize = 40;
+
+/// Streams in which a number has hundreds of parents.
+const CROWDS: usize = 40;
+
+pub struct Draw {
+    random: Random,
+    /// Cases that are always there, last first.
+    ready: Vec<Case>,
+    /// Option count and stream.
+    long: Vec<(u32, Vec<u8>)>,
+}
+
+impl Draw {
+    pub fn new(seed: u64, count: usize) -> Draw {
+        let mut draw = Draw {
+            random: Random::new(seed),
+            ready: Vec::new(),
+            long: Vec::new(),
+        };
+        for case in cases(seed, count / OWN) {
+            draw.take(case);
+        }
+        for _ in 0..CUT_STREAMS {
+            draw.every_cut();
+        }
+        draw.long = (0..LONG_STREAMS).map(|_| draw.long_stream()).collect();
+        for _ in 0..CROWDS {
+            draw.crowd();
+        }
+        draw.widest();
+        draw.ready.reverse();
+        draw
+    }
+
+    /// The cases that are always there are all handed out.
+    pub fn is_random(&self) -> bool {
+        self.ready.is_empty()
+    }
+
+    pub fn case(&mut self) -> Case {
+        if let Some(case) = self.ready.pop() {
+            return case;
+        }
+        let call = self.random.below(10);
+        let n = match call {
+            0..=5 => self.options(),
+            6..=7 => self.truth_options(),
+            _ => self.random.below(33) as u32,
+        };
+        let (n, stream) = self.stream(n);
+        match call {
+            0..=2 => self.check(n, stream),
+            3..=5 => self.decide(n, stream),
+            6..=7 => self.fill(n, stream),
+            _ => reader(stream),
+        }
+    }
+
+    /// A case of the walk. Of the calls that write, the streams are checked, and what is written from a
+    /// truth table is filled back.
+    fn take(&mut self, case: walk::case::Case) {
+        use walk::case::Case::*;
+        let options = |n: u64| u32::try_from(n).expect("the walk's option counts are small");
+        let mut push = |call: Call, n: u64, records: usize, stream: Vec<u8>| {
+            let n = options(n);
+            self.ready.push(Case {
+                call,
+                n,
+                records,
+                stream,
+            });
+        };
+        match case {
+            Check { n, records, stream } => push(Call::Check, n, records, stream),
+            Decide {
+                n,
+                records,
+                stream,
+                word,
+            } => push(Call::Decide { word }, n, records, stream),
+            Fill {
+                n,
+                records,
+                stream,
+                truth,
+            } => {
+                let truths = truth.len();
+                push(Call::Fill { truths }, n, records, stream);
+            }
+            Reader { stream } => push(Call::Reader, 0, 0, stream),
+            Write {
+                n,
+                size,
+                records,
+                truth,
+                ..
+            } => {
+                let mut output = vec![0; 4096];
+                let written =
+                    walk::calls::write(n, size, &truth, &mut output, &mut vec![0; records]);
+                output.truncate(written.map_or(0, |written| written.bytes));
+                let truths = truth.len();
+                push(Call::Fill { truths }, n, records, output);
+            }
+            Combine {
+                n,
+                records,
+                streams,
+                ..
+            } => {
+                for stream in streams {
+                    push(Call::Check, n, records[0], stream);
+                }
+            }
+            Join { .. } => {}
+        }
+    }
+
+    /// All cuts of a stream, each by every call.
+    fn every_cut(&mut self) {
+        let n = match self.random.below(4) {
+            0 => self.random.below(33) as u32,
+            _ => 3 + self.random.below(3) as u32,
+        };
+        let stream = loop {
+            let stream = self.stream_of(n);
+            if stream.len() <= 150 {
+                break stream;
+            }
+        };
+        for end in 0..=stream.len() {
+            let cut = stream[..end].to_vec();
+            let check = self.check(n, cut.clone());
+            let decide = self.decide(n, cut.clone());
+            self.ready.extend([check, decide, reader(cut.clone())]);
+            if n <= 10 {
+                let fill = self.fill(n, cut);
+                self.ready.push(fill);
+            }
+        }
+    }
+
+    /// A stream of some thousand bytes.
+    fn long_stream(&mut self) -> (u32, Vec<u8>) {
+        let n = 8 + self.random.below(5) as u32;
+        let function: Vec<bool> = match self.random.below(2) {
+            0 => (0..1 << n).map(|_| self.random.chance(1, 2)).collect(),
+            _ => random_function(&mut self.random, n),
+        };
+        let size = self.random.pick(&[1024, 1024, 1023, 500, 100]);
+        (n, write_words(n, size, |word| function[word as usize]).text)
+    }
+
+    /// Number 1 becomes a child of many stored nodes; the numbers of these are given out again, but for some
+    /// that are left; then 1 is.
+    fn crowd(&mut self) {
+        let n = 12;
+        let left = self.random.pick(&[0, 0, 1, 2, 128, 256]);
+        let parents = left + 1 + self.random.index(500 - left);
+        let given = parents - left;
+        let seconds = [&[" 1", "~1"][..], &[" 0", "~0"], &[" 0", "~0", " 1", "~1"]];
+        let seconds = self.random.pick(&seconds);
+        let mut nodes: Vec<String> = Vec::new();
+        for number in 0..parents {
+            let first = if number == 0 { "(0~0):1" } else { "1" };
+            let rest = self.random.pick(seconds);
+            nodes.push(format!("({first}{rest}):{}", number + 2));
+        }
+        nodes.extend((0..given).map(|number| format!("(0 0):{}", number + 2)));
+        nodes.push("(0 0):1".to_string());
+        // In pairs, up to the outermost.
+        for _ in 1..n - 1 {
+            let pair = |two: &[String]| match two {
+                [one] if one.ends_with(')') => format!("({one}0)"),
+                [one] => format!("({one} 0)"),
+                _ => format!("({})", two.concat()),
+            };
+            nodes = nodes.chunks(2).map(pair).collect();
+        }
+        let text = format!("1024\n{}.", nodes.concat()).into_bytes();
+        let check = self.check(n, text.clone());
+        let decide = self.decide(n, text.clone());
+        let fill = self.fill(n, text);
+        self.ready.extend([check, decide, fill]);
+    }
+
+    /// The stream of a random truth table of 16 options, by every call.
+    fn widest(&mut self) {
+        let truth = self.random.garbage(1 << 13);
+        let stream = write_words(16, 1024, |word| truth_digit(&truth, word)).text;
+        for end in [stream.len(), stream.len() / 2] {
+            let cut = stream[..end].to_vec();
+            let check = self.check(16, cut.clone());
+            let decide = self.decide(16, cut.clone());
+            let fill = self.fill(16, cut.clone());
+            self.ready.extend([check, decide, fill, reader(cut)]);
+        }
+    }
+
+    // ---- Arguments
+
+    /// Option counts 0 to 32, low ones more often.
+    fn options(&mut self) -> u32 {
+        match self.random.below(2) {
+            0 => self.random.below(7) as u32,
+            _ => self.random.below(33) as u32,
+        }
+    }
+
+    /// Option counts of truth tables, low ones more often.
+    fn truth_options(&mut self) -> u32 {
+        match self.random.below(100) {
+            0..=69 => 3 + self.random.below(4) as u32,
+            70..=97 => 6 + self.random.below(5) as u32,
+            _ => 11 + self.random.below(6) as u32,
+        }
+    }
+
+    /// Mostly the option count that the stream is for.
+    fn near(&mut self, n: u32) -> u32 {
+        match self.random.below(40) {
+            0 => n + 1,
+            1 => n.saturating_sub(1),
+            2 => self.random.below(33) as u32,
+            3 => self.random.pick(&[
+                33,
+                33,
+                34,
+                64,
+                255,
+                256,
+                65536 + n,
+                1 << 31,
+                u32::MAX - 1,
+                u32::MAX,
+            ]),
+            _ => n,
+        }
+    }
+
+    fn records(&mut self) -> usize {
+        match self.random.below(16) {
+            0 => self.random.pick(&[0, 1, 1023]),
+            1 => self.random.pick(&[1025, 1100]),
+            _ => 1024,
+        }
+    }
+
+    fn check(&mut self, n: u32, stream: Vec<u8>) -> Case {
+        Case {
+            call: Call::Check,
+            n: self.near(n),
+            records: self.records(),
+            stream,
+        }
+    }
+
+    /// Words below, at and past the covered count and 2^n.
+    fn decide(&mut self, n: u32, stream: Vec<u8>) -> Case {
+        let n = self.near(n);
+        let all = 1u64 << n.min(32);
+        let covered = read(n.min(32), &stream).map_or(0, |reading| reading.covered);
+        let word = match self.random.below(40) {
+            0 => all,
+            1 => all + self.random.below(all),
+            2 => all - 1,
+            3 => (1 << 32) + self.random.below(all),
+            4 => (1 << 63) + self.random.below(all),
+            5 => u64::MAX - self.random.below(3),
+            6..=11 => (covered + 1).saturating_sub(self.random.below(3)),
+            12..=29 => self.random.below(covered),
+            _ => self.random.below(all),
+        };
+        Case {
+            call: Call::Decide { word },
+            n,
+            records: self.records(),
+            stream,
+        }
+    }
+
+    /// Truth tables of the right length mostly.
+    fn fill(&mut self, n: u32, stream: Vec<u8>) -> Case {
+        let n = match self.random.below(40) {
+            0 => self.random.pick(&[0, 1, 2, 17, 19, 32, 33, u32::MAX]),
+            _ => self.near(n),
+        };
+        let right = (1usize << n.min(16)) / 8;
+        let truths = match self.random.below(20) {
+            0 => self
+                .random
+                .pick(&[0, 1, right.saturating_sub(1), right + 1, 2 * right]),
+            _ => right,
+        };
+        Case {
+            call: Call::Fill { truths },
+            n,
+            records: self.records(),
+            stream,
+        }
+    }
+
+    // ---- Streams
+
+    /// A stream meant for an option count, or a long one with its own option count; left as it is, cut,
+    /// damaged, or with a number replaced.
+    fn stream(&mut self, n: u32) -> (u32, Vec<u8>) {
+        let (n, mut stream) = if self.random.chance(1, 50) {
+            let chosen = self.random.index(self.long.len());
+            self.long[chosen].clone()
+        } else {
+            (n, self.stream_of(n))
+        };
+        let changes = match self.random.below(20) {
+            0..=7 => 0,
+            8..=17 => 1,
+            _ => 2,
+        };
+        for _ in 0..changes {
+            stream = match self.random.below(10) {
+                0..=3 => cut(&mut self.random, stream),
+                4..=7 => damaged(&mut self.random, stream),
+                _ => self.renumbered(stream),
+            };
+        }
+        (n, stream)
+    }
+
+    /// A stream meant for an option count: valid, or with one fault, or as far as a fault.
+    fn stream_of(&mut self, n: u32) -> Vec<u8> {
+        match self.random.below(20) {
+            0..=5 if n <= 8 => self.written(n),
+            0..=9 => shaped(&mut self.random, n, None),
+            10..=15 => {
+                let cause = self
+                    .random
+                    .pick(&[7, 8, 9, 10, 11, 11, 11, 12, 12, 12, 13, 13]);
+                shaped(&mut self.random, n, Some(cause))
+            }
+            16..=18 => self.wandering(n),
+            _ => self.deep(n),
+        }
+    }
+
+    /// As it is written for a random function.
+    fn written(&mut self, n: u32) -> Vec<u8> {
+        let function = random_function(&mut self.random, n);
+        let size = match self.random.below(4) {
+            0 => self.random.below(1025),
+            1 => self.random.below(40),
+            _ => self.random.below(7),
+        };
+        write_words(n, size, |word| function[word as usize]).text
+    }
+
+    /// Bytes that go on without a fault as long as chance has it.
+    fn wandering(&mut self, n: u32) -> Vec<u8> {
+        let size = self.random.below(5);
+        let mut bytes = format!("{size}\n").into_bytes();
+        let most = 4 + self.random.index(60);
+        while bytes.len() < most {
+            bytes.push(self.random.pick(b"((((000~~))):::1112234 ."));
+            if read(n, &bytes).is_ok() {
+                continue;
+            }
+            if self.random.chance(1, 30) {
+                break;
+            }
+            bytes.pop();
+        }
+        bytes
+    }
+
+    /// About as many brackets as there are options.
+    fn deep(&mut self, n: u32) -> Vec<u8> {
+        let count = (n + 1).saturating_sub(self.random.below(3) as u32).max(1);
+        let count = if self.random.chance(1, 4) {
+            30 + self.random.index(5)
+        } else {
+            count as usize
+        };
+        match self.random.below(2) {
+            0 => nested(count, self.random.pick(&["0", "(0~0):1", "1", "(0 0)"])),
+            _ => staircase(self.random.below(3), count),
+        }
+    }
+
+    /// A number replaced: by one that is alike in its low bits or digits, by one at a limit, or by a row of
+    /// up to some thousand digits.
+    fn renumbered(&mut self, stream: Vec<u8>) -> Vec<u8> {
+        let begins = |at: usize| {
+            stream[at].is_ascii_digit() && (at == 0 || !stream[at - 1].is_ascii_digit())
+        };
+        let places: Vec<usize> = (0..stream.len()).filter(|&at| begins(at)).collect();
+        if places.is_empty() {
+            return stream;
+        }
+        let at = self.random.pick(&places);
+        let digits = stream[at..].iter().take_while(|byte| byte.is_ascii_digit());
+        let end = at + digits.count();
+        let old = String::from_utf8_lossy(&stream[at..end]).into_owned();
+        let number = self.number(&old);
+        [&stream[..at], number.as_bytes(), &stream[end..]].concat()
+    }
+
+    fn number(&mut self, old: &str) -> String {
+        let value: u128 = old.parse().unwrap_or(0);
+        let more = 1 + u128::from(self.random.below(3));
+        match self.random.below(12) {
+            0..=2 => (value + (more << 32)).to_string(),
+            3..=4 => (value + (more << 64)).to_string(),
+            5 => (value + (more << self.random.pick(&[8, 10, 16, 31, 33, 63]))).to_string(),
+            6 => ((1u128 << self.random.pick(&[10, 16, 31, 32, 64])) + more - 2).to_string(),
+            7 => (1022 + more).to_string(),
+            8 => format!("0{old}"),
+            9 => format!("1{}{old}", "0".repeat(self.random.index(60))),
+            10 => self.digits(40),
+            _ => self.digits(3000),
+        }
+    }
+
+    /// Up to so many digits.
+    fn digits(&mut self, most: usize) -> String {
+        let count = self.random.index(most);
+        let mut digit = || char::from(self.random.pick(b"0123456789"));
+        let row: String = (0..count).map(|_| digit()).collect();
+        format!("{}{row}", 1 + self.random.below(9))
+    }
+}
+
+fn reader(stream: Vec<u8>) -> Case {
+    Case {
+        call: Call::Reader,
+        n: 0,
+        records: 0,
+        stream,
+    }
+}

@@ -1,0 +1,229 @@
+//! `include/rule.h` in Rust: the same types, field by field, and the calls.
+
+use std::fmt::{Debug, Formatter};
+
+/// A stream that is lent.
+#[derive(Clone, Copy)]
+pub struct Stream {
+    pub bytes: *const u8,
+    pub length: usize,
+}
+
+/// A truth table that is lent.
+#[derive(Clone, Copy)]
+pub struct Truths {
+    pub bytes: *mut u8,
+    pub length: usize,
+}
+
+/// `rule_record`.
+pub type Record = [u32; 6];
+
+/// A work table that is lent.
+#[derive(Clone, Copy)]
+pub struct Table {
+    pub records: *mut Record,
+    pub length: usize,
+}
+
+/// `rule_checked`.
+#[repr(C)]
+#[derive(Clone, Copy, Debug, Default, PartialEq, Eq)]
+pub struct Checked {
+    pub cause: u32,
+    pub stream: u32,
+    pub byte: u64,
+    pub covered: u64,
+    pub size: u32,
+    pub extent: u32,
+}
+
+/// `rule_decided`.
+#[repr(C)]
+#[derive(Clone, Copy, Debug, Default, PartialEq, Eq)]
+pub struct Decided {
+    pub cause: u32,
+    pub stream: u32,
+    pub byte: u64,
+    pub verdict: u32,
+    pub spare: u32,
+}
+
+/// `rule_filled`.
+#[repr(C)]
+#[derive(Clone, Copy, Debug, Default, PartialEq, Eq)]
+pub struct Filled {
+    pub cause: u32,
+    pub stream: u32,
+    pub byte: u64,
+    pub covered: u64,
+}
+
+/// `rule_ref`.
+#[repr(C)]
+#[derive(Clone, Copy, PartialEq, Eq)]
+pub struct Ref {
+    number: u32,
+    stamp: u32,
+}
+
+/// `rule_open`.
+#[repr(C)]
+#[derive(Clone, Copy, PartialEq, Eq)]
+pub struct Open {
+    first: Ref,
+    second: bool,
+    turned: bool,
+}
+
+impl Debug for Open {
+    fn fmt(&self, formatter: &mut Formatter) -> std::fmt::Result {
+        let Open {
+            first: Ref { number, stamp },
+            second,
+            turned,
+        } = self;
+        write!(formatter, "{number}/{stamp}/{second}/{turned}")
+    }
+}
+
+/// `rule_opens`.
+#[repr(C)]
+#[derive(Clone, Copy)]
+pub struct Opens {
+    nodes: [Open; 32],
+    depth: usize,
+}
+
+/// `rule_place`.
+#[repr(C)]
+#[derive(Clone, Copy)]
+pub struct Place {
+    pub at: usize,
+    mark: u32,
+    last: Ref,
+    opens: Opens,
+}
+
+impl Place {
+    /// The open nodes; entries behind them count for nothing.
+    fn open(&self) -> &[Open] {
+        &self.opens.nodes[..self.opens.nodes.len().min(self.opens.depth)]
+    }
+}
+
+impl PartialEq for Place {
+    fn eq(&self, other: &Place) -> bool {
+        (self.at, self.mark, self.last) == (other.at, other.mark, other.last)
+            && self.open() == other.open()
+    }
+}
+
+impl Eq for Place {}
+
+impl Debug for Place {
+    fn fmt(&self, formatter: &mut Formatter) -> std::fmt::Result {
+        let Place { at, mark, last, .. } = self;
+        let Ref { number, stamp } = last;
+        let open = self.open();
+        write!(
+            formatter,
+            "at {at}, mark {mark}, last {number} {stamp}, open {open:?}"
+        )
+    }
+}
+
+/// `rule_stepped`.
+#[repr(C)]
+#[derive(Clone, Copy, Debug, PartialEq, Eq)]
+pub struct Stepped {
+    pub outcome: u32,
+    pub element: u32,
+    pub number: u32,
+    pub cause: u32,
+    pub byte: usize,
+    pub place: Place,
+}
+
+mod calls {
+    use super::{Checked, Decided, Filled, Place, Record, Stepped};
+
+    extern "C" {
+        pub fn rule_check(
+            n: u32,
+            stream: *const u8,
+            stream_bytes: usize,
+            table: *mut Record,
+            records: usize,
+        ) -> Checked;
+        pub fn rule_decide(
+            n: u32,
+            stream: *const u8,
+            stream_bytes: usize,
+            word: u64,
+            table: *mut Record,
+            records: usize,
+        ) -> Decided;
+        pub fn rule_fill(
+            n: u32,
+            stream: *const u8,
+            stream_bytes: usize,
+            truths: *mut u8,
+            truth_bytes: usize,
+            table: *mut Record,
+            records: usize,
+        ) -> Filled;
+        pub fn rule_begin() -> Place;
+        pub fn rule_step(place: Place, stream: *const u8, stream_bytes: usize) -> Stepped;
+    }
+}
+
+/// # Safety
+/// What is lent is there, and nothing else refers to it.
+pub unsafe fn rule_check(n: u32, s: Stream, t: Table) -> Checked {
+    calls::rule_check(n, s.bytes, s.length, t.records, t.length)
+}
+
+/// # Safety
+/// What is lent is there, and nothing else refers to it.
+pub unsafe fn rule_decide(n: u32, s: Stream, word: u64, t: Table) -> Decided {
+    calls::rule_decide(n, s.bytes, s.length, word, t.records, t.length)
+}
+
+/// # Safety
+/// What is lent is there, and nothing else refers to it.
+pub unsafe fn rule_fill(n: u32, s: Stream, v: Truths, t: Table) -> Filled {
+    calls::rule_fill(n, s.bytes, s.length, v.bytes, v.length, t.records, t.length)
+}
+
+/// # Safety
+/// None is needed.
+pub unsafe fn rule_begin() -> Place {
+    calls::rule_begin()
+}
+
+/// # Safety
+/// The stream is there.
+pub unsafe fn rule_step(place: Place, s: Stream) -> Stepped {
+    calls::rule_step(place, s.bytes, s.length)
+}
+
+/// The sizes and offsets that `layout.c` finds in the header.
+const _: () = {
+    use std::mem::{offset_of, size_of};
+    assert!(size_of::<Record>() == 24);
+    assert!(size_of::<Checked>() == 32 && offset_of!(Checked, stream) == 4);
+    assert!(offset_of!(Checked, byte) == 8 && offset_of!(Checked, covered) == 16);
+    assert!(offset_of!(Checked, size) == 24 && offset_of!(Checked, extent) == 28);
+    assert!(size_of::<Decided>() == 24 && offset_of!(Decided, stream) == 4);
+    assert!(offset_of!(Decided, byte) == 8 && offset_of!(Decided, verdict) == 16);
+    assert!(size_of::<Filled>() == 24 && offset_of!(Filled, stream) == 4);
+    assert!(offset_of!(Filled, byte) == 8 && offset_of!(Filled, covered) == 16);
+    assert!(size_of::<Place>() == 416 && offset_of!(Place, mark) == 8);
+    assert!(offset_of!(Place, last) == 12 && offset_of!(Place, opens) == 24);
+    assert!(size_of::<Opens>() == 392 && offset_of!(Opens, depth) == 384);
+    assert!(size_of::<Open>() == 12 && offset_of!(Open, second) == 8);
+    assert!(size_of::<Stepped>() == 440 && offset_of!(Stepped, element) == 4);
+    assert!(offset_of!(Stepped, number) == 8 && offset_of!(Stepped, cause) == 12);
+    assert!(offset_of!(Stepped, byte) == 16 && offset_of!(Stepped, place) == 24);
+};
