@@ -1,0 +1,2 @@
+# crates/reader/src/lib.rt
+s/^    let e = least(m, t.len());/    let e = least(m, 1024);/

@@ -1,0 +1,2 @@
+# crates/reader/src/lib.rt
+s/^        q.complement = true;/        q.complement = false;/

@@ -1,0 +1,2 @@
+# crates/reader/src/lib.rt
+s/^    count(t, z, x.second, true);/    count(t, z, x.second, false);/

@@ -1,0 +1,2 @@
+# crates/reader/src/lib.rt
+s/^    if digital {/    if !digital {/
