@@ -4,7 +4,7 @@ use mathlib.Core.Bool.{Bool, true, false, cond}
 use mathlib.Core.List.{List}
 use Prim.Native.Nat.{ℕ}
 use Rattle.lists.specs.Lists.{bit}
-use Rattle.reading.specs.Causes.{Refusal, Result, refused, done, causeRow}
+use Rattle.reading.specs.Causes.{Result, refused, done, causeRow}
 use Rattle.reading.specs.Calls as R
 use Rattle.reader.specs.Table.{noRecord}
 use Rattle.firmware.specs.declared.RuleChecked.{RuleChecked}

@@ -1,6 +1,5 @@
 -- What the calls answer, as the paper has it: refusals with the paper's number of each cause, verdicts, extents. Assumes nothing.
-use mathlib.Core.Bool.{Bool, true, false, cond}
-use mathlib.Core.List.{List}
+use mathlib.Core.Bool.{cond}
 use Prim.Native.Nat.{ℕ}
 use Rattle.reading.specs.Causes as C
 use Rattle.reading.specs.Calls as R

@@ -1,35 +1,33 @@
 -- What the calls come to, from what their loops reach. Assumes nothing.
 use mathlib.Core.Path.{_≡_, refl, sym, ap, ap₂, _∙_, subst}
-use mathlib.Core.Logic.{⊎-elim}
-use mathlib.Core.Bool.{Bool, true, false, cond, not, _&&_, false≢true, true≢false}
+use mathlib.Core.Bool.{Bool, true, false, cond, _&&_}
 use mathlib.Core.List.{List, [], _∷_, _++_}
 use mathlib.Core.Option.{Option, none, some}
-use Prim.Native.Nat.{ℕ, zero, suc, min, _+_, _*_, _-_, _/_, _%_, _<_, _≤_, _^_}
+use Prim.Native.Nat.{ℕ, suc, min, _+_, _*_, _-_, _/_, _%_, _<_, _≤_, _^_}
 use native.Mathlib.Nat.{mod-eq-of-lt, one-mul}
 use native.Mathlib.Omega.{arith}
-use lib.Dec.{ltb, leb, eqb}
+use lib.Dec.{leb}
 use lib.ListN.{length, replicate, drop}
 use lib.Pow.{pow-mono}
 use borrow.Author.Tests.{lt-ltb, le-ltb, lt-leb, le-leb, eq-eqb, ne-eqb}
-use Rattle.lists.specs.Lists.{differ, decide-le}
+use Rattle.lists.specs.Lists.{differ}
 use Rattle.reading.specs.Nodes.{Node, child}
 use Rattle.reading.specs.Causes as C
-use Rattle.reading.specs.Reading.{State, Fault, Reading, goes, fails, isStart, level, reading}
-use Rattle.reading.specs.Deciding.{complemented, options, Trace, traceOn, trace}
+use Rattle.reading.specs.Reading.{Fault, Reading, reading}
+use Rattle.reading.specs.Deciding.{complemented, options, trace}
 use Rattle.reading.specs.Calls as R
 use Rattle.reading.specs.Covered.{parity}
 use Rattle.reading.specs.TableWalk.{rowWalk}
 use Rattle.reading.specs.Prefix.{trace-reading}
 use Rattle.reading.specs.Settled.{fault-place}
 use Rattle.reading.specs.CallLaws.{zeroes-table, zeroes-done}
-use Rattle.reading.specs.Reaching.{At, at-fault, at-end, at-end-trace, at-covered, at-within, at-grows, at-most, at-passes, decided-passed, decided-not, filled-first, filled-alike, filled-on}
+use Rattle.reading.specs.Reaching.{At, at-fault, at-end, at-covered, decided-passed, decided-not}
 use Rattle.reader.specs.Cite.{markOf, refOf, causeOf, openList}
-use Rattle.reader.specs.Answers.{refusalOf, checkingOf, verdictsOf, decidingOf, fillingOf}
 use Rattle.reader.specs.Table.{noRecord, clearTo}
 use Rattle.reader.specs.TableLaws.{tableOf}
 use Rattle.reader.specs.Simulation.{child-of}
 use Rattle.reader.specs.Advance.{stateAt, HaltsAt}
-use Rattle.reader.specs.Loop.{Stands, PassedLast, Ends, ReachedBy}
+use Rattle.reader.specs.Loop.{Stands, Ends, ReachedBy}
 use Rattle.reader.specs.declared.Edge.{Edge}
 use Rattle.reader.specs.declared.Reached.{Reached}
 use Rattle.reader.specs.declared.Verdict.{Verdict}

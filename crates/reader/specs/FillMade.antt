@@ -1,16 +1,16 @@
 -- Filling a truth table node by node, from what the loop reaches. Assumes nothing.
-use mathlib.Core.Path.{_≡_, refl, sym, ap, ap₂, _∙_, subst}
+use mathlib.Core.Path.{_≡_, sym, ap, ap₂, _∙_, subst}
 use mathlib.Core.Logic.{⊎-elim}
 use mathlib.Core.Bool.{Bool, true, false, cond}
 use mathlib.Core.List.{List, []}
-use mathlib.Core.Option.{none, some}
+use mathlib.Core.Option.{none}
 use Prim.Native.Nat.{ℕ, suc, _+_, _-_, _/_, _<_, _≤_, _^_}
 use native.Mathlib.Omega.{arith}
 use lib.ListN.{length, replicate}
 use lib.Pow.{pow-mono}
 use Rattle.lists.specs.Lists.{differ, decide-le}
 use Rattle.reading.specs.Nodes.{Node, child}
-use Rattle.reading.specs.Reading.{State, Fault, Reading, reading}
+use Rattle.reading.specs.Reading.{State, Reading, reading}
 use Rattle.reading.specs.Deciding.{Trace, traceOn, trace}
 use Rattle.reading.specs.Calls.{bytesFrom}
 use Rattle.reading.specs.Covered.{parity}

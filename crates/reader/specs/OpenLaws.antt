@@ -13,7 +13,6 @@ use lib.Seq.{getD-set-same, getD-set-other, set-set, set-comm}
 use borrow.Author.Tests.{ltb-true, ltb-false, lt-ltb, ne-eqb}
 use Rattle.reading.specs.Limits.{optionLimit}
 use Rattle.reading.specs.Bytes.{opener, closer, tilde, colon, dot, blank, isDigit, lineFeed}
-use Rattle.reading.specs.Nodes as N
 use Rattle.reading.specs.Element as T
 use Rattle.reading.specs.Reading.{isStart}
 use Rattle.reader.specs.Glance.{Top, topOf, Change, same, push, pop, secondPush, second, changed, Glance, sizeLine, sizeSeen, numberSeen, storingSeen, nodeSeen, spaceSeen, colonSeen, endSeen, glanceBy, glanceOn, glance, empty, inner, outer}

@@ -9,7 +9,6 @@ use lib.Dec.{ltb}
 use lib.ListN.{length, getD, set}
 use borrow.Author.Tests.{ltb-true, ltb-false, le-ltb, ne-eqb}
 use Rattle.reading.specs.Element as T
-use Rattle.reading.specs.Nodes as N
 use Rattle.reader.specs.Glance as G
 use Rattle.reader.specs.Capped.{capGlance, capStep}
 use Rattle.reader.specs.Cite.{refOf, markOf, outcomeOf, sighted, outcomeIn, topsOf, depthBy, secondBy, turnedBy, Seen, plain, seenOf, opensOf, insideOpen, begunOpen, deepOf, sideOf, lowAt, highAt, Looked, lookBy, lookAt, lookOf, placeOf, steppedOf}

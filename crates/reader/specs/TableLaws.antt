@@ -7,7 +7,7 @@ use Prim.Native.Nat.{ℕ, zero, suc, _+_, _-_, min, _<_, _≤_}
 use native.Mathlib.Omega.{arith}
 use lib.Dec.{ltb, eqb}
 use lib.ListN.{length, getD, set, take, drop, replicate, length-set, length-map, length-take, length-append, length-replicate, length-drop, getD-replicate, List·getD-append, List·getD-map, List·getD-eq-default}
-use lib.Seq.{take-at, take-set-le, take-set-lt, set-getD, getD-take, getD-set-same, getD-set-other}
+use lib.Seq.{take-at, take-set-lt, set-getD, getD-take, getD-set-same, getD-set-other}
 use borrow.Author.Tests.{ne-eqb, eq-eqb, lt-ltb}
 use Rattle.lists.specs.Lists.{bit, decide-eq, decide-le}
 use Rattle.lists.specs.Maps.{map-replicate}

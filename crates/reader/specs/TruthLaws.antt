@@ -8,7 +8,7 @@ use native.Mathlib.Numerals.{add-one}
 use native.Mathlib.Omega.{arith}
 use lib.Dec.{ltb, eqb}
 use lib.Pow.{pow-mono}
-use lib.ListN.{length, getD, set, take, replicate, length-set, replicate-append-replicate, List·getD-map}
+use lib.ListN.{length, getD, set, take, replicate, replicate-append-replicate, List·getD-map}
 use lib.Seq.{set-out, take-suc-set}
 use borrow.Author.Tests.{ne-eqb}
 use Rattle.lists.specs.Lists.{differ}
@@ -86,19 +86,6 @@ put-truths m t i c b w k n p q e =
     ∙ bytes-small k n q 0
 
 -- ---- Lengths ---------------------------------------------------------------------------------
-
-length-either : (t : Bool) (xs ys : List ℕ) (k : ℕ) → length xs ≡ k → length ys ≡ k → length (cond t xs ys) ≡ k
-length-either true xs ys k p q = p
-length-either false xs ys k p q = q
-
--- A truth table keeps its length.
-pub length-put-in : (m : ℕ) (t : List Node) (i c : ℕ) (b : Bool) (w : ℕ) (bs : List ℕ) → length (putNodeIn m t i c b w bs) ≡ length bs
-unfolding putNodeIn
-length-put-in zero t i c b w bs = length-either (eqb c 0 && b) (withWordIn bs w) bs (length bs) (length-set bs (w / 8) _) refl
-length-put-in (suc m) t i c b w bs =
-    let two : (c₁ : ℕ) (b₁ : Bool) (c₂ : ℕ) (b₂ : Bool) → length (putNodeIn m t (i + 1) c₂ b₂ (w + 2 ^ m) (putNodeIn m t (i + 1) c₁ b₁ w bs)) ≡ length bs
-    = λ c₁ b₁ c₂ b₂. length-put-in m t (i + 1) c₂ b₂ (w + 2 ^ m) (putNodeIn m t (i + 1) c₁ b₁ w bs) ∙ length-put-in m t (i + 1) c₁ b₁ w bs in
-    length-either (eqb c 0 || ltb i (node t c .level)) _ _ (length bs) (two c b c b) (two (node t c .first) b (node t c .second) (differ (node t c .complement) b))
 
 -- ---- Zeros -----------------------------------------------------------------------------------
 

@@ -7,7 +7,7 @@ use mathlib.Core.List.{List, [], _∷_, map}
 use Prim.Native.Nat.{ℕ, zero, suc, _+_, _-_, _*_, _/_, _%_, _<_, _≤_, _^_}
 use native.Mathlib.Omega.{arith}
 use lib.Dec.{ltb, eqb}
-use lib.ListN.{length, getD, set, replicate, length-map, length-set, List·getD-append}
+use lib.ListN.{length, getD, set, replicate, length-map, List·getD-append}
 use borrow.Author.Tests.{lt-ltb, le-ltb, eq-eqb, ne-eqb}
 use Rattle.lists.specs.Lists.{differ, decide-eq, decide-le}
 use Rattle.lists.specs.Maps.{map-append}
@@ -66,20 +66,6 @@ pub put-nothing : (m : ℕ) (t : List Node) (i w : ℕ) (bs : List ℕ) → putN
 unfolding putNode
 put-nothing zero t i w bs = refl
 put-nothing (suc m) t i w bs = put-nothing m t (i + 1) (w + 2 ^ m) (putNode m t (i + 1) 0 false w bs) ∙ put-nothing m t (i + 1) w bs
-
--- either way as long
-length-cond : (t : Bool) (xs ys : List ℕ) (k : ℕ) → length xs ≡ k → length ys ≡ k → length (cond t xs ys) ≡ k
-length-cond true xs ys k p q = p
-length-cond false xs ys k p q = q
-
--- the truth table keeps its length
-pub length-put : (m : ℕ) (t : List Node) (i c : ℕ) (b : Bool) (w : ℕ) (bs : List ℕ) → length (putNode m t i c b w bs) ≡ length bs
-unfolding putNode
-length-put zero t i c b w bs = length-cond (eqb c 0 && b) (withWord bs w) bs (length bs) (length-set bs (w / 8) _) refl
-length-put (suc m) t i c b w bs =
-    length-cond (eqb c 0 || ltb i (node t c .level)) _ _ (length bs)
-    (length-put m t (i + 1) c b (w + 2 ^ m) (putNode m t (i + 1) c b w bs) ∙ length-put m t (i + 1) c b w bs)
-    (length-put m t (i + 1) (node t c .second) (differ (node t c .complement) b) (w + 2 ^ m) (putNode m t (i + 1) (node t c .first) b w bs) ∙ length-put m t (i + 1) (node t c .first) b w bs)
 
 -- ---- A truth table as digits -----------------------------------------------------------------
 

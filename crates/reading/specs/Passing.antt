@@ -7,7 +7,7 @@ use mathlib.Core.List.{List, [], _∷_, _++_, map}
 use mathlib.Core.Option.{Option, none, some}
 use Prim.Native.Nat.{ℕ, zero, suc, _+_, _-_, _<_, _≤_, _^_}
 use native.Mathlib.Omega.{arith}
-use lib.ListN.{length, getD, set, length-append, length-map, List·getD-append, List·getD-eq-default, List·getD-map}
+use lib.ListN.{length, getD, set, length-append, length-map, List·getD-append, List·getD-map}
 use lib.Seq.{getD-set-same, getD-append-add}
 use borrow.Author.Tests.{eq-eqb}
 use Rattle.lists.specs.Lists.{differ, decide-le}
@@ -225,10 +225,3 @@ pub passed-size : (f n : ℕ) (bytes : List ℕ) →
 passed-size f n bytes =
     let t = traceOn f n bytes startTrace in
     ⊎-elim (λ j. inl j) (λ (p : PassingTrace n t (nextTrace n bytes t)). inr (p .more)) (passing-next n bytes t (current-on f n bytes))
-
--- A word that is not yet passed is undecided.
-pub uncovered-decision : (f n : ℕ) (bytes : List ℕ) (w : ℕ) → let t = traceOn f n bytes startTrace in w < 2 ^ n → t .reading .state .covered ≤ w → decisionOf n t w ≡ undecided
-uncovered-decision f n bytes w h k =
-    let t = traceOn f n bytes startTrace in
-    let g = tied-on f n bytes .good in
-    words-decide n t g w h ∙ List·getD-eq-default (map decided (traceWords n t)) undecided (omega (arith, k, length-map (traceWords n t) decided, words-count n (t .reading .state) (t .drawing) g))

@@ -1,14 +1,16 @@
 -- With no option below it a node is one word, as `put_edge` puts it; else the words of its first child
 -- come first and those of its second after them, by the rule of `putNodeIn`. Assumes nothing.
 use mathlib.Core.Path.{refl, _∙_}
+use Prim.Native.Nat.{ℕ, _<_}
 use native.Mathlib.Omega.{arith}
+use borrow.Fn.Kinds.{In}
+use borrow.Fn.PlainCycle.{Measures, is, falls, and}
 use Rattle.reader.specs.TableLaws.{tableOf}
 use Rattle.reader.specs.Taking.{few-words}
 use Rattle.reader.specs.TruthLaws.{both-halves, put-one, put-made}
 use borrow.Author.Needs.{needs}
-use Prim.Native.Nat.{ℕ, _<_}
-use borrow.Fn.Kinds.{In}
-use borrow.Fn.PlainCycle.{Measures, is, falls, and}
+use Rattle.reader.proofs.+fill_node.{statement}
+use Rattle.reader.proofs.+fill_node.Tie.{close}
 use Rattle.reader.proofs.fill_node.Reads as fill-node
 use Rattle.reader.proofs.fill_node.Kinds as fill-node-kinds
 use Rattle.reader.proofs.+fill_node.Lts-fill_node as fill-node-lts
@@ -16,8 +18,6 @@ use Rattle.reader.proofs.first_edge.Reads as first-edge-reads
 use Rattle.reader.proofs.get.Reads as get-reads
 use Rattle.reader.proofs.put_edge.Reads as put-edge-reads
 use Rattle.reader.proofs.second_edge.Reads as second-edge-reads
-use Rattle.reader.proofs.+fill_node.{statement}
-use Rattle.reader.proofs.+fill_node.Tie.{close}
 
 abbrev μ-fill-node : Measures 2 fill-node-kinds.ps ℕ
 μ-fill-node κs a = a .1 .1 .1 .0

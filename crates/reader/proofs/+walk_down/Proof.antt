@@ -1,15 +1,17 @@
 -- The terminal and a word without options are decided at once; else the word goes on in the first child or in the second, with an option less.
 -- Assumes nothing.
 use mathlib.Core.Path.{refl, ap, _∙_}
+use Prim.Native.Nat.{ℕ, _<_}
 use native.Mathlib.Omega.{arith}
+use borrow.Fn.Kinds.{In}
+use borrow.Fn.PlainCycle.{Measures, is, falls, and}
 use Rattle.reading.specs.Calls.{verdictOf}
 use Rattle.reading.specs.Deciding.{options}
 use Rattle.reader.specs.TableLaws.{tableOf}
 use Rattle.reader.specs.WalkLaws.{walk-terminal, walk-over, walk-low, walk-high}
 use borrow.Author.Needs.{needs}
-use Prim.Native.Nat.{ℕ, _<_}
-use borrow.Fn.Kinds.{In}
-use borrow.Fn.PlainCycle.{Measures, is, falls, and}
+use Rattle.reader.proofs.+walk_down.{statement}
+use Rattle.reader.proofs.+walk_down.Tie.{close}
 use Rattle.reader.proofs.walk_down.Reads as walk-down
 use Rattle.reader.proofs.walk_down.Kinds as walk-down-kinds
 use Rattle.reader.proofs.+walk_down.Lts-walk_down as walk-down-lts
@@ -17,8 +19,6 @@ use Rattle.reader.proofs.first_edge.Reads as first-edge-reads
 use Rattle.reader.proofs.get.Reads as get-reads
 use Rattle.reader.proofs.second_edge.Reads as second-edge-reads
 use Rattle.reader.proofs.verdict_of.Reads as verdict-of-reads
-use Rattle.reader.proofs.+walk_down.{statement}
-use Rattle.reader.proofs.+walk_down.Tie.{close}
 
 abbrev μ-walk-down : Measures 1 walk-down-kinds.ps ℕ
 μ-walk-down κs a = a .1 .1 .0

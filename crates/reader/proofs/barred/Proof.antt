@@ -8,29 +8,23 @@ use borrow.Author.Needs.{needs}
 use Rattle.reader.proofs.barred.Statement.{statement}
 use Rattle.reader.proofs.barred.Tie as tie
 
--- src/lib.rt:1395:9
 returns : tie.Need-returns
 returns c = let a = c .before .args in (barred-other (a .t .now) (a .r) (a .b) (c .if1 .taken), refl)
 
--- src/lib.rt:1397:9
 is-two-requires : tie.Need-is-two-requires
 is-two-requires c κs = search needs
 
--- src/lib.rt:1398:9
 returns-2 : tie.Need-returns-2
 returns-2 c =
     let a = c .before .before .before .args in
     (barred-mark (a .t .now) (a .r) (a .b) (sym (c .before .is-two .ensures) ∙ not-true _ (c .if2 .taken)), refl)
 
--- src/lib.rt:1402:9
 get-requires : tie.Need-get-requires
 get-requires c κs = search needs
 
--- src/lib.rt:1404:9
 same-length : tie.Need-same-length
 same-length c = search needs
 
--- src/lib.rt:1404:9
 returns-3 : tie.Need-returns-3
 returns-3 c =
     let g = c .before .before .before .before in
@@ -41,15 +35,12 @@ returns-3 c =
     let bars = sym stamp ∙ ap not (ne-eqb _ _ (c .if3 .taken)) in
     (barred-first (a .t .now) (a .r) (a .b) two (g .before .before .before .before .before .before .if1 .left) bars, got .ensures .1)
 
--- src/lib.rt:1407:9
 get-requires-2 : tie.Need-get-requires-2
 get-requires-2 c κs = search needs
 
--- src/lib.rt:1390:1
 same-length-2 : tie.Need-same-length-2
 same-length-2 c = search needs
 
--- src/lib.rt:1390:1
 returns-4 : tie.Need-returns-4
 returns-4 c =
     let g = c .before .before .before .before .before .before .before .before .before .before in

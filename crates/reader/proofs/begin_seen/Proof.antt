@@ -4,17 +4,17 @@ use mathlib.Core.Path.{_≡_, sym, ap, _∙_}
 use mathlib.Core.Bool.{false, _&&_}
 use mathlib.Core.Logic.{⊎-elim}
 use Prim.Native.Nat.{_+_}
-use borrow.Author.Tests.{eq-eqb, ne-eqb}
 use lib.Dec.{eqb}
 use lib.ListN.{getD}
+use borrow.Author.Tests.{eq-eqb, ne-eqb}
 use Rattle.lists.specs.Lists.{and-true}
 use Rattle.reading.specs.Bytes.{tilde}
 use Rattle.reading.specs.Reading.{isLead}
 use Rattle.reading.specs.Element.{turn, begins}
 use Rattle.reader.specs.Glance.{same, gave, nodeSeen}
-use Rattle.reader.specs.GlanceLaws as G
 use Rattle.reader.specs.SeenLaws.{and-left, and-right}
 use Rattle.reader.specs.Cite.{markOf, seenOf, plain}
+use Rattle.reader.specs.GlanceLaws as G
 use borrow.Author.Needs.{needs}
 use Rattle.reader.proofs.begin_seen.Statement.{statement}
 use Rattle.reader.proofs.begin_seen.Tie as tie

@@ -1,21 +1,14 @@
 -- The first i records are cleared, up to m or the end.
 -- Assumes nothing.
-use mathlib.Core.Path.{_≡_, refl, sym, ap, _∙_}
+use mathlib.Core.Path.{_≡_, refl, ap, _∙_}
 use mathlib.Core.List.{List}
-use Prim.Native.Nat.{ℕ, _<_}
+use Prim.Native.Nat.{ℕ, _<_, min, _-_, _≤_}
 use native.Mathlib.Omega.{arith}
-use lib.ListN.{set, length-set}
-use Rattle.reader.specs.Table.{noRecord, clear-none, clear-more, clear-least}
-use mathlib.Core.Path.{_≡_}
-use Prim.Native.Nat.{min, _-_, _≤_}
-use lib.ListN.{length}
-use Rattle.reader.specs.Table.{clearTo}
+use lib.ListN.{set, length-set, length}
+use Rattle.reader.specs.Table.{noRecord, clear-none, clear-more, clear-least, clearTo}
 use borrow.Author.Needs.{needs}
 use Rattle.reader.proofs.clear.Statement.{statement}
 use Rattle.reader.proofs.clear.Tie as tie
-use Rattle.reader.proofs.clear.Reads as reads
-use Rattle.reader.proofs.clear.Lts as lts
-use Rattle.reader.proofs.least.Reads as least-reads
 
 abbrev Inv-loop : tie.InvT-loop
 Inv-loop t₀ m e i₀ t i = (i ≤ e) × ((e ≡ min m (length t₀)) × ((length t ≡ length t₀) × (t ≡ clearTo t₀ i)))
@@ -23,31 +16,24 @@ Inv-loop t₀ m e i₀ t i = (i ≤ e) × ((e ≡ min m (length t₀)) × ((leng
 abbrev μ-loop : tie.MeasureT-loop
 μ-loop t₀ m e i₀ t i = e - i
 
--- src/lib.rt:1549:9
 least-requires : tie.Need-least-requires Inv-loop μ-loop
 least-requires c κs = search needs
 
--- src/lib.rt:1551:5
 loop-holds : tie.Need-loop-holds Inv-loop μ-loop
 loop-holds c = (omega arith, (c .least .ensures, (refl, clear-none _)))
 
--- src/lib.rt:1552:9
 mul-t8 : tie.Need-mul-t8 Inv-loop μ-loop
 mul-t8 c = search needs
 
--- src/lib.rt:1552:9
 slice-set-from-t : tie.Need-slice-set-from-t Inv-loop μ-loop
 slice-set-from-t c = search needs
 
--- src/lib.rt:1553:9
 add-i : tie.Need-add-i Inv-loop μ-loop
 add-i c = search needs
 
--- src/lib.rt:1551:5
 loop-less : tie.Need-loop-less Inv-loop μ-loop
 loop-less c = search needs
 
--- src/lib.rt:1551:5
 loop-again : tie.Need-loop-again Inv-loop μ-loop
 loop-again c = let i = c .before .loop .inv in
     let h : c .before .loop .i < length (c .before .before .before .args .t .now) = omega (arith, c .loop-test .taken, i .1 .0) in (
@@ -61,11 +47,9 @@ loop-again c = let i = c .before .loop .inv in
       ),
     )
 
--- src/lib.rt:1546:1
 same-length : tie.Need-same-length Inv-loop μ-loop
 same-length c = search needs
 
--- src/lib.rt:1546:1
 returns : tie.Need-returns Inv-loop μ-loop
 returns c = let i = c .before .loop .inv in
     let e : c .before .loop .i ≡ min (c .before .before .before .args .m) (length (c .before .before .before .args .t .now)) = omega (arith, c .loop-test .left, i .0, i .1 .0) in

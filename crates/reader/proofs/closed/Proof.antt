@@ -7,46 +7,36 @@ use borrow.Author.Needs.{needs}
 use Rattle.reader.proofs.closed.Statement.{statement}
 use Rattle.reader.proofs.closed.Tie as tie
 
--- src/lib.rt:1147:21
 moved-requires : tie.Need-moved-requires
 moved-requires c κs = search needs
 
--- src/lib.rt:1147:9
 goes-requires : tie.Need-goes-requires
 goes-requires c κs = search needs
 
--- src/lib.rt:1147:9
 returns : tie.Need-returns
 returns c = c .goes .ensures ∙ ap goesOf (c .before .moved .ensures) ∙ rw (eq-eqb _ _ (c .before .before .if1 .taken)) refl
 
--- src/lib.rt:1152:21
 paired-requires : tie.Need-paired-requires
 paired-requires c κs = search needs
 
--- src/lib.rt:1152:9
 goes-requires-2 : tie.Need-goes-requires-2
 goes-requires-2 c κs = search needs
 
--- src/lib.rt:1152:9
 returns-2 : tie.Need-returns-2
 returns-2 c =
     c .goes2 .ensures
     ∙ ap goesOf (c .before .paired .ensures)
     ∙ rw (ne-eqb _ _ (c .before .before .before .before .if1 .left), c .before .before .if2 .taken) refl
 
--- src/lib.rt:1154:8
 is-kept-requires : tie.Need-is-kept-requires
 is-kept-requires c κs = search needs
 
--- src/lib.rt:1155:21
 passed-requires : tie.Need-passed-requires
 passed-requires c κs = search needs
 
--- src/lib.rt:1155:9
 goes-requires-3 : tie.Need-goes-requires-3
 goes-requires-3 c κs = search needs
 
--- src/lib.rt:1155:9
 returns-3 : tie.Need-returns-3
 returns-3 c =
     c .goes3 .ensures
@@ -57,11 +47,9 @@ returns-3 c =
       sym (c .before .before .before .is-kept .ensures) ∙ c .before .before .if3 .taken,
     ) refl
 
--- src/lib.rt:1157:5
 fails-requires : tie.Need-fails-requires
 fails-requires c κs = search needs
 
--- src/lib.rt:1142:1
 returns-4 : tie.Need-returns-4
 returns-4 c =
     let kept = sym (c .before .before .is-kept .ensures) ∙ c .before .if3 .left in

@@ -3,8 +3,8 @@
 use mathlib.Core.Path.{sym, ap, _∙_}
 use native.Mathlib.Omega.{arith}
 use borrow.Author.Tests.{not-true, not-false}
-use Rattle.reader.specs.GlanceLaws as G
 use Rattle.reader.specs.Cite.{markOf, seenOf, plain}
+use Rattle.reader.specs.GlanceLaws as G
 use borrow.Author.Needs.{needs}
 use Rattle.reader.proofs.colon_seen.Statement.{statement}
 use Rattle.reader.proofs.colon_seen.Tie as tie

@@ -6,77 +6,59 @@ use borrow.Author.Needs.{needs}
 use Rattle.reader.proofs.count.Statement.{statement}
 use Rattle.reader.proofs.count.Tie as tie
 
--- src/lib.rt:1336:9
 returns : tie.Need-returns
 returns c = let a = c .before .args in count-none (a .t .now) (a .z) (a .k) (a .more) (c .if1 .taken)
 
--- src/lib.rt:1339:9
 returns-2 : tie.Need-returns-2
 returns-2 c = let a = c .before .before .args in count-above (a .t .now) (a .z) (a .k) (a .more) (c .before .if1 .left) (c .if2 .taken)
 
--- src/lib.rt:1341:14
 sub-i : tie.Need-sub-i
 sub-i c = search needs
 
--- src/lib.rt:1341:13
 cast-i : tie.Need-cast-i
 cast-i c = search needs
 
--- src/lib.rt:1343:9
 returns-3 : tie.Need-returns-3
 returns-3 c =
     let a = c .before .before .before .args in
     count-past (a .t .now) (a .z) (a .k) (a .more) (c .before .before .if1 .left) (omega (arith, c .before .if2 .left)) (c .if3 .taken)
 
--- src/lib.rt:1345:13
 mul-a : tie.Need-mul-a
 mul-a c = search needs
 
--- src/lib.rt:1345:13
 slice-copy-out-a : tie.Need-slice-copy-out-a
 slice-copy-out-a c = search needs
 
--- src/lib.rt:1346:13
 array-read-t8 : tie.Need-array-read-t8
 array-read-t8 c = search needs
 
--- src/lib.rt:1346:19
 array-read-t16 : tie.Need-array-read-t16
 array-read-t16 c = search needs
 
--- src/lib.rt:1346:25
 array-read-t19 : tie.Need-array-read-t19
 array-read-t19 c = search needs
 
--- src/lib.rt:1346:31
 array-read-t22 : tie.Need-array-read-t22
 array-read-t22 c = search needs
 
--- src/lib.rt:1346:37
 array-read-t25 : tie.Need-array-read-t25
 array-read-t25 c = search needs
 
--- src/lib.rt:1346:51
 array-read-counted : tie.Need-array-read-counted
 array-read-counted c = search needs
 
--- src/lib.rt:1346:43
 counted-requires : tie.Need-counted-requires
 counted-requires c κs = search needs
 
--- src/lib.rt:1346:5
 mul-t9 : tie.Need-mul-t9
 mul-t9 c = search needs
 
--- src/lib.rt:1346:5
 slice-set-from-t : tie.Need-slice-set-from-t
 slice-set-from-t c = search needs
 
--- src/lib.rt:1332:1
 same-length : tie.Need-same-length
 same-length c = search needs
 
--- src/lib.rt:1332:1
 returns-4 : tie.Need-returns-4
 returns-4 c =
     let s = c .before .before in

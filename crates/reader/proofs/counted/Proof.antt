@@ -7,27 +7,21 @@ use borrow.Author.Needs.{needs}
 use Rattle.reader.proofs.counted.Statement.{statement}
 use Rattle.reader.proofs.counted.Tie as tie
 
--- src/lib.rt:1354:20
 add-result : tie.Need-add-result
 add-result c = search needs
 
--- src/lib.rt:1354:13
 returns : tie.Need-returns
 returns c = rw (c .before .if1 .taken, lt-ltb _ _ (c .if2 .taken)) refl
 
--- src/lib.rt:1356:9
 returns-2 : tie.Need-returns-2
 returns-2 c = rw (c .before .if1 .taken, le-ltb (c .before .before .args .p) 4294967295 (omega (arith, c .if2 .left))) refl
 
--- src/lib.rt:1358:28
 sub-result : tie.Need-sub-result
 sub-result c = search needs
 
--- src/lib.rt:1349:1
 returns-3 : tie.Need-returns-3
 returns-3 c = rw (c .before .if1 .left) (omega (arith, c .if3 .taken))
 
--- src/lib.rt:1349:1
 returns-4 : tie.Need-returns-4
 returns-4 c = rw (c .before .if1 .left) refl
 

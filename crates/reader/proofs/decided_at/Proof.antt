@@ -5,19 +5,13 @@ use Rattle.reading.specs.Causes as C
 use borrow.Author.Needs.{needs}
 use Rattle.reader.proofs.decided_at.Statement.{statement}
 use Rattle.reader.proofs.decided_at.Tie as tie
-use Rattle.reader.proofs.decided_at.Reads as reads
-use Rattle.reader.proofs.decided_at.Lts as lts
-use Rattle.reader.proofs.late.Reads as late-reads
 
--- src/lib.rt:2020:34
 late-requires : tie.Need-late-requires
 late-requires c κs = search needs
 
--- src/lib.rt:2020:9
 returns : tie.Need-returns
 returns c = ap C.refused (c .late .ensures) ∙ rw (c .before .if1 .taken) refl
 
--- src/lib.rt:2015:1
 returns-2 : tie.Need-returns-2
 returns-2 c = rw (c .if1 .left) refl
 

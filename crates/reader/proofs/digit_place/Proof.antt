@@ -6,15 +6,12 @@ use borrow.Author.Needs.{needs}
 use Rattle.reader.proofs.digit_place.Statement.{statement}
 use Rattle.reader.proofs.digit_place.Tie as tie
 
--- src/lib.rt:1493:20
 add-result : tie.Need-add-result
 add-result c = search needs
 
--- src/lib.rt:1489:1
 returns : tie.Need-returns
 returns c = rw (eq-eqb _ _ (c .if1 .taken)) refl
 
--- src/lib.rt:1489:1
 returns-2 : tie.Need-returns-2
 returns-2 c = rw (ne-eqb _ _ (c .if1 .left)) refl
 

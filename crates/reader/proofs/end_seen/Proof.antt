@@ -3,18 +3,18 @@
 use mathlib.Core.Path.{sym, ap, _∙_}
 use mathlib.Core.Bool.{false}
 use Prim.Native.Nat.{ℕ, _+_}
-use borrow.Author.Tests.{eq-eqb, ne-eqb}
 use lib.Dec.{eqb}
 use lib.ListN.{getD}
+use borrow.Author.Tests.{eq-eqb, ne-eqb}
 use Rattle.reading.specs.Bytes.{closer, dot}
 use Rattle.reading.specs.Element.{end, closing, over, afterTwo}
 use Rattle.reader.specs.Glance.{same, pop, gave, wrongAt, endSeen}
 use Rattle.reader.specs.Capped.{capGlance}
-use Rattle.reader.specs.GlanceLaws as G
 use Rattle.reader.specs.Cite.{markOf, topsOf, seenOf, plain, gaveBy}
 use Rattle.reader.specs.declared.Sight.the-variants.{Closing}
 use Rattle.reader.specs.declared.Mark.the-variants.{AfterTwo}
 use Rattle.reader.specs.declared.Top.{Top}
+use Rattle.reader.specs.GlanceLaws as G
 use borrow.Author.Needs.{needs}
 use Rattle.reader.proofs.end_seen.Statement.{statement}
 use Rattle.reader.proofs.end_seen.Tie as tie

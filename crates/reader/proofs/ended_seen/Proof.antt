@@ -4,17 +4,17 @@ use mathlib.Core.Path.{_≡_, sym, ap, _∙_}
 use mathlib.Core.Bool.{Bool, false, _&&_}
 use mathlib.Core.Logic.{⊎-elim}
 use Prim.Native.Nat.{_+_}
-use borrow.Author.Tests.{eq-eqb, ne-eqb}
 use lib.Dec.{eqb}
 use lib.ListN.{getD, getElem?}
+use borrow.Author.Tests.{eq-eqb, ne-eqb}
 use Rattle.lists.specs.Lists.{and-true}
 use Rattle.reading.specs.Bytes.{colon}
 use Rattle.reading.specs.Reading.{isTwo}
 use Rattle.reader.specs.Glance.{colonSeen, endSeen}
 use Rattle.reader.specs.Capped.{capGlance}
-use Rattle.reader.specs.GlanceLaws as G
 use Rattle.reader.specs.SeenLaws.{and-left, and-right}
 use Rattle.reader.specs.Cite.{markOf, topsOf, isAfter, plain}
+use Rattle.reader.specs.GlanceLaws as G
 use borrow.Author.Needs.{needs}
 use Rattle.reader.proofs.ended_seen.Statement.{statement}
 use Rattle.reader.proofs.ended_seen.Tie as tie
@@ -46,7 +46,8 @@ end-seen-requires c κs = search needs
 
 returns-2 : tie.Need-returns-2
 returns-2 c =
-    let a = c .before .before .before .before .before .args in
+    let a2 = c .before .before .before .before .before .args in
+    let a = a2 in
     let s = a .s .now in
     let m = markOf (a .m) in
     let b = getD s (a .at) 0 in

@@ -3,19 +3,13 @@
 use mathlib.Core.Path.{ap}
 use lib.ListN.{replicate}
 use Rattle.reader.specs.declared.Open.{Open}
-use Rattle.reader.specs.declared.Opens.{Opens}
 use borrow.Author.Needs.{needs}
 use Rattle.reader.proofs.first_opens.Statement.{statement}
 use Rattle.reader.proofs.first_opens.Tie as tie
-use Rattle.reader.proofs.first_opens.Reads as reads
-use Rattle.reader.proofs.first_opens.Lts as lts
-use Rattle.reader.proofs.inside.Reads as inside-reads
 
--- src/lib.rt:1566:9
 inside-requires : tie.Need-inside-requires
 inside-requires c κs = search needs
 
--- src/lib.rt:1563:1
 returns : tie.Need-returns
 returns c = ap (λ (e : Open). record { nodes = replicate 32 e; depth = 0 }) (c .inside .ensures)
 

@@ -5,8 +5,8 @@ use lib.ListN.{getD}
 use Rattle.reading.specs.Bytes.{isDigit}
 use Rattle.reading.specs.Element.{numberAt}
 use Rattle.reader.specs.Glance.{sizeSeen, wrongAt}
-use Rattle.reader.specs.GlanceLaws as G
 use Rattle.reader.specs.Cite.{markOf, seenOf, plain}
+use Rattle.reader.specs.GlanceLaws as G
 use borrow.Author.Needs.{needs}
 use Rattle.reader.proofs.first_seen.Statement.{statement}
 use Rattle.reader.proofs.first_seen.Tie as tie
@@ -22,7 +22,8 @@ size-seen-requires c κs = search needs
 
 returns : tie.Need-returns
 returns c =
-    let a = c .before .before .before .before .before .args in
+    let a2 = c .before .before .before .before .before .args in
+    let a = a2 in
     let s = a .s .now in
     let m = markOf (a .m) in
     let b = getD s (a .at) 0 in
@@ -34,7 +35,8 @@ failed-requires c κs = search needs
 
 returns-2 : tie.Need-returns-2
 returns-2 c =
-    let a = c .before .before .before .before .before .args in
+    let a2 = c .before .before .before .before .before .args in
+    let a = a2 in
     let s = a .s .now in
     let m = markOf (a .m) in
     let b = getD s (a .at) 0 in

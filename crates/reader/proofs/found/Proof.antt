@@ -7,36 +7,28 @@ use borrow.Author.Needs.{needs}
 use Rattle.reader.proofs.found.Statement.{statement}
 use Rattle.reader.proofs.found.Tie as tie
 
--- src/lib.rt:1106:9
 fails-requires : tie.Need-fails-requires
 fails-requires c κs = search needs
 
--- src/lib.rt:1106:9
 returns : tie.Need-returns
 returns c = c .fails .ensures ∙ rw (eq-eqb _ _ (c .before .if1 .taken)) refl
 
--- src/lib.rt:1108:19
 add-if2 : tie.Need-add-if2
 add-if2 c = search needs
 
--- src/lib.rt:1109:9
 fails-requires-2 : tie.Need-fails-requires-2
 fails-requires-2 c κs = search needs
 
--- src/lib.rt:1109:9
 returns-2 : tie.Need-returns-2
 returns-2 c =
     c .fails2 .ensures ∙ rw (ne-eqb _ _ (c .before .before .before .if1 .left), ne-eqb _ _ (c .before .if2 .taken)) refl
 
--- src/lib.rt:1115:10
 passed-requires : tie.Need-passed-requires
 passed-requires c κs = search needs
 
--- src/lib.rt:1115:5
 goes-requires : tie.Need-goes-requires
 goes-requires c κs = search needs
 
--- src/lib.rt:1101:1
 returns-3 : tie.Need-returns-3
 returns-3 c =
     c .goes .ensures

@@ -1,80 +1,70 @@
+-- The record of number k stands at place k - 1; 0, numbers above the size and those past the end have none.
+-- Assumes nothing.
 use mathlib.Core.Path.{refl, _∙_}
 use native.Mathlib.Omega.{arith}
 use Rattle.reader.specs.Table.{get-none, get-above, get-here, get-past}
 use borrow.Author.Needs.{needs}
 use Rattle.reader.proofs.get.Statement.{statement}
 use Rattle.reader.proofs.get.Tie as tie
-use Rattle.reader.proofs.get.Reads as reads
-use Rattle.reader.proofs.get.Lts as lts
-use Rattle.reader.proofs.no_row.Reads as no-row-reads
 
--- src/lib.rt:275:9
 no-row-requires : tie.Need-no-row-requires
 no-row-requires c κs = search needs
 
--- src/lib.rt:275:9
 returns : tie.Need-returns
 returns c = (c .no-row .ensures ∙ get-none (c .before .before .args .t .now) (c .before .before .args .z) (c .before .before .args .k) (c .before .if1 .taken), refl)
 
--- src/lib.rt:278:9
 no-row-requires-2 : tie.Need-no-row-requires-2
 no-row-requires-2 c κs = search needs
 
--- src/lib.rt:278:9
 returns-2 : tie.Need-returns-2
-returns-2 c = (c .no-row2 .ensures ∙ get-above (c .before .before .before .args .t .now) (c .before .before .before .args .z) (c .before .before .before .args .k) (c .before .before .if1 .left) (c .before .if2 .taken), refl)
+returns-2 c =
+    let a = c .before .before .before .args in
+    (c .no-row2 .ensures ∙ get-above (a .t .now) (a .z) (a .k) (c .before .before .if1 .left) (c .before .if2 .taken), refl)
 
--- src/lib.rt:280:14
 sub-i : tie.Need-sub-i
 sub-i c = search needs
 
--- src/lib.rt:280:13
 cast-i : tie.Need-cast-i
 cast-i c = search needs
 
--- src/lib.rt:282:9
 no-row-requires-3 : tie.Need-no-row-requires-3
 no-row-requires-3 c κs = search needs
 
--- src/lib.rt:282:9
 returns-3 : tie.Need-returns-3
-returns-3 c = (c .no-row3 .ensures ∙ get-past (c .before .before .before .before .args .t .now) (c .before .before .before .before .args .z) (c .before .before .before .before .args .k) (c .before .before .before .if1 .left) (omega (arith, c .before .before .if2 .left)) (c .before .if3 .taken), refl)
+returns-3 c =
+    let a = c .before .before .before .before .args in
+    let if1 = c .before .before .before .if1 in
+    (c .no-row3 .ensures ∙ get-past (a .t .now) (a .z) (a .k) (if1 .left) (omega (arith, c .before .before .if2 .left)) (c .before .if3 .taken), refl)
 
--- src/lib.rt:284:13
 mul-a : tie.Need-mul-a
 mul-a c = search needs
 
--- src/lib.rt:284:13
 slice-copy-out-a : tie.Need-slice-copy-out-a
 slice-copy-out-a c = search needs
 
--- src/lib.rt:285:18
 array-read-t7 : tie.Need-array-read-t7
 array-read-t7 c = search needs
 
--- src/lib.rt:285:31
 array-read-t15 : tie.Need-array-read-t15
 array-read-t15 c = search needs
 
--- src/lib.rt:285:45
 array-read-t18 : tie.Need-array-read-t18
 array-read-t18 c = search needs
 
--- src/lib.rt:285:63
 array-read-t21 : tie.Need-array-read-t21
 array-read-t21 c = search needs
 
--- src/lib.rt:285:81
 array-read-t24 : tie.Need-array-read-t24
 array-read-t24 c = search needs
 
--- src/lib.rt:285:96
 array-read-t27 : tie.Need-array-read-t27
 array-read-t27 c = search needs
 
--- src/lib.rt:271:1
 returns-4 : tie.Need-returns-4
-returns-4 c = (get-here (c .before .before .before .before .args .t .now) (c .before .before .before .before .args .z) (c .before .before .before .before .args .k) (c .before .before .before .if1 .left) (omega (arith, c .before .before .if2 .left)), refl)
+returns-4 c =
+    let a = c .before .before .before .before .args in
+    let if1 = c .before .before .before .if1 in
+    (get-here (a .t .now) (a .z) (a .k) (if1 .left) (omega (arith, c .before .before .if2 .left)), refl)
 
 pub get-spec : {M : Type 1} → statement M
 get-spec =

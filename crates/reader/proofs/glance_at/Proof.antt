@@ -2,10 +2,10 @@
 -- Assumes nothing.
 use mathlib.Core.Path.{sym, ap, _∙_}
 use native.Mathlib.Omega.{arith}
-use Rattle.reader.specs.GlanceLaws as G
 use Rattle.reader.specs.SeenLaws.{stage-glance}
 use Rattle.reader.specs.Cite.{markOf, topsOf, seenOf, plain}
 use Rattle.reader.specs.declared.Stage.the-variants.{First, Node, Ended, Past}
+use Rattle.reader.specs.GlanceLaws as G
 use borrow.Author.Needs.{needs}
 use Rattle.reader.proofs.glance_at.Statement.{statement}
 use Rattle.reader.proofs.glance_at.Tie as tie
@@ -47,23 +47,31 @@ failed-requires c κs = search needs
 
 returns-2 : tie.Need-returns-2
 returns-2 c =
-    let a = c .before .before .before .before .before .before .args in
-    c .first-seen .ensures ∙ stage-glance (a .s .now) (a .at) (a .m) (topsOf (a .top)) (a .d) (omega arith) First (sym (c .before .enum-told .given .1) ∙ c .before .before .before .stage-of .ensures)
+    let a2 = c .before .before .before .before .before .before .args in
+    let stageof = c .before .before .before .stage-of in
+    let a = a2 in
+    c .first-seen .ensures ∙ stage-glance (a .s .now) (a .at) (a .m) (topsOf (a .top)) (a .d) (omega arith) First (sym (c .before .enum-told .given .1) ∙ stageof .ensures)
 
 returns-3 : tie.Need-returns-3
 returns-3 c =
-    let a = c .before .before .before .before .before .before .args in
-    c .begin-seen .ensures ∙ stage-glance (a .s .now) (a .at) (a .m) (topsOf (a .top)) (a .d) (omega arith) Node (sym (c .before .enum-told2 .given .1) ∙ c .before .before .before .stage-of .ensures)
+    let a2 = c .before .before .before .before .before .before .args in
+    let stageof = c .before .before .before .stage-of in
+    let a = a2 in
+    c .begin-seen .ensures ∙ stage-glance (a .s .now) (a .at) (a .m) (topsOf (a .top)) (a .d) (omega arith) Node (sym (c .before .enum-told2 .given .1) ∙ stageof .ensures)
 
 returns-4 : tie.Need-returns-4
 returns-4 c =
-    let a = c .before .before .before .before .before .before .args in
-    c .ended-seen .ensures ∙ stage-glance (a .s .now) (a .at) (a .m) (topsOf (a .top)) (a .d) (omega arith) Ended (sym (c .before .enum-told3 .given .1) ∙ c .before .before .before .stage-of .ensures)
+    let a2 = c .before .before .before .before .before .before .args in
+    let stageof = c .before .before .before .stage-of in
+    let a = a2 in
+    c .ended-seen .ensures ∙ stage-glance (a .s .now) (a .at) (a .m) (topsOf (a .top)) (a .d) (omega arith) Ended (sym (c .before .enum-told3 .given .1) ∙ stageof .ensures)
 
 returns-5 : tie.Need-returns-5
 returns-5 c =
-    let a = c .before .before .before .before .before .before .args in
-    ap seenOf (c .failed .ensures) ∙ stage-glance (a .s .now) (a .at) (a .m) (topsOf (a .top)) (a .d) (omega arith) Past (sym (c .before .enum-told4 .given .1) ∙ c .before .before .before .stage-of .ensures)
+    let a2 = c .before .before .before .before .before .before .args in
+    let stageof = c .before .before .before .stage-of in
+    let a = a2 in
+    ap seenOf (c .failed .ensures) ∙ stage-glance (a .s .now) (a .at) (a .m) (topsOf (a .top)) (a .d) (omega arith) Past (sym (c .before .enum-told4 .given .1) ∙ stageof .ensures)
 
 pub glance-at-spec : {M : Type 1} → statement M
 glance-at-spec =

@@ -5,10 +5,10 @@ use mathlib.Core.Bool.{false}
 use mathlib.Core.Logic.{⊎-elim}
 use Prim.Native.Nat.{ℕ, _+_}
 use lib.ListN.{getD}
-use Rattle.reader.specs.GlanceLaws as G
 use Rattle.reader.specs.Cite.{markOf, seenOf, plain, gaveBy}
 use Rattle.reader.specs.declared.Sight.the-variants.{Closing}
 use Rattle.reader.specs.declared.Mark.the-variants.{AfterOne}
+use Rattle.reader.specs.GlanceLaws as G
 use borrow.Author.Needs.{needs}
 use Rattle.reader.proofs.inner_seen.Statement.{statement}
 use Rattle.reader.proofs.inner_seen.Tie as tie
@@ -67,12 +67,14 @@ failed-requires c κs = search needs
 
 returns-4 : tie.Need-returns-4
 returns-4 c =
-    let w = c .before .before .before .before in
+    let before = c .before .before .before .before in
+    let if4 = c .before .before .before .if4 in
+    let w = before in
     let a = w .before .before .before .before .before .args in
     let s = a .s .now in
     ap seenOf (c .failed .ensures)
     ∙ ap (plain (a .d)) (G.inner-digit s (a .at) (markOf (a .m)) (a .d) (getD s (a .at) 0) (a .digital)
-    (w .before .before .if1 .left) (w .before .if2 .left) (w .if3 .taken) (c .before .before .before .if4 .left) (sym (c .before .before .is-digit .ensures) ∙ c .before .if5 .taken))
+    (w .before .before .if1 .left) (w .before .if2 .left) (w .if3 .taken) (if4 .left) (sym (c .before .before .is-digit .ensures) ∙ c .before .if5 .taken))
 
 node-seen-requires : tie.Need-node-seen-requires
 node-seen-requires c κs = search needs

@@ -5,11 +5,9 @@ use borrow.Author.Tests.{eq-eqb, ne-eqb}
 use Rattle.reader.proofs.is_kept.Statement.{statement}
 use Rattle.reader.proofs.is_kept.Tie as tie
 
--- src/lib.rt:1161:1
 returns : tie.Need-returns
 returns c = rw (eq-eqb _ _ (c .before .if1 .taken)) refl
 
--- src/lib.rt:1161:1
 returns-2 : tie.Need-returns-2
 returns-2 c = rw (ne-eqb _ _ (c .if1 .left)) refl
 

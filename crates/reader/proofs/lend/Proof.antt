@@ -6,19 +6,15 @@ use borrow.Author.Needs.{needs}
 use Rattle.reader.proofs.lend.Statement.{statement}
 use Rattle.reader.proofs.lend.Tie as tie
 
--- src/lib.rt:1436:29
 record-of-requires : tie.Need-record-of-requires
 record-of-requires c κs = search needs
 
--- src/lib.rt:1436:9
 store-requires : tie.Need-store-requires
 store-requires c κs = search needs
 
--- src/lib.rt:1437:9
 same-length : tie.Need-same-length
 same-length c = search needs
 
--- src/lib.rt:1437:9
 returns : tie.Need-returns
 returns c =
     let a = c .before .before .before .before .before .args in
@@ -26,19 +22,15 @@ returns c =
     c .before .store .ensures
     ∙ lent-stored (a .t .now) (a .r) (a .d) (a .k) (a .x) (w .result) (a .y) (c .before .before .before .before .if1 .taken) (w .ensures)
 
--- src/lib.rt:1441:9
 clear-requires : tie.Need-clear-requires
 clear-requires c κs = search needs
 
--- src/lib.rt:1430:1
 same-length-2 : tie.Need-same-length-2
 same-length-2 c = search needs
 
--- src/lib.rt:1430:1
 returns-2 : tie.Need-returns-2
 returns-2 c = c .before .clear .ensures ∙ rw (c .before .before .before .before .if1 .left, c .before .before .before .if2 .taken) refl
 
--- src/lib.rt:1430:1
 returns-3 : tie.Need-returns-3
 returns-3 c = rw (c .before .if1 .left, c .if2 .left) refl
 

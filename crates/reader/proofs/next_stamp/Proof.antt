@@ -7,15 +7,12 @@ use borrow.Author.Needs.{needs}
 use Rattle.reader.proofs.next_stamp.Statement.{statement}
 use Rattle.reader.proofs.next_stamp.Tie as tie
 
--- src/lib.rt:1193:25
 add-result : tie.Need-add-result
 add-result c = search needs
 
--- src/lib.rt:1190:1
 returns : tie.Need-returns
 returns c = rw (lt-ltb _ _ (c .if1 .taken)) refl
 
--- src/lib.rt:1190:1
 returns-2 : tie.Need-returns-2
 returns-2 c = rw (le-ltb (c .before .args .g) 4294967295 (omega (arith, c .if1 .left))) refl
 

@@ -3,11 +3,11 @@
 use mathlib.Core.Path.{sym, ap, _∙_}
 use Prim.Native.Nat.{_+_}
 use native.Mathlib.Omega.{arith}
-use borrow.Author.Tests.{not-true, not-false}
 use lib.ListN.{getD}
-use Rattle.reader.specs.GlanceLaws as G
+use borrow.Author.Tests.{not-true, not-false}
 use Rattle.reader.specs.SeenLaws.{seen-push}
 use Rattle.reader.specs.Cite.{markOf, seenOf, plain}
+use Rattle.reader.specs.GlanceLaws as G
 use borrow.Author.Needs.{needs}
 use Rattle.reader.proofs.node_seen.Statement.{statement}
 use Rattle.reader.proofs.node_seen.Tie as tie
@@ -50,20 +50,24 @@ failed-requires-2 c κs = search needs
 
 returns-3 : tie.Need-returns-3
 returns-3 c =
-    let a = c .before .before .before .before .before .before .args in
+    let a2 = c .before .before .before .before .before .before .args in
+    let if1 = c .before .before .before .if1 in
+    let a = a2 in
     let s = a .s .now in
     ap seenOf (c .failed2 .ensures)
-    ∙ ap (plain (a .d)) (G.node-wrong s (a .at) (markOf (a .m)) (a .d) (getD s (a .at) 0) (a .two) (c .before .before .before .if1 .left) (sym (c .before .before .is-digit .ensures) ∙ not-true _ (c .before .if3 .taken)))
+    ∙ ap (plain (a .d)) (G.node-wrong s (a .at) (markOf (a .m)) (a .d) (getD s (a .at) 0) (a .two) (if1 .left) (sym (c .before .before .is-digit .ensures) ∙ not-true _ (c .before .if3 .taken)))
 
 number-seen-requires : tie.Need-number-seen-requires
 number-seen-requires c κs = search needs
 
 returns-4 : tie.Need-returns-4
 returns-4 c =
-    let a = c .before .before .before .before .before .before .args in
+    let a2 = c .before .before .before .before .before .before .args in
+    let if1 = c .before .before .before .if1 in
+    let a = a2 in
     let s = a .s .now in
     c .number-seen .ensures
-    ∙ ap (plain (a .d)) (G.node-number s (a .at) (markOf (a .m)) (a .d) (getD s (a .at) 0) (a .two) (c .before .before .before .if1 .left) (sym (c .before .before .is-digit .ensures) ∙ not-false _ (c .before .if3 .left)))
+    ∙ ap (plain (a .d)) (G.node-number s (a .at) (markOf (a .m)) (a .d) (getD s (a .at) 0) (a .two) (if1 .left) (sym (c .before .before .is-digit .ensures) ∙ not-false _ (c .before .if3 .left)))
 
 pub node-seen-spec : {M : Type 1} → statement M
 node-seen-spec =

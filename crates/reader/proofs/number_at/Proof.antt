@@ -4,8 +4,8 @@ use mathlib.Core.Path.{_≡_, sym, ap, _∙_}
 use mathlib.Core.Bool.{true, false}
 use Prim.Native.Nat.{ℕ, _≤_, _-_, _+_, _*_}
 use native.Mathlib.Omega.{arith}
-use borrow.Author.Tests.{not-true, not-false}
 use lib.ListN.{length, drop, getD}
+use borrow.Author.Tests.{not-true, not-false}
 use Rattle.reading.specs.Bytes.{isDigit}
 use Rattle.reading.specs.Element.{numberAt}
 use Rattle.reader.specs.Capped.{cap, capScan, numberMost, cappedOn, on-digit, on-stop, on-end, at-zero, at-digits, at-past}

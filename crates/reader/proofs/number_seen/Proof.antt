@@ -1,13 +1,13 @@
 -- Each way is that of a number by what scanning it gave; 0 is the constant.
 -- Assumes nothing.
 use mathlib.Core.Path.{ap, _∙_}
-use borrow.Author.Tests.{not-true, not-false}
 use lib.ListN.{getD}
+use borrow.Author.Tests.{not-true, not-false}
 use Rattle.reading.specs.Element.{numberAt}
-use Rattle.reader.specs.GlanceLaws as G
 use Rattle.reader.specs.SeenLaws.{seen-constant, seen-value}
 use Rattle.reader.specs.Cite.{markOf, seenOf, plain, numbered}
 use Rattle.reader.specs.declared.Mark.the-variants.{AfterDigit}
+use Rattle.reader.specs.GlanceLaws as G
 use borrow.Author.Needs.{needs}
 use Rattle.reader.proofs.number_seen.Statement.{statement}
 use Rattle.reader.proofs.number_seen.Tie as tie
@@ -20,7 +20,8 @@ waited-requires c κs = search needs
 
 returns : tie.Need-returns
 returns c =
-    let a = c .before .before .before .before .args in
+    let a2 = c .before .before .before .before .args in
+    let a = a2 in
     let n = c .before .before .number-at in
     let x = numberAt (a .s .now) (a .from) (getD (a .s .now) (a .from) 0) in
     ap seenOf (c .waited .ensures)
@@ -31,8 +32,10 @@ gave-requires c κs = search needs
 
 returns-2 : tie.Need-returns-2
 returns-2 c =
-    let a = c .before .before .before .before .before .args in
-    let n = c .before .before .before .number-at in
+    let a2 = c .before .before .before .before .before .args in
+    let numberat = c .before .before .before .number-at in
+    let a = a2 in
+    let n = numberat in
     let x = numberAt (a .s .now) (a .from) (getD (a .s .now) (a .from) 0) in
     ap seenOf (c .gave .ensures)
     ∙ seen-constant (n .result .next) AfterDigit (a .d) (a .two)
@@ -43,8 +46,10 @@ gave-requires-2 c κs = search needs
 
 returns-3 : tie.Need-returns-3
 returns-3 c =
-    let a = c .before .before .before .before .before .args in
-    let n = c .before .before .before .number-at in
+    let a2 = c .before .before .before .before .before .args in
+    let numberat = c .before .before .before .number-at in
+    let a = a2 in
+    let n = numberat in
     let x = numberAt (a .s .now) (a .from) (getD (a .s .now) (a .from) 0) in
     ap seenOf (c .gave2 .ensures)
     ∙ seen-value (n .result .value) (n .result .next) AfterDigit (a .d) (a .two)

@@ -5,15 +5,12 @@ use borrow.Author.Needs.{needs}
 use Rattle.reader.proofs.record_of.Statement.{statement}
 use Rattle.reader.proofs.record_of.Tie as tie
 
--- src/lib.rt:1420:16
 add-t7 : tie.Need-add-t7
 add-t7 c = search needs
 
--- src/lib.rt:1424:16
 next-stamp-requires : tie.Need-next-stamp-requires
 next-stamp-requires c κs = search needs
 
--- src/lib.rt:1412:1
 returns : tie.Need-returns
 returns c =
     rw (c .next-stamp .ensures) refl

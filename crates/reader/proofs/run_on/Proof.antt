@@ -1,24 +1,16 @@
 -- Each turn is a step more of reading (`loop-goes`) or a halt (`loop-halts`), and moves on in the bytes; past the stop the last step passed it.
 -- Assumes nothing.
-use Prim.Native.Nat.{_<_}
-use native.Mathlib.Omega.{arith}
-use mathlib.Core.Path.{refl, _∙_}
+use mathlib.Core.Path.{refl, _∙_, _≡_}
 use mathlib.Core.Logic.{inl}
-use borrow.Author.Tests.{not-true, not-false}
-use Rattle.reader.specs.Loop.{stands-covered, loop-halts, loop-goes, loop-moves, loop-past, turn-length}
-use mathlib.Core.Path.{_≡_}
 use Prim.Native.Nat.{_-_, _≤_}
+use native.Mathlib.Omega.{arith}
 use lib.ListN.{length}
+use borrow.Author.Tests.{not-true, not-false}
+use Rattle.reader.specs.Loop.{stands-covered, loop-halts, loop-goes, loop-moves, loop-past, turn-length, Running}
 use Rattle.reader.specs.Cite.{kindTable}
-use Rattle.reader.specs.Loop.{Running}
 use borrow.Author.Needs.{needs}
 use Rattle.reader.proofs.run_on.Statement.{statement}
 use Rattle.reader.proofs.run_on.Tie as tie
-use Rattle.reader.proofs.run_on.Reads as reads
-use Rattle.reader.proofs.run_on.Lts as lts
-use Rattle.reader.proofs.inside.Reads as inside-reads
-use Rattle.reader.proofs.spots_of.Reads as spots-of-reads
-use Rattle.reader.proofs.take_turn.Reads as take-turn-reads
 
 abbrev Inv-loop : tie.InvT-loop
 Inv-loop k n s t₀ stop run₀ opens₀ from₀ deep₀ t run opens from deep = (k ≡ kindTable) × ((n ≤ 32) × ((length t ≡ length t₀) × Running n s stop run opens from deep t))
@@ -26,78 +18,82 @@ Inv-loop k n s t₀ stop run₀ opens₀ from₀ deep₀ t run opens from deep =
 abbrev μ-loop : tie.MeasureT-loop
 μ-loop k n s t₀ stop run₀ opens₀ from₀ deep₀ t run opens from deep = length s - run .at
 
--- src/lib.rt:1582:5
 loop-holds : tie.Need-loop-holds Inv-loop μ-loop
 loop-holds c = (c .before .pre .0, (c .before .pre .1 .0, (refl, record { stands = c .before .pre .1 .1 .1; past = inl (c .before .pre .1 .1 .0) })))
 
--- src/lib.rt:1584:13
 spots-of-requires : tie.Need-spots-of-requires Inv-loop μ-loop
 spots-of-requires c κs = search needs
 
--- src/lib.rt:1587:19
 mul-low : tie.Need-mul-low Inv-loop μ-loop
 mul-low c = search needs
 
--- src/lib.rt:1587:19
 element-copy-out-low : tie.Need-element-copy-out-low Inv-loop μ-loop
 element-copy-out-low c = search needs
 
--- src/lib.rt:1588:13
 take-turn-requires : tie.Need-take-turn-requires Inv-loop μ-loop
 take-turn-requires c κs = let i = c .before .before .before .before .before .loop .inv in (i .0, (i .1 .0, (stands-covered _ _ (i .1 .0) _ _ _ (i .1 .1 .1 .stands), i .1 .1 .1 .stands .kept .deep)))
 
--- src/lib.rt:1592:13
 same-length : tie.Need-same-length Inv-loop μ-loop
 same-length c = search needs
 
--- src/lib.rt:1592:13
 returns : tie.Need-returns Inv-loop μ-loop
-returns c = let i = c .before .before .before .before .before .before .before .before .loop .inv in loop-halts (c .before .before .before .before .before .before .before .before .before .before .args .n) (c .before .before .before .before .before .before .before .before .before .before .args .s .now) (i .1 .0) (c .before .before .before .before .before .before .before .before .before .before .args .stop) (c .before .before .before .before .before .before .before .before .loop .run) (c .before .before .before .before .before .before .before .before .loop .opens) (c .before .before .before .before .before .before .before .before .loop .t) (i .1 .1 .1 .stands) (c .before .before .before .before .before .spots-of .result) (c .before .before .before .before .before .spots-of .ensures .0) (c .before .before .take-turn .result) _ (c .before .before .take-turn .ensures) (not-true _ (c .if2 .taken)) (c .before .before .before .before .before .before .if1 .taken) (c .before .before .before .before .before .before .before .before .loop .from) (c .before .before .before .before .before .before .before .before .loop .deep)
+returns c =
+    let a = c .before .before .before .before .before .before .before .before .before .before .args in
+    let l = c .before .before .before .before .before .before .before .before .loop in
+    let if1 = c .before .before .before .before .before .before .if1 in
+    let sp = c .before .before .before .before .before .spots-of in
+    let i = l .inv in loop-halts (a .n) (a .s .now) (i .1 .0) (a .stop) (l .run) (l .opens) (l .t) (i .1 .1 .1 .stands) (sp .result) (sp .ensures .0) (c .before .before .take-turn .result) _ (c .before .before .take-turn .ensures) (not-true _ (c .if2 .taken)) (if1 .taken) (l .from) (l .deep)
 
--- src/lib.rt:1608:26
 inside-requires : tie.Need-inside-requires Inv-loop μ-loop
 inside-requires c κs = search needs
 
--- src/lib.rt:1608:9
 mul-t23 : tie.Need-mul-t23 Inv-loop μ-loop
 mul-t23 c = search needs
 
--- src/lib.rt:1608:9
 element-set-from-opens : tie.Need-element-set-from-opens Inv-loop μ-loop
 element-set-from-opens c = search needs
 
--- src/lib.rt:1609:9
 mul-l : tie.Need-mul-l Inv-loop μ-loop
 mul-l c = search needs
 
--- src/lib.rt:1609:9
 element-set-from-l : tie.Need-element-set-from-l Inv-loop μ-loop
 element-set-from-l c = search needs
 
--- src/lib.rt:1582:5
 loop-less : tie.Need-loop-less Inv-loop μ-loop
-loop-less c = let i = c .before .before .before .before .before .before .before .before .before .before .before .loop .inv in loop-moves (c .before .before .before .before .before .before .before .before .before .before .before .before .before .args .n) (c .before .before .before .before .before .before .before .before .before .before .before .before .before .args .s .now) (i .1 .0) (c .before .before .before .before .before .before .before .before .before .before .before .before .before .args .stop) (c .before .before .before .before .before .before .before .before .before .before .before .loop .run) (c .before .before .before .before .before .before .before .before .before .before .before .loop .opens) (c .before .before .before .before .before .before .before .before .before .before .before .loop .t) (i .1 .1 .1 .stands) (c .before .before .before .before .before .before .before .before .spots-of .result) (c .before .before .before .before .before .before .before .before .spots-of .ensures .0) (c .before .before .before .before .before .take-turn .result) _ (c .before .before .before .before .before .take-turn .ensures) (not-false _ (c .before .before .before .if2 .left))
+loop-less c =
+    let a = c .before .before .before .before .before .before .before .before .before .before .before .before .before .args in
+    let l = c .before .before .before .before .before .before .before .before .before .before .before .loop in
+    let sp = c .before .before .before .before .before .before .before .before .spots-of in
+    let y = c .before .before .before .before .before .take-turn in
+    let if2 = c .before .before .before .if2 in
+    let i = l .inv in loop-moves (a .n) (a .s .now) (i .1 .0) (a .stop) (l .run) (l .opens) (l .t) (i .1 .1 .1 .stands) (sp .result) (sp .ensures .0) (y .result) _ (y .ensures) (not-false _ (if2 .left))
 
--- src/lib.rt:1582:5
 loop-again : tie.Need-loop-again Inv-loop μ-loop
-loop-again c = let i = c .before .before .before .before .before .before .before .before .before .before .before .loop .inv in (
-  i .0,
-  (
-    i .1 .0,
-    (
-      turn-length _ _ _ _ _ _ _ _ (c .before .before .before .before .before .take-turn .ensures) ∙ i .1 .1 .0,
-      loop-goes (c .before .before .before .before .before .before .before .before .before .before .before .before .before .args .n) (c .before .before .before .before .before .before .before .before .before .before .before .before .before .args .s .now) (i .1 .0) (c .before .before .before .before .before .before .before .before .before .before .before .before .before .args .stop) (c .before .before .before .before .before .before .before .before .before .before .before .loop .run) (c .before .before .before .before .before .before .before .before .before .before .before .loop .opens) (c .before .before .before .before .before .before .before .before .before .before .before .loop .t) (i .1 .1 .1 .stands) (c .before .before .before .before .before .before .before .before .spots-of .result) (c .before .before .before .before .before .before .before .before .spots-of .ensures .0) (c .before .before .before .before .before .take-turn .result) _ (c .before .before .before .before .before .take-turn .ensures) (not-false _ (c .before .before .before .if2 .left)) (c .before .before .before .before .before .before .before .before .before .if1 .taken) (c .inside .result) (c .inside .ensures),
-    ),
-  ),
-)
+loop-again c =
+    let a = c .before .before .before .before .before .before .before .before .before .before .before .before .before .args in
+    let l = c .before .before .before .before .before .before .before .before .before .before .before .loop in
+    let if1 = c .before .before .before .before .before .before .before .before .before .if1 in
+    let sp = c .before .before .before .before .before .before .before .before .spots-of in
+    let y = c .before .before .before .before .before .take-turn in
+    let if2 = c .before .before .before .if2 in
+    let i = l .inv in (
+      i .0,
+      (
+        i .1 .0,
+        (
+          turn-length _ _ _ _ _ _ _ _ (y .ensures) ∙ i .1 .1 .0,
+          loop-goes (a .n) (a .s .now) (i .1 .0) (a .stop) (l .run) (l .opens) (l .t) (i .1 .1 .1 .stands) (sp .result) (sp .ensures .0) (y .result) _ (y .ensures) (not-false _ (if2 .left)) (if1 .taken) (c .inside .result) (c .inside .ensures),
+        ),
+      ),
+    )
 
--- src/lib.rt:1574:1
 same-length-2 : tie.Need-same-length-2 Inv-loop μ-loop
 same-length-2 c = search needs
 
--- src/lib.rt:1574:1
 returns-2 : tie.Need-returns-2 Inv-loop μ-loop
-returns-2 c = let i = c .before .before .loop .inv in loop-past (c .before .before .before .before .args .n) (c .before .before .before .before .args .s .now) (c .before .before .before .before .args .stop) (c .before .before .loop .run) (c .before .before .loop .opens) (c .before .before .loop .from) (c .before .before .loop .deep) (c .before .before .loop .t) (i .1 .1 .1) (omega (arith, c .if1 .left))
+returns-2 c =
+    let a = c .before .before .before .before .args in
+    let i = c .before .before .loop .inv in loop-past (a .n) (a .s .now) (a .stop) (c .before .before .loop .run) (c .before .before .loop .opens) (c .before .before .loop .from) (c .before .before .loop .deep) (c .before .before .loop .t) (i .1 .1 .1) (omega (arith, c .if1 .left))
 
 pub run-on-spec : {M : Type 1} → statement M
 run-on-spec =

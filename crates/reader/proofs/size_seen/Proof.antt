@@ -2,11 +2,11 @@
 -- Assumes nothing.
 use mathlib.Core.Path.{ap, _∙_}
 use native.Mathlib.Omega.{arith}
-use borrow.Author.Tests.{not-true, not-false}
 use lib.ListN.{getD}
+use borrow.Author.Tests.{not-true, not-false}
 use Rattle.reading.specs.Element.{numberAt}
-use Rattle.reader.specs.GlanceLaws as G
 use Rattle.reader.specs.Cite.{markOf, seenOf, plain}
+use Rattle.reader.specs.GlanceLaws as G
 use borrow.Author.Needs.{needs}
 use Rattle.reader.proofs.size_seen.Statement.{statement}
 use Rattle.reader.proofs.size_seen.Tie as tie
@@ -31,8 +31,10 @@ waited-requires-2 c κs = search needs
 
 returns-2 : tie.Need-returns-2
 returns-2 c =
-    let a = c .before .before .before .before .before .args in
-    let n = c .before .before .before .number-at in
+    let a2 = c .before .before .before .before .before .args in
+    let numberat = c .before .before .before .number-at in
+    let a = a2 in
+    let n = numberat in
     let s = a .s .now in
     let x = numberAt s (a .at) (getD s (a .at) 0) in
     ap seenOf (c .waited2 .ensures)
@@ -49,24 +51,30 @@ gave-requires c κs = search needs
 
 returns-3 : tie.Need-returns-3
 returns-3 c =
-    let a = c .before .before .before .before .before .before .before .args in
-    let n = c .before .before .before .before .before .number-at in
+    let a2 = c .before .before .before .before .before .before .before .args in
+    let numberat = c .before .before .before .before .before .number-at in
+    let if1 = c .before .before .before .before .if1 in
+    let a = a2 in
+    let n = numberat in
     let s = a .s .now in
     let x = numberAt s (a .at) (getD s (a .at) 0) in
     ap seenOf (c .gave .ensures)
-    ∙ ap (plain (a .d)) (G.size-line (n .result .done) (n .result .value) (n .result .next) x (n .ensures) (a .at) (markOf (a .m)) s (not-false _ (c .before .before .before .before .if1 .left)) (omega arith) (c .before .if3 .taken))
+    ∙ ap (plain (a .d)) (G.size-line (n .result .done) (n .result .value) (n .result .next) x (n .ensures) (a .at) (markOf (a .m)) s (not-false _ (if1 .left)) (omega arith) (c .before .if3 .taken))
 
 failed-requires : tie.Need-failed-requires
 failed-requires c κs = search needs
 
 returns-4 : tie.Need-returns-4
 returns-4 c =
-    let a = c .before .before .before .before .before .before .before .args in
-    let n = c .before .before .before .before .before .number-at in
+    let a2 = c .before .before .before .before .before .before .before .args in
+    let numberat = c .before .before .before .before .before .number-at in
+    let if1 = c .before .before .before .before .if1 in
+    let a = a2 in
+    let n = numberat in
     let s = a .s .now in
     let x = numberAt s (a .at) (getD s (a .at) 0) in
     ap seenOf (c .failed .ensures)
-    ∙ ap (plain (a .d)) (G.size-wrong (n .result .done) (n .result .value) (n .result .next) x (n .ensures) (a .at) (markOf (a .m)) s (not-false _ (c .before .before .before .before .if1 .left)) (omega arith) (c .before .if3 .left))
+    ∙ ap (plain (a .d)) (G.size-wrong (n .result .done) (n .result .value) (n .result .next) x (n .ensures) (a .at) (markOf (a .m)) s (not-false _ (if1 .left)) (omega arith) (c .before .if3 .left))
 
 pub size-seen-spec : {M : Type 1} → statement M
 size-seen-spec =

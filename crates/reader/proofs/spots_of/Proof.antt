@@ -1,25 +1,21 @@
+-- The innermost of d entries stands at d - 1, the next at d; with none or with 32 there is one of the two to spare.
+-- Assumes nothing.
 use mathlib.Core.Path.{refl}
 use native.Mathlib.Omega.{arith}
 use borrow.Author.Tests.{ne-eqb, lt-ltb, le-ltb}
 use borrow.Author.Needs.{needs}
 use Rattle.reader.proofs.spots_of.Statement.{statement}
 use Rattle.reader.proofs.spots_of.Tie as tie
-use Rattle.reader.proofs.spots_of.Reads as reads
-use Rattle.reader.proofs.spots_of.Lts as lts
 
--- src/lib.rt:459:9
 returns : tie.Need-returns
 returns c = (rw (c .if1 .taken) refl, (omega arith, omega arith))
 
--- src/lib.rt:462:29
 sub-t3 : tie.Need-sub-t3
 sub-t3 c = search needs
 
--- src/lib.rt:462:9
 returns-2 : tie.Need-returns-2
 returns-2 c = (rw (ne-eqb (c .before .before .args .d) 0 (c .before .if1 .left), lt-ltb (c .before .before .args .d) 32 (c .if2 .taken)) refl, (omega (arith, c .if2 .taken), c .if2 .taken))
 
--- src/lib.rt:455:1
 returns-3 : tie.Need-returns-3
 returns-3 c = (rw (ne-eqb (c .before .before .args .d) 0 (c .before .if1 .left), le-ltb (c .before .before .args .d) 32 (omega (arith, c .if2 .left))) refl, (omega arith, omega arith))
 

@@ -5,27 +5,21 @@ use borrow.Author.Needs.{needs}
 use Rattle.reader.proofs.stored.Statement.{statement}
 use Rattle.reader.proofs.stored.Tie as tie
 
--- src/lib.rt:1201:8
 is-bad-requires : tie.Need-is-bad-requires
 is-bad-requires c κs = search needs
 
--- src/lib.rt:1202:43
 add-fails : tie.Need-add-fails
 add-fails c = search needs
 
--- src/lib.rt:1202:9
 fails-requires : tie.Need-fails-requires
 fails-requires c κs = search needs
 
--- src/lib.rt:1202:9
 returns : tie.Need-returns
 returns c = c .fails .ensures ∙ rw (sym (c .before .before .before .is-bad .ensures) ∙ c .before .before .if1 .taken) refl
 
--- src/lib.rt:1204:9
 next-stamp-requires : tie.Need-next-stamp-requires
 next-stamp-requires c κs = search needs
 
--- src/lib.rt:1197:1
 returns-2 : tie.Need-returns-2
 returns-2 c = rw (c .before .next-stamp .ensures, sym (c .before .before .before .is-bad .ensures) ∙ c .before .before .if1 .left) refl
 

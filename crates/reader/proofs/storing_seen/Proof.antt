@@ -1,11 +1,11 @@
 -- Each way is that of a number to store by what scanning it gave.
 -- Assumes nothing.
 use mathlib.Core.Path.{ap, _∙_}
-use borrow.Author.Tests.{not-true, not-false}
 use lib.ListN.{getD}
+use borrow.Author.Tests.{not-true, not-false}
 use Rattle.reading.specs.Element.{numberAt}
-use Rattle.reader.specs.GlanceLaws as G
 use Rattle.reader.specs.Cite.{markOf, seenOf, plain}
+use Rattle.reader.specs.GlanceLaws as G
 use borrow.Author.Needs.{needs}
 use Rattle.reader.proofs.storing_seen.Statement.{statement}
 use Rattle.reader.proofs.storing_seen.Tie as tie

@@ -9,106 +9,81 @@ use borrow.Author.Needs.{needs}
 use Rattle.reader.proofs.take_element.Statement.{statement}
 use Rattle.reader.proofs.take_element.Tie as tie
 
--- src/lib.rt:1247:20
 enum-told : tie.Need-enum-told
 enum-told c = search needs
 
--- src/lib.rt:1247:20
 add-if1 : tie.Need-add-if1
 add-if1 c = search needs
 
--- src/lib.rt:1248:17
 fails-requires : tie.Need-fails-requires
 fails-requires c κs = search needs
 
--- src/lib.rt:1248:17
 returns : tie.Need-returns
 returns c =
     c .fails .ensures ∙ rw (c .before .before .enum-told .given .1, lt-ltb _ _ (c .before .if1 .taken)) refl
 
--- src/lib.rt:1250:18
 moved-requires : tie.Need-moved-requires
 moved-requires c κs = search needs
 
--- src/lib.rt:1250:13
 goes-requires : tie.Need-goes-requires
 goes-requires c κs = search needs
 
--- src/lib.rt:1252:25
 enum-known-e : tie.Need-enum-known-e
 enum-known-e c = search needs
 
--- src/lib.rt:1254:16
 is-start-requires : tie.Need-is-start-requires
 is-start-requires c κs = search needs
 
--- src/lib.rt:1255:17
 sized-requires : tie.Need-sized-requires
 sized-requires c κs = search needs
 
--- src/lib.rt:1255:17
 returns-2 : tie.Need-returns-2
 returns-2 c =
     c .sized .ensures
     ∙ rw (c .before .before .before .before .e .given .1, sym (c .before .before .is-start .ensures) ∙ c .before .if2 .taken) refl
 
--- src/lib.rt:1257:13
 found-requires : tie.Need-found-requires
 found-requires c κs = search needs
 
--- src/lib.rt:1260:17
 enum-told-2 : tie.Need-enum-told-2
 enum-told-2 c = search needs
 
--- src/lib.rt:1261:18
 passed-requires : tie.Need-passed-requires
 passed-requires c κs = search needs
 
--- src/lib.rt:1261:13
 goes-requires-2 : tie.Need-goes-requires-2
 goes-requires-2 c κs = search needs
 
--- src/lib.rt:1263:31
 enum-told-3 : tie.Need-enum-told-3
 enum-told-3 c = search needs
 
--- src/lib.rt:1263:31
 turned-requires : tie.Need-turned-requires
 turned-requires c κs = search needs
 
--- src/lib.rt:1263:26
 goes-requires-3 : tie.Need-goes-requires-3
 goes-requires-3 c κs = search needs
 
--- src/lib.rt:1264:29
 enum-told-4 : tie.Need-enum-told-4
 enum-told-4 c = search needs
 
--- src/lib.rt:1264:29
 closed-requires : tie.Need-closed-requires
 closed-requires c κs = search needs
 
--- src/lib.rt:1265:26
 enum-known-e-2 : tie.Need-enum-known-e-2
 enum-known-e-2 c = search needs
 
--- src/lib.rt:1265:32
 stored-requires : tie.Need-stored-requires
 stored-requires c κs = search needs
 
--- src/lib.rt:1266:30
 enum-told-5 : tie.Need-enum-told-5
 enum-told-5 c = search needs
 
--- src/lib.rt:1266:30
 moved-requires-2 : tie.Need-moved-requires-2
 moved-requires-2 c κs = search needs
 
--- src/lib.rt:1266:25
 goes-requires-4 : tie.Need-goes-requires-4
 goes-requires-4 c κs = search needs
 
--- src/lib.rt:1231:1
 returns-3 : tie.Need-returns-3
 returns-3 c =
     c .goes .ensures
@@ -118,37 +93,31 @@ returns-3 c =
       le-ltb (c .before .before .before .before .before .args .n) (c .before .before .before .before .before .args .d + 1) (omega (arith, c .before .before .if1 .left)),
     ) refl
 
--- src/lib.rt:1231:1
 returns-4 : tie.Need-returns-4
 returns-4 c =
     c .found .ensures
     ∙ rw (c .before .before .before .before .e .given .1, sym (c .before .before .is-start .ensures) ∙ c .before .if2 .left) refl
 
--- src/lib.rt:1231:1
 returns-5 : tie.Need-returns-5
 returns-5 c =
     c .goes2 .ensures
     ∙ ap goesOf (c .before .passed .ensures)
     ∙ rw (c .before .before .enum-told2 .given .1) refl
 
--- src/lib.rt:1231:1
 returns-6 : tie.Need-returns-6
 returns-6 c =
     c .goes3 .ensures
     ∙ ap goesOf (c .before .turned .ensures)
     ∙ rw (c .before .before .enum-told3 .given .1) refl
 
--- src/lib.rt:1231:1
 returns-7 : tie.Need-returns-7
 returns-7 c =
     c .closed .ensures ∙ rw (c .before .enum-told4 .given .1) refl
 
--- src/lib.rt:1231:1
 returns-8 : tie.Need-returns-8
 returns-8 c =
     c .stored .ensures ∙ rw (c .before .before .e2 .given .1) refl
 
--- src/lib.rt:1231:1
 returns-9 : tie.Need-returns-9
 returns-9 c =
     c .goes4 .ensures

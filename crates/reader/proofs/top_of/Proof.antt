@@ -1,19 +1,16 @@
+-- By whether a node is open, and whether its second child has begun.
+-- Assumes nothing.
 use mathlib.Core.Path.{refl}
 use borrow.Author.Tests.{eq-eqb, ne-eqb}
 use Rattle.reader.proofs.top_of.Statement.{statement}
 use Rattle.reader.proofs.top_of.Tie as tie
-use Rattle.reader.proofs.top_of.Reads as reads
-use Rattle.reader.proofs.top_of.Lts as lts
 
--- src/lib.rt:440:9
 returns : tie.Need-returns
 returns c = rw (eq-eqb (c .before .args .d) 0 (c .if1 .taken)) refl
 
--- src/lib.rt:444:9
 returns-2 : tie.Need-returns-2
 returns-2 c = rw (ne-eqb (c .before .before .args .d) 0 (c .before .if1 .left), c .if2 .taken) refl
 
--- src/lib.rt:436:1
 returns-3 : tie.Need-returns-3
 returns-3 c = rw (ne-eqb (c .before .before .args .d) 0 (c .before .if1 .left), c .if2 .left) refl
 

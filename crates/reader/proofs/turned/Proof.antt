@@ -1,27 +1,21 @@
+-- A leading `~` counts only where it stands before the outermost node.
+-- Assumes nothing.
 use mathlib.Core.Path.{refl, sym, ap, _∙_}
 use mathlib.Core.Bool.{true}
 use Rattle.reader.specs.declared.Run.{Run}
 use borrow.Author.Needs.{needs}
 use Rattle.reader.proofs.turned.Statement.{statement}
 use Rattle.reader.proofs.turned.Tie as tie
-use Rattle.reader.proofs.turned.Reads as reads
-use Rattle.reader.proofs.turned.Lts as lts
-use Rattle.reader.proofs.is_lead.Reads as is-lead-reads
-use Rattle.reader.proofs.moved.Reads as moved-reads
 
--- src/lib.rt:123:9
 moved-requires : tie.Need-moved-requires
 moved-requires c κs = search needs
 
--- src/lib.rt:124:8
 is-lead-requires : tie.Need-is-lead-requires
 is-lead-requires c κs = search needs
 
--- src/lib.rt:119:1
 returns : tie.Need-returns
 returns c = ap (λ (q : Run). record { at = q .at; mark = q .mark; last = q .last; size = q .size; covered = q .covered; complement = true; pair = q .pair }) (c .before .before .moved .ensures) ∙ rw (sym (c .before .is-lead .ensures) ∙ c .if1 .taken) refl
 
--- src/lib.rt:119:1
 returns-2 : tie.Need-returns-2
 returns-2 c = c .before .before .moved .ensures ∙ rw (sym (c .before .is-lead .ensures) ∙ c .if1 .left) refl
 

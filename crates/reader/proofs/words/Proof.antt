@@ -1,24 +1,20 @@
+-- Below d open nodes there are n - d options, at most 32.
+-- Assumes nothing.
 use native.Mathlib.Omega.{arith}
 use Rattle.reader.specs.Taking.{few-words, no-words, words-most}
 use borrow.Author.Needs.{needs}
 use Rattle.reader.proofs.words.Statement.{statement}
 use Rattle.reader.proofs.words.Tie as tie
-use Rattle.reader.proofs.words.Reads as reads
-use Rattle.reader.proofs.words.Lts as lts
 
--- src/lib.rt:76:9
 returns : tie.Need-returns
 returns c = (no-words (c .before .args .n) (c .before .args .d) (c .if1 .taken), omega arith)
 
--- src/lib.rt:78:14
 cast-result : tie.Need-cast-result
 cast-result c = search needs
 
--- src/lib.rt:78:5
 shl-result : tie.Need-shl-result
 shl-result c = search needs
 
--- src/lib.rt:71:1
 returns-2 : tie.Need-returns-2
 returns-2 c = (few-words (c .before .args .n) (c .before .args .d) (c .before .pre), words-most (c .before .args .n) (c .before .args .d) (c .before .pre))
 

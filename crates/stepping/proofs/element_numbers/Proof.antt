@@ -4,91 +4,67 @@ use Rattle.stepping.specs.Steps.{stepGiven}
 use borrow.Author.Needs.{needs}
 use Rattle.stepping.proofs.element_numbers.Statement.{statement}
 use Rattle.stepping.proofs.element_numbers.Tie as tie
-use Rattle.stepping.proofs.element_numbers.Reads as reads
-use Rattle.stepping.proofs.element_numbers.Lts as lts
-use Rattle.stepping.proofs.got_numbers.Reads as got-numbers-reads
 
--- src/lib.rt:295:29
 enum-told : tie.Need-enum-told
 enum-told c = search needs
 
--- src/lib.rt:295:29
 got-numbers-requires : tie.Need-got-numbers-requires
 got-numbers-requires c κs = search needs
 
--- src/lib.rt:296:25
 enum-known-e : tie.Need-enum-known-e
 enum-known-e c = search needs
 
--- src/lib.rt:296:31
 got-numbers-requires-2 : tie.Need-got-numbers-requires-2
 got-numbers-requires-2 c κs = search needs
 
--- src/lib.rt:297:30
 enum-told-2 : tie.Need-enum-told-2
 enum-told-2 c = search needs
 
--- src/lib.rt:297:30
 got-numbers-requires-3 : tie.Need-got-numbers-requires-3
 got-numbers-requires-3 c κs = search needs
 
--- src/lib.rt:298:26
 enum-told-3 : tie.Need-enum-told-3
 enum-told-3 c = search needs
 
--- src/lib.rt:298:26
 got-numbers-requires-4 : tie.Need-got-numbers-requires-4
 got-numbers-requires-4 c κs = search needs
 
--- src/lib.rt:299:29
 enum-told-4 : tie.Need-enum-told-4
 enum-told-4 c = search needs
 
--- src/lib.rt:299:29
 got-numbers-requires-5 : tie.Need-got-numbers-requires-5
 got-numbers-requires-5 c κs = search needs
 
--- src/lib.rt:300:26
 enum-known-e-2 : tie.Need-enum-known-e-2
 enum-known-e-2 c = search needs
 
--- src/lib.rt:300:32
 got-numbers-requires-6 : tie.Need-got-numbers-requires-6
 got-numbers-requires-6 c κs = search needs
 
--- src/lib.rt:301:25
 enum-told-5 : tie.Need-enum-told-5
 enum-told-5 c = search needs
 
--- src/lib.rt:301:25
 got-numbers-requires-7 : tie.Need-got-numbers-requires-7
 got-numbers-requires-7 c κs = search needs
 
--- src/lib.rt:291:1
 returns : tie.Need-returns
 returns c = ap stepGiven (c .got-numbers .ensures) ∙ rw (c .before .enum-told .given .1) refl
 
--- src/lib.rt:291:1
 returns-2 : tie.Need-returns-2
 returns-2 c = ap stepGiven (c .got-numbers2 .ensures) ∙ rw (c .before .before .e .given .1) refl
 
--- src/lib.rt:291:1
 returns-3 : tie.Need-returns-3
 returns-3 c = ap stepGiven (c .got-numbers3 .ensures) ∙ rw (c .before .enum-told2 .given .1) refl
 
--- src/lib.rt:291:1
 returns-4 : tie.Need-returns-4
 returns-4 c = ap stepGiven (c .got-numbers4 .ensures) ∙ rw (c .before .enum-told3 .given .1) refl
 
--- src/lib.rt:291:1
 returns-5 : tie.Need-returns-5
 returns-5 c = ap stepGiven (c .got-numbers5 .ensures) ∙ rw (c .before .enum-told4 .given .1) refl
 
--- src/lib.rt:291:1
 returns-6 : tie.Need-returns-6
 returns-6 c = ap stepGiven (c .got-numbers6 .ensures) ∙ rw (c .before .before .e2 .given .1) refl
 
--- src/lib.rt:291:1
 returns-7 : tie.Need-returns-7
 returns-7 c = ap stepGiven (c .got-numbers7 .ensures) ∙ rw (c .before .enum-told5 .given .1) refl
 

@@ -5,15 +5,10 @@ use Rattle.reader.specs.Cite.{openList, refOf}
 use borrow.Author.Needs.{needs}
 use Rattle.stepping.proofs.place_numbers.Statement.{statement}
 use Rattle.stepping.proofs.place_numbers.Tie as tie
-use Rattle.stepping.proofs.place_numbers.Reads as reads
-use Rattle.stepping.proofs.place_numbers.Lts as lts
-use Rattle.stepping.proofs.mark_number.Reads as mark-number-reads
 
--- src/lib.rt:239:15
 mark-number-requires : tie.Need-mark-number-requires
 mark-number-requires c κs = search needs
 
--- src/lib.rt:231:1
 returns : tie.Need-returns
 returns c = let p = c .before .before .before .args .p in ap (λ (m : T.Mark). T.place (p .at) m (openList (p .opens)) (refOf (p .last))) (c .mark-number .ensures)
 
