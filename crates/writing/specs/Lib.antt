@@ -35,3 +35,5 @@ pub mod Online
 pub mod OnlineRuns
 pub mod Lockstep
 pub mod CallLaws
+-- The queue as code holds it
+pub mod Links

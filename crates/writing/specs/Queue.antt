@@ -24,10 +24,10 @@ pub record Queued (s : State) : Type 0 where
 
 -- ---- Leaving the queue -----------------------------------------------------------------------
 
-all-without′ : (P : ℕ → Type 0) (k : ℕ) (qs : List ℕ) → All P qs → All P (without k qs)
+pub all-without′ : (P : ℕ → Type 0) (k : ℕ) (qs : List ℕ) → All P qs → All P (without k qs)
 all-without′ P k qs h = all-map (λ q. P q × (q ≢ k)) P (λ q r. r .0) (without k qs) (all-without P k qs h)
 
-distinct-without : (k : ℕ) (qs : List ℕ) → Distinct qs → Distinct (without k qs)
+pub distinct-without : (k : ℕ) (qs : List ℕ) → Distinct qs → Distinct (without k qs)
 unfolding without
 distinct-without k [] h = tt
 distinct-without k (q ∷ qs) h = go (eqb q k) (distinct-without k qs (h .1))
