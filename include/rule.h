@@ -5,7 +5,7 @@
  * other and covers fewer words. n is the option count, 0 to 32; words run from 0 to 2^n - 1, and option 1 has weight 2^(n-1).
  *
  * Libraries. libfirmware.a has rule_check, rule_decide and rule_fill; libstepping.a has rule_begin and rule_step. Each stands alone, and both can
- * be linked together. They are proved, and want nothing but memset of the C library.
+ * be linked together. They are proved, and want nothing of the C library but memcpy and memset.
  *
  * Memory. The caller lends all of it and keeps it: the library allocates nothing, keeps nothing between calls and no pointer after one, and has
  * no state, so calls on different memory may run at the same time. Lent pieces must not overlap. A piece of length 0 may have a null pointer.
