@@ -1,0 +1,218 @@
+-- The writer's engine as code has it: what it knows of a part, how two halves meet by rules 1 to 5, and the walk over a truth table.
+-- Definitions only; EngineLaws ties them to the walk of Online. Assumes nothing.
+use mathlib.Core.Bool.{Bool, true, false, not, cond, _&&_, _||_}
+use mathlib.Core.List.{List, [], _∷_, _++_}
+use Prim.Native.Nat.{ℕ, zero, suc, _+_, _-_, _/_, _^_}
+use lib.Dec.{eqb, ltb}
+use lib.ListN.{length, getD, take}
+use Rattle.lists.specs.Lists.{differ}
+use Rattle.reading.specs.Bytes.{opener, dot}
+use Rattle.writing.specs.Texts.{decimal, tildeIf}
+use Rattle.writing.specs.Run.{head}
+use Rattle.writing.specs.Calls.{truthAt}
+use Rattle.engine.specs.Cells.{cell}
+use Rattle.engine.specs.Recycling.{Lane, oneMore, findIn, storeIn, nextIn}
+use Rattle.engine.specs.Pending.{Waiting, pushAll, waitIn, closeIn, sentTo, writtenTo}
+
+-- ---- What is known ---------------------------------------------------------------------------
+
+-- What a part came to: the number (0 for the constant, and for a temporary node), its stamp, the levels skipped; whether it is temporary;
+-- its complement; whether a node was written out
+pub record Half : Type 0 where
+  pub number : ℕ
+  pub stamp : ℕ
+  pub skipped : ℕ
+  pub temporary : Bool
+  pub complement : Bool
+  pub wrote : Bool
+
+-- How far the writer is: the numbers given out, the first and the last of the queue, the bytes written; more was sent than the output
+-- holds
+pub record Pen : Type 0 where
+  pub given : ℕ
+  pub first : ℕ
+  pub last : ℕ
+  pub written : ℕ
+  pub full : Bool
+
+-- after a part: the records, the output, what waits
+pub record Walked : Type 0 where
+  pub half : Half
+  pub pen : Pen
+  pub table : List (List ℕ)
+  pub output : List ℕ
+  pub waits : List ℕ
+
+-- ---- Parts that are one step -----------------------------------------------------------------
+
+-- the constant v
+abbrev pub constantHalf : Bool → Half
+constantHalf v = record { number = 0; stamp = 0; skipped = 0; temporary = false; complement = v; wrote = false }
+
+-- the number k of stamp g, j levels below, complemented if v
+abbrev pub numberHalf : ℕ → ℕ → ℕ → Bool → Bool → Half
+numberHalf k g j v wrote = record { number = k; stamp = g; skipped = j; temporary = false; complement = v; wrote = wrote }
+
+-- a temporary node
+abbrev pub temporaryHalf : Bool → Half
+temporaryHalf v = record { number = 0; stamp = 0; skipped = 0; temporary = true; complement = v; wrote = true }
+
+-- ---- What the rules ask ----------------------------------------------------------------------
+
+abbrev pub isConstant : Half → Bool
+isConstant a = eqb (a .number) 0 && not (a .temporary)
+
+-- its number was given out again since
+abbrev pub isStale : List (List ℕ) → Half → Bool
+isStale t a = not (eqb (a .number) 0) && not (eqb (cell t 4 (a .number)) (a .stamp))
+
+-- rule 1, rule 2, rule 3; v: the `~` between the halves
+abbrev pub alikeConstant : Bool → Half → Half → Bool
+alikeConstant v a b = isConstant a && (isConstant b && not v)
+
+abbrev pub alikeNumber : List (List ℕ) → Bool → Half → Half → Bool
+alikeNumber t v a b =
+    not (eqb (a .number) 0) && (eqb (a .number) (b .number) && (not v && (not (isStale t a) && not (isStale t b))))
+
+abbrev pub barredHalf : List (List ℕ) → Half → Bool
+barredHalf t a = a .temporary || isStale t a
+
+-- a space between the halves
+abbrev pub spaced : Bool → Half → Half → Bool
+spaced v a b = not v && ((not (a .temporary) && eqb (a .skipped) 0) && (not (b .wrote) && eqb (b .skipped) 0))
+
+-- ---- Two halves meet -------------------------------------------------------------------------
+
+-- what goes out: how much is then written, more was sent than the output holds, the output, and the bytes that waited
+pub record Sent : Type 0 where
+  pub written : ℕ
+  pub full : Bool
+  pub output : List ℕ
+  pub waits : List ℕ
+
+-- the first m bytes of w go out, after `at` that are written
+abbrev pub sendText : List ℕ → List ℕ → ℕ → ℕ → Sent
+sendText out w at m =
+    let x = take m w in
+    record {
+      written = writtenTo out at (length x);
+      full = ltb (length out - at) (length x);
+      output = sentTo out at x;
+      waits = w;
+    }
+
+-- The two-child node of a and b goes out with its number k (0: none). m: how much waits
+abbrev pub sendNode : ℕ → Bool → Half → Half → ℕ → List ℕ → List ℕ → ℕ → Sent
+sendNode m v a b k out w at =
+    let q = closeIn w m (spaced v a b) (b .wrote) (b .skipped) (b .number) k in
+    sendText out (q .bytes) at (q .count)
+
+-- Then the part is h, the records and the ends of the queue are e, and z numbers are given out.
+abbrev pub sentAs : Half → ℕ → Lane → Sent → Walked
+sentAs h z e x =
+    record {
+      half = h;
+      pen = record { given = z; first = e .first; last = e .last; written = x .written; full = x .full };
+      table = e .table;
+      output = x .output;
+      waits = x .waits;
+    }
+
+unfoldable pub writeNode : ℕ → Bool → Half → Half → ℕ → Half → ℕ → Lane → List ℕ → List ℕ → Pen → Walked
+writeNode m v a b k h z e out w pen = sentAs h z e (sendNode m v a b k out w (pen .written))
+
+-- nothing goes out
+abbrev pub kept : Half → List (List ℕ) → List ℕ → List ℕ → Pen → Walked
+kept h t out w pen = record { half = h; pen = pen; table = t; output = out; waits = w }
+
+abbrev pub laneOf : List (List ℕ) → Pen → Lane
+laneOf t pen = record { table = t; first = pen .first; last = pen .last }
+
+-- a node without a number
+abbrev pub writeTemporary : ℕ → Bool → Half → Half → List (List ℕ) → List ℕ → List ℕ → Pen → Walked
+writeTemporary m v a b t out w pen =
+    writeNode m v a b 0 (temporaryHalf (a .complement)) (pen .given) (laneOf t pen) out w pen
+
+-- rule 5: k is the number to give out, 0 if there is none
+unfoldable pub giveIn : ℕ → ℕ → ℕ → Bool → Half → Half → List (List ℕ) → List ℕ → List ℕ → Pen → Walked
+giveIn k i m v a b t out w pen =
+    let e = storeIn t (pen .given) (pen .first) (pen .last) k i (a .number) (b .number) (cond v 1 0) in
+    cond (eqb k 0) (writeTemporary m v a b t out w pen)
+    (writeNode m v a b k (numberHalf k (cell (e .table) 4 k) 0 (a .complement) true)
+    (cond (ltb (pen .given) k) k (pen .given)) e out w pen)
+
+-- rule 4: k is the number found, 0 if there is none
+unfoldable pub knownIn : ℕ → ℕ → ℕ → ℕ → Bool → Half → Half → List (List ℕ) → List ℕ → List ℕ → Pen → Walked
+knownIn k size i m v a b t out w pen =
+    cond (eqb k 0)
+    (giveIn (nextIn t (pen .given) (pen .first) size (a .number) (b .number)) i m v a b t out w pen)
+    (kept (numberHalf k (cell t 4 k) 0 (a .complement) false) t out w pen)
+
+-- rules 1 to 5
+unfoldable pub meetIn : ℕ → ℕ → ℕ → Bool → Half → Half → List (List ℕ) → List ℕ → List ℕ → Pen → Walked
+meetIn size i m v a b t out w pen =
+    cond (alikeConstant v a b) (kept (constantHalf (a .complement)) t out w pen)
+    (cond (alikeNumber t v a b)
+    (kept (numberHalf (a .number) (a .stamp) (oneMore (a .skipped)) (a .complement) (a .wrote)) t out w pen)
+    (cond (barredHalf t a || barredHalf t b) (writeTemporary m v a b t out w pen)
+    (knownIn (findIn t (pen .given) i (a .number) (b .number) (cond v 1 0)) size i m v a b t out w pen)))
+
+-- ---- The walk over a truth table -------------------------------------------------------------
+
+-- all of the c bytes from p on are b
+unfoldable pub sameBytes : List ℕ → ℕ → ℕ → ℕ → Bool
+sameBytes v b p zero = true
+sameBytes v b p (suc c) = eqb (getD v p 0) b && sameBytes v b (p + 1) c
+
+-- the words at .. at + 2 ^ m - 1 are all no, or all yes: told from whole bytes
+abbrev pub allBytes : List ℕ → ℕ → ℕ → ℕ → Bool
+allBytes v b m at = not (ltb m 3) && sameBytes v b (at / 8) (2 ^ m / 8)
+
+-- after the second half (b): the halves meet, unless more was sent than the output holds
+abbrev pub secondIn : ℕ → ℕ → ℕ → Bool → Half → Walked → Walked
+secondIn size i m v a b =
+    cond (b .pen .full) b (meetIn size i m v a (b .half) (b .table) (b .output) (b .waits) (b .pen))
+
+-- The part of level i whose words are at .. at + 2 ^ d - 1, after m bytes that wait
+unfoldable pub walkIn : List ℕ → ℕ → ℕ → ℕ → ℕ → ℕ → List (List ℕ) → List ℕ → List ℕ → Pen → Walked
+walkIn v size zero i at m t out w pen = kept (constantHalf (truthAt v at)) t out w pen
+walkIn v size (suc d) i at m t out w pen =
+    let p = pushAll w m (opener ∷ []) in
+    let a = walkIn v size d (i + 1) at (p .count) t out (p .bytes) pen in
+    let turned = differ (a .half .complement) (truthAt v (at + 2 ^ d)) in
+    let q = waitIn (a .waits) (p .count) (a .half .wrote) (a .half .skipped) (a .half .number) in
+    let r = pushAll (q .bytes) (q .count) (tildeIf turned) in
+    let b = walkIn v size d (i + 1) (at + 2 ^ d) (r .count) (a .table) (a .output) (r .bytes) (a .pen) in
+    cond (allBytes v 0 (suc d) at) (kept (constantHalf false) t out w pen)
+    (cond (allBytes v 255 (suc d) at) (kept (constantHalf true) t out w pen)
+    (cond (a .pen .full) a (secondIn size i (r .count) turned (a .half) b)))
+
+-- ---- The whole stream ------------------------------------------------------------------------
+
+-- no number is given out; what x says is written
+abbrev pub penAfter : Sent → Pen
+penAfter x = record { given = 0; first = 0; last = 0; written = x .written; full = x .full }
+
+-- the outermost node is done: what waits of it, and the point
+abbrev pub endIn : ℕ → Walked → Sent
+endIn m r =
+    let q = waitIn (r .waits) m (r .half .wrote) (r .half .skipped) (r .half .number) in
+    let e = pushAll (q .bytes) (q .count) (dot ∷ []) in
+    sendText (r .output) (e .bytes) (r .pen .written) (e .count)
+
+-- after the walk, unless more was sent than the output holds
+abbrev pub doneIn : ℕ → Walked → Sent
+doneIn m r =
+    cond (r .pen .full) (record { written = r .pen .written; full = r .pen .full; output = r .output; waits = r .waits }) (endIn m r)
+
+-- after the size and its LF, likewise
+abbrev pub bodyIn : ℕ → ℕ → List ℕ → List (List ℕ) → Sent → Sent
+bodyIn n size v t x =
+    let m = pushAll (x .waits) 0 (tildeIf (truthAt v 0)) in
+    cond (x .full) x (doneIn (m .count) (walkIn v size n 1 0 (m .count) t (x .output) (m .bytes) (penAfter x)))
+
+-- the stream of a truth table
+unfoldable pub streamIn : ℕ → ℕ → List ℕ → List (List ℕ) → List ℕ → List ℕ → Sent
+streamIn n size v t out w =
+    let a = pushAll w 0 (head size) in
+    bodyIn n size v t (sendText out (a .bytes) 0 (a .count))
