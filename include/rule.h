@@ -1,15 +1,16 @@
 /*
- * Option rules as decision streams: checking a stream, deciding one word, filling a truth table, and reading a stream element by element.
+ * Option rules as decision streams: checking a stream, deciding one word, filling a truth table, writing the stream of a truth table, and reading a
+ * stream element by element.
  *
  * A stream is the table size, one LF, an optional `~`, one node, and `.` as last byte. A stream without its point is cut; it is taken like any
  * other and covers fewer words. n is the option count, 0 to 32; words run from 0 to 2^n - 1, and option 1 has weight 2^(n-1).
  *
- * Libraries. libfirmware.a has rule_check, rule_decide and rule_fill; libstepping.a has rule_begin and rule_step. Each stands alone, and both can
- * be linked together. They are proved, and want nothing of the C library but memcpy and memset.
+ * Libraries. libfirmware.a has rule_check, rule_decide and rule_fill; libstepping.a has rule_begin and rule_step; libdesk.a has rule_write. Each
+ * stands alone, and all can be linked together. They are proved, and want nothing of the C library but memcpy and memset.
  *
  * Memory. The caller lends all of it and keeps it: the library allocates nothing, keeps nothing between calls and no pointer after one, and has
  * no state, so calls on different memory may run at the same time. Lent pieces must not overlap. A piece of length 0 may have a null pointer.
- * Any bytes may be in a work table or a truth table before a call; no answer depends on them.
+ * Any bytes may be in a work table, in an output, or in a truth table to be filled before a call; no answer depends on them.
  */
 #ifndef RULE_H
 #define RULE_H
@@ -31,6 +32,8 @@ extern "C" {
  *
  * A truth table has word w in binary digit w mod 8 (0 lowest) of byte w / 8.
  *
+ * An output is where a stream is written, from its first byte on. Bytes beyond those written keep their content.
+ *
  * A work table has at least RULE_RECORDS records, aligned as uint32_t is. On return from a call that was refused for one of causes 1 to 6 it is as
  * it was. On every other return all its records are zero, those beyond RULE_RECORDS too.
  */
@@ -39,6 +42,11 @@ extern "C" {
 typedef struct {
     uint32_t cells[6];
 } rule_record;
+
+/* A record of the work table of rule_write; its cells have no meaning to the caller. */
+typedef struct {
+    uint32_t cells[12];
+} rule_node;
 
 #define RULE_RECORDS 1024
 
@@ -50,7 +58,7 @@ typedef struct {
  * lowest place counts, and there the lower number. `stream` and `byte` are 0 if the call is not refused; all that follows them in an answer is 0
  * if it is.
  *
- * No call of this header has an operator or a size to write: causes 2 and 3 are named for completeness.
+ * No call of this header has an operator: cause 2 is named for completeness.
  */
 enum {
     RULE_DONE = 0,
@@ -118,6 +126,29 @@ typedef struct {
  * table.
  */
 rule_filled rule_fill(uint32_t n, const uint8_t *stream, size_t stream_bytes, uint8_t *truths, size_t truth_bytes, rule_record *table, size_t records);
+
+/* ---- Writing the stream of a truth table */
+
+/* All of the stream is written; the input ended; the output is shorter than the stream. No call of this header ends as the second says. */
+enum { RULE_WHOLE = 0, RULE_INPUT_ENDED = 1, RULE_OUTPUT_FULL = 2 };
+
+/* How many bytes are written, the covered count (2^n, whatever the ending), and how it ended; `spare` is 0. */
+typedef struct {
+    uint32_t cause, stream;
+    uint64_t byte;
+    uint64_t written;
+    uint64_t covered;
+    uint32_t ending;
+    uint32_t spare;
+} rule_written;
+
+/*
+ * Writes the stream of a truth table of 2^n / 8 bytes, n from 3 to 16, with the table size `size`, 0 to 1,024. Tests causes 1, 3, 4 and 6. If the
+ * output is shorter than the stream, it gets the stream's first bytes and the ending is RULE_OUTPUT_FULL; that is no refusal. If the call is refused,
+ * the output is as it was. The truth table is only read. Changes nothing but the output and the work table.
+ */
+rule_written rule_write(uint32_t n, uint32_t size, const uint8_t *truths, size_t truth_bytes, uint8_t *output, size_t output_bytes, rule_node *table,
+                        size_t records);
 
 /* ---- Reading element by element */
 

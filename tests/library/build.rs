@@ -9,7 +9,7 @@ fn main() {
         .canonicalize()
         .expect("the directory is there");
     println!("cargo:rustc-link-search=native={}", directory.display());
-    for name in ["libfirmware.a", "libstepping.a"] {
+    for name in ["libfirmware.a", "libstepping.a", "libdesk.a"] {
         let archive = directory.join(name);
         println!("cargo:rerun-if-changed={}", archive.display());
         println!("cargo:rustc-link-lib=static:+verbatim={name}");

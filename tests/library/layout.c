@@ -5,6 +5,7 @@
 #define AT(type, field, offset) _Static_assert(offsetof(type, field) == (offset), #type " " #field)
 
 SIZE(rule_record, 24);
+SIZE(rule_node, 48);
 SIZE(rule_checked, 32);
 AT(rule_checked, stream, 4);
 AT(rule_checked, byte, 8);
@@ -19,6 +20,13 @@ SIZE(rule_filled, 24);
 AT(rule_filled, stream, 4);
 AT(rule_filled, byte, 8);
 AT(rule_filled, covered, 16);
+SIZE(rule_written, 40);
+AT(rule_written, stream, 4);
+AT(rule_written, byte, 8);
+AT(rule_written, written, 16);
+AT(rule_written, covered, 24);
+AT(rule_written, ending, 32);
+AT(rule_written, spare, 36);
 SIZE(rule_ref, 8);
 SIZE(rule_open, 12);
 AT(rule_open, second, 8);

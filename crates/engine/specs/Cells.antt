@@ -4,11 +4,11 @@
 -- place. Assumes nothing.
 use mathlib.Core.Path.{_≡_, refl, sym, ap, _∙_}
 use mathlib.Core.Logic.{_≢_, ⊎-elim}
-use mathlib.Core.List.{List, [], _∷_}
+use mathlib.Core.List.{List, [], _∷_, _++_}
 use Prim.Native.Nat.{ℕ, zero, suc, _+_, _-_, _≤_, _<_}
 use native.Mathlib.Omega.{arith}
-use lib.ListN.{length, getD, set, length-set, List·getD-eq-default}
-use lib.Seq.{getD-set-same, getD-set-other, set-out}
+use lib.ListN.{length, getD, set, take, replicate, length-set, length-replicate, getD-replicate, List·getD-eq-default, replicate-append-replicate}
+use lib.Seq.{getD-set-same, getD-set-other, set-out, take-all, take-suc-set}
 use Rattle.lists.specs.Lists.{decide-eq, decide-le}
 
 -- ---- Cells -----------------------------------------------------------------------------------
@@ -109,3 +109,44 @@ cell-here t j (suc k) v i (suc p) d e = ⊎-elim
 pub cell-other : (t : List (List ℕ)) (j k v i p : ℕ) → i ≢ j → cell (putCell t j k v) i p ≡ cell t i p
 cell-other t j k v i p d =
     ⊎-elim (λ (e : p ≡ k). cell-here t j k v i p d e) (λ (n : p ≢ k). cell-number t j k v i p n) (decide-eq p k)
+
+-- ---- All records alike -----------------------------------------------------------------------
+
+-- the record after the first i, which are r, becomes r too
+pub rows-more : (t : List (List ℕ)) (r : List ℕ) (i : ℕ) → i < length t → take i t ≡ replicate i r
+    → take (i + 1) (set t i r) ≡ replicate (i + 1) r
+rows-more t r i h e =
+    let s : i + 1 ≡ suc i = omega arith in
+    ap (λ (k : ℕ). take k (set t i r)) s
+    ∙ take-suc-set t i r h
+    ∙ ap (λ (l : List (List ℕ)). l ++ (r ∷ [])) e
+    ∙ replicate-append-replicate i 1 r
+
+-- when these are all, each is r
+pub rows-all : (t : List (List ℕ)) (r : List ℕ) (i n : ℕ) → length t ≤ i → i ≡ n → take i t ≡ replicate i r → t ≡ replicate n r
+rows-all t r i n h q e = sym (take-all i t h) ∙ e ∙ ap (λ (k : ℕ). replicate k r) q
+
+-- ---- Records of zeros ------------------------------------------------------------------------
+
+-- one of them
+abbrev zeros : List ℕ
+zeros = replicate 12 0
+
+-- each has twelve cells
+pub zero-wide : (c : ℕ) → Wide (replicate c (replicate 12 0))
+zero-wide c p h = ap length (getD-replicate c p zeros [] (omega (arith, h, length-replicate c zeros)))
+
+-- its cells are 0
+zero-at : (i : ℕ) → getD zeros i 0 ≡ 0
+zero-at i =
+    ⊎-elim (λ (l : 12 ≤ i). List·getD-eq-default zeros 0 l) (λ (l : i < 12). getD-replicate 12 i 0 0 l) (decide-le 12 i)
+
+-- each cell of all of them is 0
+pub zero-cell : (c i k : ℕ) → cell (replicate c (replicate 12 0)) i k ≡ 0
+unfolding cell
+zero-cell c i zero = refl
+zero-cell c i (suc k) = ⊎-elim
+    (λ (l : c ≤ k). ap (λ (r : List ℕ). getD r i 0) (List·getD-eq-default (replicate c zeros) []
+    (omega (arith, l, length-replicate c zeros))))
+    (λ (l : k < c). ap (λ (r : List ℕ). getD r i 0) (getD-replicate c k zeros [] l) ∙ zero-at i)
+    (decide-le c k)

@@ -13,8 +13,16 @@ pub mod Keeping
 pub mod Finding
 pub mod Releasing
 pub mod Placing
+pub mod RecyclingMade
 -- The text that waits and goes out
 pub mod PendingLaws
+pub mod PendingMade
 pub mod Blocks
 -- The engine sends what the walk sends
+pub mod EngineMade
 pub mod Leading
+pub mod Meeting
+pub mod Walking
+pub mod Streaming
+-- The call
+pub mod WriteMade

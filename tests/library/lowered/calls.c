@@ -4,27 +4,33 @@
 typedef struct {
     const uint8_t *bytes;
     size_t length;
-} stream_slice;
+} const_slice;
 
 typedef struct {
     uint8_t *bytes;
     size_t length;
-} truths_slice;
+} bytes_slice;
 
 typedef struct {
     rule_record *records;
     size_t length;
 } table_slice;
 
-void lowered_check(rule_checked *, uint32_t, stream_slice *, table_slice *);
-void lowered_decide(rule_decided *, uint32_t, stream_slice *, uint64_t, table_slice *);
-void lowered_fill(rule_filled *, uint32_t, stream_slice *, truths_slice *, table_slice *);
+typedef struct {
+    rule_node *records;
+    size_t length;
+} nodes_slice;
+
+void lowered_check(rule_checked *, uint32_t, const_slice *, table_slice *);
+void lowered_decide(rule_decided *, uint32_t, const_slice *, uint64_t, table_slice *);
+void lowered_fill(rule_filled *, uint32_t, const_slice *, bytes_slice *, table_slice *);
+void lowered_write(rule_written *, uint32_t, uint32_t, const_slice *, bytes_slice *, nodes_slice *);
 void lowered_begin(rule_place *);
-void lowered_step(rule_stepped *, rule_place *, stream_slice *);
+void lowered_step(rule_stepped *, rule_place *, const_slice *);
 
 rule_checked rule_check(uint32_t n, const uint8_t *stream, size_t stream_bytes, rule_record *table, size_t records)
 {
-    stream_slice s = {stream, stream_bytes};
+    const_slice s = {stream, stream_bytes};
     table_slice t = {table, records};
     rule_checked r;
     lowered_check(&r, n, &s, &t);
@@ -33,7 +39,7 @@ rule_checked rule_check(uint32_t n, const uint8_t *stream, size_t stream_bytes, 
 
 rule_decided rule_decide(uint32_t n, const uint8_t *stream, size_t stream_bytes, uint64_t word, rule_record *table, size_t records)
 {
-    stream_slice s = {stream, stream_bytes};
+    const_slice s = {stream, stream_bytes};
     table_slice t = {table, records};
     rule_decided r;
     lowered_decide(&r, n, &s, word, &t);
@@ -42,11 +48,22 @@ rule_decided rule_decide(uint32_t n, const uint8_t *stream, size_t stream_bytes,
 
 rule_filled rule_fill(uint32_t n, const uint8_t *stream, size_t stream_bytes, uint8_t *truths, size_t truth_bytes, rule_record *table, size_t records)
 {
-    stream_slice s = {stream, stream_bytes};
-    truths_slice v = {truths, truth_bytes};
+    const_slice s = {stream, stream_bytes};
+    bytes_slice v = {truths, truth_bytes};
     table_slice t = {table, records};
     rule_filled r;
     lowered_fill(&r, n, &s, &v, &t);
+    return r;
+}
+
+rule_written rule_write(uint32_t n, uint32_t size, const uint8_t *truths, size_t truth_bytes, uint8_t *output, size_t output_bytes, rule_node *table,
+                        size_t records)
+{
+    const_slice v = {truths, truth_bytes};
+    bytes_slice o = {output, output_bytes};
+    nodes_slice t = {table, records};
+    rule_written r;
+    lowered_write(&r, n, size, &v, &o, &t);
     return r;
 }
 
@@ -59,7 +76,7 @@ rule_place rule_begin(void)
 
 rule_stepped rule_step(rule_place place, const uint8_t *stream, size_t stream_bytes)
 {
-    stream_slice s = {stream, stream_bytes};
+    const_slice s = {stream, stream_bytes};
     rule_stepped r;
     lowered_step(&r, &place, &s);
     return r;

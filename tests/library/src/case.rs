@@ -6,12 +6,13 @@
 //! | `decide N RECORDS WORD "STREAM"` | `rule_decide` |
 //! | `fill N RECORDS LENGTH "STREAM"` | `rule_fill` with a truth table of LENGTH bytes |
 //! | `reader "STREAM"` | `rule_begin`, then `rule_step` to its stop |
+//! | `write N RECORDS SIZE LENGTH "TRUTHS"` | `rule_write` with an output of LENGTH bytes |
 //!
 //! RECORDS is the length of the work table. In STREAM a byte that is no printable character, a
-//! space, a quote or a backslash stands as `\n` or `\xNN`. What the lent slices hold before the call
-//! follows from the line.
+//! space, a quote or a backslash stands as `\n` or `\xNN`. TRUTHS are the bytes of the truth table,
+//! two hexadecimal digits each. What the lent slices hold before the call follows from the line.
 
-pub const NAMES: [&str; 4] = ["check", "decide", "fill", "reader"];
+pub const NAMES: [&str; 5] = ["check", "decide", "fill", "reader", "write"];
 
 #[derive(Clone, Copy, Debug, PartialEq, Eq)]
 pub enum Call {
@@ -19,6 +20,7 @@ pub enum Call {
     Decide { word: u64 },
     Fill { truths: usize },
     Reader,
+    Write { size: u32, output: usize },
 }
 
 #[derive(Clone, Debug, PartialEq, Eq)]
@@ -26,6 +28,7 @@ pub struct Case {
     pub call: Call,
     pub n: u32,
     pub records: usize,
+    /// What is lent to be read: the stream, or of a call that writes the truth table.
     pub stream: Vec<u8>,
 }
 
@@ -37,10 +40,11 @@ impl Case {
             Call::Decide { .. } => 1,
             Call::Fill { .. } => 2,
             Call::Reader => 3,
+            Call::Write { .. } => 4,
         }
     }
 
-    /// The length of the truth table that is lent.
+    /// The length of the truth table that is lent to be filled.
     pub fn truths(&self) -> usize {
         match self.call {
             Call::Fill { truths } => truths,
@@ -48,10 +52,27 @@ impl Case {
         }
     }
 
+    /// The length of the output that is lent.
+    pub fn output(&self) -> usize {
+        match self.call {
+            Call::Write { output, .. } => output,
+            _ => 0,
+        }
+    }
+
+    /// The records of the work table that is lent, and those of the work table for writing.
+    pub fn tables(&self) -> [usize; 2] {
+        match self.call {
+            Call::Write { .. } => [0, self.records],
+            _ => [self.records, 0],
+        }
+    }
+
     /// A number that the case alone decides (FNV-1a over its parts).
     pub fn hash(&self) -> u64 {
         let last = match self.call {
             Call::Decide { word } => word,
+            Call::Write { size, output } => u64::from(size) << 32 | output as u64,
             _ => self.truths() as u64,
         };
         let numbers = [
@@ -70,12 +91,18 @@ impl Case {
     /// The case as a line.
     pub fn line(&self) -> String {
         let (name, n, records) = (NAMES[self.number()], self.n, self.records);
-        let stream = escaped(&self.stream);
+        let stream = match self.call {
+            Call::Write { .. } => hexadecimal(&self.stream),
+            _ => escaped(&self.stream),
+        };
         match self.call {
             Call::Check => format!("{name} {n} {records} {stream}"),
             Call::Decide { word } => format!("{name} {n} {records} {word} {stream}"),
             Call::Fill { truths } => format!("{name} {n} {records} {truths} {stream}"),
             Call::Reader => format!("{name} {stream}"),
+            Call::Write { size, output } => {
+                format!("{name} {n} {records} {size} {output} {stream}")
+            }
         }
     }
 
@@ -93,15 +120,34 @@ impl Case {
                 (Call::Fill { truths }, n, records, stream)
             }
             ["reader", stream] => (Call::Reader, "0", "0", stream),
+            ["write", n, records, size, length, stream] => {
+                let (size, output) = (size.parse().ok()?, length.parse().ok()?);
+                (Call::Write { size, output }, n, records, stream)
+            }
             _ => return None,
         };
         Some(Case {
             call,
             n: n.parse().ok()?,
             records: records.parse().ok()?,
-            stream: unescaped(stream)?,
+            stream: match call {
+                Call::Write { .. } => bytes_of(stream)?,
+                _ => unescaped(stream)?,
+            },
         })
     }
+}
+
+fn hexadecimal(bytes: &[u8]) -> String {
+    let shown = |byte: &u8| format!("{byte:02x}");
+    format!("\"{}\"", bytes.iter().map(shown).collect::<String>())
+}
+
+fn bytes_of(text: &str) -> Option<Vec<u8>> {
+    let digits = text.strip_prefix('"')?.strip_suffix('"')?;
+    let starts = (0..digits.len()).step_by(2);
+    let byte = |at: usize| u8::from_str_radix(digits.get(at..at + 2)?, 16).ok();
+    starts.map(byte).collect()
 }
 
 fn escaped(bytes: &[u8]) -> String {

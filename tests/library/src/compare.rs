@@ -1,12 +1,13 @@
 //! One case put to the library and to the plain walk.
 
 use crate::case::{Call, Case};
-use crate::foreign::{self, Checked, Decided, Filled, Place, Stepped, Stream};
-use crate::lent::Memory;
+use crate::foreign::{self, Checked, Decided, Filled, Place, Stepped, Stream, Written};
+use crate::lent::{Lent, Memory};
 use std::fmt::Debug;
-use walk::calls::{check, decide, fill, Decision};
+use walk::calls::{check, decide, fill, write, Decision};
 use walk::reader::{Element, Reader, Step};
 use walk::refusal::Refusal;
+use walk::run::Ending;
 
 /// What the walk's records hold before a call.
 const GARBAGE: u64 = 7;
@@ -20,9 +21,10 @@ pub fn compare(case: &Case) -> Result<usize, String> {
         Call::Decide { word } => compare_decide(case, word, &mut memory)?,
         Call::Fill { .. } => compare_fill(case, &mut memory)?,
         Call::Reader => compare_reader(case, &mut memory)?,
+        Call::Write { size, .. } => compare_write(case, size, &mut memory)?,
     };
     if !memory.stream.unchanged() {
-        return Err("the stream or what stands beside it was changed".to_string());
+        return Err("what was lent to be read or what stands beside it was changed".to_string());
     }
     Ok(outcome as usize)
 }
@@ -107,6 +109,46 @@ fn compare_fill(case: &Case, memory: &mut Memory) -> Result<u32, String> {
     Ok(expected.cause)
 }
 
+fn compare_write(case: &Case, size: u32, memory: &mut Memory) -> Result<u32, String> {
+    let mut table = vec![GARBAGE; case.records];
+    let mut output = memory.output.was().to_vec();
+    let answer = write(
+        case.n.into(),
+        size.into(),
+        &case.stream,
+        &mut output,
+        &mut table,
+    );
+    let expected = match answer {
+        Ok(written) => Written {
+            written: written.bytes as u64,
+            covered: written.covered,
+            ending: match written.ending {
+                Ending::Whole => 0,
+                Ending::InputEnded => 1,
+                Ending::OutputFull => 2,
+            },
+            ..Written::default()
+        },
+        Err(refusal) => {
+            let (cause, stream, byte) = refused(refusal);
+            Written {
+                cause,
+                stream,
+                byte,
+                ..Written::default()
+            }
+        }
+    };
+    let (truths, lent) = (memory.stream(), memory.output());
+    // SAFETY: the slices are lent as rule.h asks.
+    let given = unsafe { foreign::rule_write(case.n, size, truths, lent, memory.nodes()) };
+    same(expected, given)?;
+    same_bytes("output", &memory.output, &output)?;
+    same_table(&memory.nodes, &table)?;
+    Ok(expected.cause)
+}
+
 /// The whole stream; then a beginning of it, and from where that ran out the whole stream again.
 fn compare_reader(case: &Case, memory: &mut Memory) -> Result<u32, String> {
     let whole = memory.stream();
@@ -183,28 +225,37 @@ fn stepped(step: Step, place: Place) -> Stepped {
     }
 }
 
-/// What the lent slices must hold: the records are zero where the walk's are, else as they were.
+/// What the lent slices of a call that reads must hold.
 fn same_memory(memory: &Memory, table: &[u64], truths: &[u8]) -> Result<(), String> {
+    same_bytes("truth table", &memory.truths, truths)?;
+    same_table(&memory.table, table)
+}
+
+/// Every byte of a lent slice is as it is due, those around it as they were.
+fn same_bytes(name: &str, lent: &Lent<u8>, due: &[u8]) -> Result<(), String> {
+    if !lent.guarded() {
+        return Err(format!("something beside the {name} was changed"));
+    }
+    let mut bytes = lent.now().iter().zip(due).enumerate();
+    match bytes.find(|(_, (given, due))| given != due) {
+        Some((at, (given, due))) => Err(format!(
+            "byte {at} of the {name} is {given:#04x}, not {due:#04x}"
+        )),
+        None => Ok(()),
+    }
+}
+
+/// The records are zero where the walk's are, else as they were.
+fn same_table<const CELLS: usize>(lent: &Lent<[u32; CELLS]>, table: &[u64]) -> Result<(), String> {
     let say = |text: &str| Err(text.to_string());
-    if !memory.table.guarded() {
+    if !lent.guarded() {
         return say("something beside the work table was changed");
     }
-    if !memory.truths.guarded() {
-        return say("something beside the truth table was changed");
-    }
-    if memory.truths.now() != truths {
-        let place = (0..truths.len()).find(|&at| memory.truths.now()[at] != truths[at]);
-        let at = place.unwrap_or(0);
-        let (given, due) = (memory.truths.now()[at], truths[at]);
-        return Err(format!(
-            "byte {at} of the truth table is {given:#04x}, not {due:#04x}"
-        ));
-    }
     let zero = table.iter().all(|&record| record == 0);
-    if !zero && memory.table.now() != memory.table.was() {
+    if !zero && lent.now() != lent.was() {
         return say("the work table was changed");
     }
-    if zero && memory.table.now().iter().any(|record| record != &[0; 6]) {
+    if zero && lent.now().iter().any(|record| record != &[0; CELLS]) {
         return say("the work table is not all zero");
     }
     Ok(())

@@ -28,6 +28,8 @@ pub struct Draw {
     ready: Vec<Case>,
     /// Option count and stream.
     long: Vec<(u32, Vec<u8>)>,
+    /// Cases of writing among the walk's own.
+    writes: Vec<Case>,
 }
 
 impl Draw {
@@ -36,6 +38,7 @@ impl Draw {
             random: Random::new(seed),
             ready: Vec::new(),
             long: Vec::new(),
+            writes: Vec::new(),
         };
         for case in cases(seed, count / OWN) {
             draw.take(case);
@@ -55,6 +58,11 @@ impl Draw {
     /// The cases that are always there are all handed out.
     pub fn is_random(&self) -> bool {
         self.ready.is_empty()
+    }
+
+    /// The cases of writing that the walk has, for `Writes`.
+    pub fn writes(&mut self) -> Vec<Case> {
+        std::mem::take(&mut self.writes)
     }
 
     pub fn case(&mut self) -> Case {
@@ -77,7 +85,7 @@ impl Draw {
     }
 
     /// A case of the walk. Of the calls that write, the streams are checked, and what is written from a
-    /// truth table is filled back.
+    /// truth table is filled back; the writing itself is kept for `Writes`.
     fn take(&mut self, case: walk::case::Case) {
         use walk::case::Case::*;
         let options = |n: u64| u32::try_from(n).expect("the walk's option counts are small");
@@ -113,8 +121,17 @@ impl Draw {
                 size,
                 records,
                 truth,
-                ..
+                output,
             } => {
+                self.writes.push(Case {
+                    call: Call::Write {
+                        size: u32::try_from(size).expect("the walk's sizes are small"),
+                        output: output.len(),
+                    },
+                    n: options(n),
+                    records,
+                    stream: truth.clone(),
+                });
                 let mut output = vec![0; 4096];
                 let written =
                     walk::calls::write(n, size, &truth, &mut output, &mut vec![0; records]);

@@ -2,16 +2,16 @@
 
 use std::fmt::{Debug, Formatter};
 
-/// A stream that is lent.
+/// Bytes that are lent to be read: a stream, or a truth table to write from.
 #[derive(Clone, Copy)]
 pub struct Stream {
     pub bytes: *const u8,
     pub length: usize,
 }
 
-/// A truth table that is lent.
+/// Bytes that are lent to be written: a truth table to fill, or an output.
 #[derive(Clone, Copy)]
-pub struct Truths {
+pub struct Bytes {
     pub bytes: *mut u8,
     pub length: usize,
 }
@@ -19,10 +19,20 @@ pub struct Truths {
 /// `rule_record`.
 pub type Record = [u32; 6];
 
+/// `rule_node`.
+pub type Node = [u32; 12];
+
 /// A work table that is lent.
 #[derive(Clone, Copy)]
 pub struct Table {
     pub records: *mut Record,
+    pub length: usize,
+}
+
+/// A work table that is lent for writing.
+#[derive(Clone, Copy)]
+pub struct Nodes {
+    pub records: *mut Node,
     pub length: usize,
 }
 
@@ -57,6 +67,19 @@ pub struct Filled {
     pub stream: u32,
     pub byte: u64,
     pub covered: u64,
+}
+
+/// `rule_written`.
+#[repr(C)]
+#[derive(Clone, Copy, Debug, Default, PartialEq, Eq)]
+pub struct Written {
+    pub cause: u32,
+    pub stream: u32,
+    pub byte: u64,
+    pub written: u64,
+    pub covered: u64,
+    pub ending: u32,
+    pub spare: u32,
 }
 
 /// `rule_ref`.
@@ -146,7 +169,7 @@ pub struct Stepped {
 }
 
 mod calls {
-    use super::{Checked, Decided, Filled, Place, Record, Stepped};
+    use super::{Checked, Decided, Filled, Node, Place, Record, Stepped, Written};
 
     extern "C" {
         pub fn rule_check(
@@ -173,6 +196,16 @@ mod calls {
             table: *mut Record,
             records: usize,
         ) -> Filled;
+        pub fn rule_write(
+            n: u32,
+            size: u32,
+            truths: *const u8,
+            truth_bytes: usize,
+            output: *mut u8,
+            output_bytes: usize,
+            table: *mut Node,
+            records: usize,
+        ) -> Written;
         pub fn rule_begin() -> Place;
         pub fn rule_step(place: Place, stream: *const u8, stream_bytes: usize) -> Stepped;
     }
@@ -192,8 +225,17 @@ pub unsafe fn rule_decide(n: u32, s: Stream, word: u64, t: Table) -> Decided {
 
 /// # Safety
 /// What is lent is there, and nothing else refers to it.
-pub unsafe fn rule_fill(n: u32, s: Stream, v: Truths, t: Table) -> Filled {
+pub unsafe fn rule_fill(n: u32, s: Stream, v: Bytes, t: Table) -> Filled {
     calls::rule_fill(n, s.bytes, s.length, v.bytes, v.length, t.records, t.length)
+}
+
+/// # Safety
+/// What is lent is there, and nothing else refers to it.
+pub unsafe fn rule_write(n: u32, size: u32, v: Stream, o: Bytes, t: Nodes) -> Written {
+    let (truths, output) = (v.bytes, o.bytes);
+    calls::rule_write(
+        n, size, truths, v.length, output, o.length, t.records, t.length,
+    )
 }
 
 /// # Safety
@@ -211,7 +253,7 @@ pub unsafe fn rule_step(place: Place, s: Stream) -> Stepped {
 /// The sizes and offsets that `layout.c` finds in the header.
 const _: () = {
     use std::mem::{offset_of, size_of};
-    assert!(size_of::<Record>() == 24);
+    assert!(size_of::<Record>() == 24 && size_of::<Node>() == 48);
     assert!(size_of::<Checked>() == 32 && offset_of!(Checked, stream) == 4);
     assert!(offset_of!(Checked, byte) == 8 && offset_of!(Checked, covered) == 16);
     assert!(offset_of!(Checked, size) == 24 && offset_of!(Checked, extent) == 28);
@@ -219,6 +261,10 @@ const _: () = {
     assert!(offset_of!(Decided, byte) == 8 && offset_of!(Decided, verdict) == 16);
     assert!(size_of::<Filled>() == 24 && offset_of!(Filled, stream) == 4);
     assert!(offset_of!(Filled, byte) == 8 && offset_of!(Filled, covered) == 16);
+    assert!(size_of::<Written>() == 40 && offset_of!(Written, stream) == 4);
+    assert!(offset_of!(Written, byte) == 8 && offset_of!(Written, written) == 16);
+    assert!(offset_of!(Written, covered) == 24 && offset_of!(Written, ending) == 32);
+    assert!(offset_of!(Written, spare) == 36);
     assert!(size_of::<Place>() == 416 && offset_of!(Place, mark) == 8);
     assert!(offset_of!(Place, last) == 12 && offset_of!(Place, opens) == 24);
     assert!(size_of::<Opens>() == 392 && offset_of!(Opens, depth) == 384);

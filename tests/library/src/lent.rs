@@ -1,7 +1,7 @@
 //! Memory that is lent to a call: garbage in it and guards around it, which only the case decides.
 
-use crate::case::Case;
-use crate::foreign::{Record, Stream, Table, Truths};
+use crate::case::{Call, Case};
+use crate::foreign::{Bytes, Node, Nodes, Record, Stream, Table};
 use walk::random::Random;
 
 /// Guards on each side of a lent slice.
@@ -56,25 +56,37 @@ impl<T: Copy + PartialEq> Lent<T> {
 pub struct Memory {
     pub stream: Lent<u8>,
     pub truths: Lent<u8>,
+    pub output: Lent<u8>,
     pub table: Lent<Record>,
+    pub nodes: Lent<Node>,
 }
 
 impl Memory {
     pub fn new(case: &Case) -> Memory {
         let mut random = Random::new(case.hash());
         let null = random.chance(1, 2);
-        // Bytes that could go on where the stream ends, so that reading past it shows.
-        let mut around = || random.pick(b"0123456789()~:. \n");
+        // Bytes that could go on where the stream ends, so that reading past it shows; beside a truth
+        // table that is any byte.
+        let writes = matches!(case.call, Call::Write { .. });
+        let mut around = || match writes {
+            true => random.byte(),
+            false => random.pick(b"0123456789()~:. \n"),
+        };
         let mut bytes: Vec<u8> = (0..GUARDS).map(|_| around()).collect();
         bytes.extend(&case.stream);
         bytes.extend((0..GUARDS).map(|_| around()));
         let truths = random.garbage(case.truths() + 2 * GUARDS);
-        let cells = Cells::new(&mut random);
-        let records = cells.take(case.records + 2 * GUARDS).collect();
+        let mut cells = Cells::new(&mut random);
+        let [records, nodes] = case.tables();
+        let table = (0..records + 2 * GUARDS).map(|_| cells.record()).collect();
+        let nodes = (0..nodes + 2 * GUARDS).map(|_| cells.record()).collect();
+        let output = random.garbage(case.output() + 2 * GUARDS);
         Memory {
             stream: Lent::new(bytes, null),
             truths: Lent::new(truths, null),
-            table: Lent::new(records, null),
+            output: Lent::new(output, null),
+            table: Lent::new(table, null),
+            nodes: Lent::new(nodes, null),
         }
     }
 
@@ -85,10 +97,17 @@ impl Memory {
         }
     }
 
-    pub fn truths(&mut self) -> Truths {
-        Truths {
+    pub fn truths(&mut self) -> Bytes {
+        Bytes {
             bytes: self.truths.pointer(),
             length: self.truths.length(),
+        }
+    }
+
+    pub fn output(&mut self) -> Bytes {
+        Bytes {
+            bytes: self.output.pointer(),
+            length: self.output.length(),
         }
     }
 
@@ -96,6 +115,13 @@ impl Memory {
         Table {
             records: self.table.pointer(),
             length: self.table.length(),
+        }
+    }
+
+    pub fn nodes(&mut self) -> Nodes {
+        Nodes {
+            records: self.nodes.pointer(),
+            length: self.nodes.length(),
         }
     }
 }
@@ -113,18 +139,13 @@ impl Cells {
         let state = random.draw() | 1;
         Cells { state, mask, least }
     }
-}
 
-impl Iterator for Cells {
-    type Item = Record;
-
-    fn next(&mut self) -> Option<Record> {
-        let mut cell = || {
+    fn record<const CELLS: usize>(&mut self) -> [u32; CELLS] {
+        [(); CELLS].map(|()| {
             self.state ^= self.state << 13;
             self.state ^= self.state >> 7;
             self.state ^= self.state << 17;
             ((self.state >> 32) as u32 & self.mask).wrapping_add(self.least)
-        };
-        Some([cell(), cell(), cell(), cell(), cell(), cell()])
+        })
     }
 }

@@ -1,19 +1,25 @@
 //! The proved library compared with the plain walk, call by call and slice by slice.
 //!
-//! `library SEED COUNT` compares at least COUNT cases for SEED; with a third argument it says each case
-//! before it is put to the library. `library replay LINE` compares the case of one line (see `case`).
+//! `library SEED COUNT` compares, for SEED, at least COUNT cases of the calls that read, then those of
+//! writing that are always there and random ones, a tenth of COUNT; with a third argument it says each
+//! case before it is put to the library. `library replay LINE` compares the case of one line (see `case`).
 
 mod case;
 mod compare;
 mod draw;
 mod foreign;
 mod lent;
+mod writes;
 
 use case::{Case, NAMES};
 use compare::compare;
 use draw::Draw;
 use std::process::ExitCode;
 use std::time::Instant;
+use writes::Writes;
+
+/// So many cases of the calls that read for each random one of writing.
+const READS: usize = 10;
 
 /// Cases by call, and by outcome: taken, or the cause.
 type Tally = [[usize; 14]; NAMES.len()];
@@ -50,9 +56,16 @@ fn replay(case: &Case) -> ExitCode {
 fn run(seed: u64, count: usize, say: bool) -> ExitCode {
     let start = Instant::now();
     let mut draw = Draw::new(seed, count);
+    let mut writes = Writes::new(seed, count / READS, draw.writes());
     let (mut total, mut tally) = (0, Tally::default());
-    while total < count || !draw.is_random() {
-        let case = draw.case();
+    loop {
+        let case = if total < count || !draw.is_random() {
+            draw.case()
+        } else if let Some(case) = writes.case() {
+            case
+        } else {
+            break;
+        };
         if say {
             println!("{}", case.line());
         }

@@ -108,10 +108,15 @@ fn limits() {
     assert_eq!(fault(1, "4/(0~0):18446744073709551617."), (13, 8));
 }
 
+/// What `examples/write.c` must print: both streams of "9sym", and what they come to.
+const PRINTED: &str = include_str!("../../../examples/write.txt");
+
 #[test]
 fn nine_symmetric_at_10_and_24() {
     for size in [10, 24] {
         let whole = write_words(9, size, nine_symmetric);
+        let (text, nodes) = (String::from_utf8_lossy(&whole.text), whole.nodes.len());
+        assert!(PRINTED.contains(&format!("whole\n{text}\n{nodes} two-child nodes, ")));
         let reading = read(9, &whole.text).expect("taken");
         assert_eq!((reading.covered, reading.complete), (512, true));
         assert!((0..512).all(|word| reading.decision(word) == nine_symmetric(word)));

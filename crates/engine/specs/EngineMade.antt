@@ -1,0 +1,257 @@
+-- One law for each way through the functions of the engine: what they answer there is what Engine says. Assumes nothing.
+use mathlib.Core.Path.{_≡_, refl, sym, ap, ap₂, _∙_}
+use mathlib.Core.Logic.{_≢_}
+use mathlib.Core.Bool.{Bool, true, false, not, cond, _&&_, _||_}
+use mathlib.Core.List.{List, [], _∷_}
+use Prim.Native.Nat.{ℕ, zero, suc, _+_, _-_, _^_}
+use native.Mathlib.Omega.{arith}
+use lib.Dec.{eqb, ltb}
+use borrow.Author.Tests.{eq-eqb, ne-eqb}
+use Rattle.lists.specs.Lists.{differ}
+use Rattle.reading.specs.Bytes.{opener, dot}
+use Rattle.writing.specs.Texts.{tildeIf}
+use Rattle.writing.specs.Run.{head}
+use Rattle.writing.specs.Calls.{truthAt}
+use Rattle.engine.specs.Cells.{cell}
+use Rattle.engine.specs.Recycling.{Lane, oneMore, findIn, storeIn, nextIn}
+use Rattle.engine.specs.Pending.{Waiting, pushAll, waitIn}
+use Rattle.engine.specs.Engine.{Half, Pen, Walked, Sent, constantHalf, numberHalf, isStale, alikeConstant, alikeNumber, barredHalf, sendText, sendNode, sentAs, writeNode, writeTemporary, kept, giveIn, knownIn, meetIn, allBytes, secondIn, walkIn, penAfter, endIn, doneIn, bodyIn, streamIn}
+
+-- ---- What the rules ask ----------------------------------------------------------------------
+
+module _ (t : List (List ℕ)) (a : Half) where
+  pub stale-none : a .number ≡ 0 → false ≡ isStale t a
+  stale-none e = rw (eq-eqb (a .number) 0 e) refl
+
+  pub stale-told : a .number ≢ 0 → not (eqb (cell t 4 (a .number)) (a .stamp)) ≡ isStale t a
+  stale-told d = rw (ne-eqb (a .number) 0 d) refl
+
+  pub barred-told : a .temporary ≡ false → isStale t a ≡ barredHalf t a
+  barred-told e = rw e refl
+
+module _ (t : List (List ℕ)) (v : Bool) (a b : Half) where
+  pub number-none : a .number ≡ 0 → false ≡ alikeNumber t v a b
+  number-none e = rw (eq-eqb (a .number) 0 e) refl
+
+  pub number-other : a .number ≢ 0 → a .number ≢ b .number → false ≡ alikeNumber t v a b
+  number-other d e = rw (ne-eqb (a .number) 0 d, ne-eqb (a .number) (b .number) e) refl
+
+  pub number-turned : a .number ≢ 0 → a .number ≡ b .number → v ≡ true → false ≡ alikeNumber t v a b
+  number-turned d e w = rw (ne-eqb (a .number) 0 d, eq-eqb (a .number) (b .number) e, w) refl
+
+  pub number-stale : a .number ≢ 0 → a .number ≡ b .number → v ≡ false → isStale t a ≡ true → false ≡ alikeNumber t v a b
+  number-stale d e w s =
+      ap (λ (u : Bool). not u && not (isStale t b)) (sym s) ∙ shown d e w
+    where
+      shown : a .number ≢ 0 → a .number ≡ b .number → v ≡ false → (not (isStale t a) && not (isStale t b)) ≡ alikeNumber t v a b
+      shown d e w = rw (ne-eqb (a .number) 0 d, eq-eqb (a .number) (b .number) e, w) refl
+
+  pub number-told : a .number ≢ 0 → a .number ≡ b .number → v ≡ false → isStale t a ≡ false → not (isStale t b) ≡ alikeNumber t v a b
+  number-told d e w s =
+      ap (λ (u : Bool). not u && not (isStale t b)) (sym s) ∙ shown d e w
+    where
+      shown : a .number ≢ 0 → a .number ≡ b .number → v ≡ false → (not (isStale t a) && not (isStale t b)) ≡ alikeNumber t v a b
+      shown d e w = rw (ne-eqb (a .number) 0 d, eq-eqb (a .number) (b .number) e, w) refl
+
+-- ---- Two halves meet -------------------------------------------------------------------------
+
+-- rule 5
+module _ (k i m : ℕ) (v : Bool) (a b : Half) (t : List (List ℕ)) (out w : List ℕ) (pen : Pen) where
+  pub give-none : k ≡ 0 → writeTemporary m v a b t out w pen ≡ giveIn k i m v a b t out w pen
+  unfolding giveIn
+  give-none e = rw (eq-eqb k 0 e) refl
+
+  pub give-number : (e : Lane) (g z : ℕ) (x : Sent) → k ≢ 0
+      → e ≡ storeIn t (pen .given) (pen .first) (pen .last) k i (a .number) (b .number) (cond v 1 0) → g ≡ cell (e .table) 4 k
+      → z ≡ cond (ltb (pen .given) k) k (pen .given) → x ≡ sendNode m v a b k out w (pen .written)
+      → sentAs (numberHalf k g 0 (a .complement) true) z e x ≡ giveIn k i m v a b t out w pen
+  unfolding giveIn writeNode
+  give-number e g z x d s c y u =
+      ap₂ (λ (z : ℕ) (x : Sent). sentAs (numberHalf k g 0 (a .complement) true) z e x) y u
+      ∙ ap (λ (g : ℕ). node g e) c ∙ ap (λ (e : Lane). node (cell (e .table) 4 k) e) s
+      ∙ ap (λ (b : Bool). cond b (writeTemporary m v a (half₂) t out w pen) given) (sym (ne-eqb k 0 d))
+    where
+      half₂ : Half
+      half₂ = b
+
+      node : ℕ → Lane → Walked
+      node g e = sentAs (numberHalf k g 0 (a .complement) true) (cond (ltb (pen .given) k) k (pen .given)) e
+          (sendNode m v a b k out w (pen .written))
+
+      given : Walked
+      given = let e = storeIn t (pen .given) (pen .first) (pen .last) k i (a .number) (b .number) (cond v 1 0) in
+          node (cell (e .table) 4 k) e
+
+-- rule 4
+module _ (k size i m : ℕ) (v : Bool) (a b : Half) (t : List (List ℕ)) (out w : List ℕ) (pen : Pen) where
+  pub known-none : (x : ℕ) → k ≡ 0 → x ≡ nextIn t (pen .given) (pen .first) size (a .number) (b .number)
+      → giveIn x i m v a b t out w pen ≡ knownIn k size i m v a b t out w pen
+  unfolding knownIn
+  known-none x e n = ap (λ (x : ℕ). giveIn x i m v a b t out w pen) n ∙ rw (eq-eqb k 0 e) refl
+
+  pub known-there : (g : ℕ) → k ≢ 0 → g ≡ cell t 4 k
+      → kept (numberHalf k g 0 (a .complement) false) t out w pen ≡ knownIn k size i m v a b t out w pen
+  unfolding knownIn
+  known-there g d c =
+      ap (λ (g : ℕ). kept (numberHalf k g 0 (a .complement) false) t out w pen) c ∙ rw (ne-eqb k 0 d) refl
+
+-- all five
+module _ (size i m : ℕ) (v : Bool) (a b : Half) (t : List (List ℕ)) (out w : List ℕ) (pen : Pen) where
+  pub meet-constant : alikeConstant v a b ≡ true
+      → kept (constantHalf (a .complement)) t out w pen ≡ meetIn size i m v a b t out w pen
+  unfolding meetIn
+  meet-constant e = rw e refl
+
+  pub meet-number : alikeConstant v a b ≡ false → alikeNumber t v a b ≡ true
+      → kept (numberHalf (a .number) (a .stamp) (oneMore (a .skipped)) (a .complement) (a .wrote)) t out w pen
+      ≡ meetIn size i m v a b t out w pen
+  unfolding meetIn
+  meet-number e f = rw (e, f) refl
+
+  pub meet-first : alikeConstant v a b ≡ false → alikeNumber t v a b ≡ false → barredHalf t a ≡ true
+      → writeTemporary m v a b t out w pen ≡ meetIn size i m v a b t out w pen
+  unfolding meetIn
+  meet-first e f g = rw (e, f, g) refl
+
+  pub meet-second : alikeConstant v a b ≡ false → alikeNumber t v a b ≡ false → barredHalf t a ≡ false → barredHalf t b ≡ true
+      → writeTemporary m v a b t out w pen ≡ meetIn size i m v a b t out w pen
+  unfolding meetIn
+  meet-second e f g h = rw (e, f, g, h) refl
+
+  pub meet-known : (k : ℕ) → alikeConstant v a b ≡ false → alikeNumber t v a b ≡ false → barredHalf t a ≡ false
+      → barredHalf t b ≡ false → k ≡ findIn t (pen .given) i (a .number) (b .number) (cond v 1 0)
+      → knownIn k size i m v a b t out w pen ≡ meetIn size i m v a b t out w pen
+  unfolding meetIn
+  meet-known k e f g h s = ap (λ (k : ℕ). knownIn k size i m v a b t out w pen) s ∙ rw (e, f, g, h) refl
+
+-- ---- The walk --------------------------------------------------------------------------------
+
+module _ (v : List ℕ) (size d i at m : ℕ) (t : List (List ℕ)) (out w : List ℕ) (pen : Pen) where
+  pub walk-word : d ≡ 0 → kept (constantHalf (truthAt v at)) t out w pen ≡ walkIn v size d i at m t out w pen
+  unfolding walkIn
+  walk-word e = ap (λ (d : ℕ). walkIn v size d i at m t out w pen) (sym e)
+
+-- two halves of one part, d + 1 options
+module _ (v : List ℕ) (size d i at m : ℕ) (t : List (List ℕ)) (out w : List ℕ) (pen : Pen) where
+  abbrev whole : ℕ → Walked
+  whole e = walkIn v size e i at m t out w pen
+
+  -- the first half, after the bytes p
+  abbrev first : Waiting → Walked
+  first p = walkIn v size d (i + 1) at (p .count) t out (p .bytes) pen
+
+  -- the second half after the first, a, and the bytes r
+  abbrev second : Walked → Waiting → Walked
+  second a r = walkIn v size d (i + 1) (at + 2 ^ d) (r .count) (a .table) (a .output) (r .bytes) (a .pen)
+
+  abbrev turnOf : Walked → Bool
+  turnOf a = differ (a .half .complement) (truthAt v (at + 2 ^ d))
+
+  -- what waits of the first half, which had p before it
+  abbrev waitOf : Waiting → Walked → Waiting
+  waitOf p a = waitIn (a .waits) (p .count) (a .half .wrote) (a .half .skipped) (a .half .number)
+
+  -- both, with the `~` u and the bytes r between them
+  abbrev both : Walked → Bool → Waiting → Walked
+  both a u r = secondIn size i (r .count) u (a .half) (second a r)
+
+  abbrev afterFirst : Waiting → Walked → Walked
+  afterFirst p a =
+      let q = waitOf p a in
+      cond (a .pen .full) a (both a (turnOf a) (pushAll (q .bytes) (q .count) (tildeIf (turnOf a))))
+
+  no-suc : allBytes v 0 (suc d) at ≡ true → kept (constantHalf false) t out w pen ≡ whole (suc d)
+  unfolding walkIn
+  no-suc h = rw h refl
+
+  yes-suc : allBytes v 0 (suc d) at ≡ false → allBytes v 255 (suc d) at ≡ true → kept (constantHalf true) t out w pen ≡ whole (suc d)
+  unfolding walkIn
+  yes-suc h l = rw (h, l) refl
+
+  halves-suc : allBytes v 0 (suc d) at ≡ false → allBytes v 255 (suc d) at ≡ false →
+      let p = pushAll w m (opener ∷ []) in afterFirst p (first p) ≡ whole (suc d)
+  unfolding walkIn
+  halves-suc h l = rw (h, l) refl
+
+  -- e options: all no, all yes
+  pub walk-no : (e : ℕ) → e ≡ suc d → allBytes v 0 e at ≡ true → kept (constantHalf false) t out w pen ≡ whole e
+  walk-no e n h = no-suc (ap (λ (e : ℕ). allBytes v 0 e at) (sym n) ∙ h) ∙ ap whole (sym n)
+
+  pub walk-yes : (e : ℕ) → e ≡ suc d → allBytes v 0 e at ≡ false → allBytes v 255 e at ≡ true
+      → kept (constantHalf true) t out w pen ≡ whole e
+  walk-yes e n h l =
+      yes-suc (ap (λ (e : ℕ). allBytes v 0 e at) (sym n) ∙ h) (ap (λ (e : ℕ). allBytes v 255 e at) (sym n) ∙ l) ∙ ap whole (sym n)
+
+  module _ (e : ℕ) (n : e ≡ suc d) (h : allBytes v 0 e at ≡ false) (l : allBytes v 255 e at ≡ false) (p : Waiting) (a : Walked)
+      (pushed : p ≡ pushAll w m (opener ∷ [])) (walked : a ≡ first p) where
+    onward : afterFirst p a ≡ whole e
+    onward =
+        ap (afterFirst p) walked ∙ ap (λ (p : Waiting). afterFirst p (first p)) pushed
+        ∙ halves-suc (ap (λ (e : ℕ). allBytes v 0 e at) (sym n) ∙ h) (ap (λ (e : ℕ). allBytes v 255 e at) (sym n) ∙ l) ∙ ap whole (sym n)
+
+    -- more was sent in the first half than the output holds
+    pub walk-full : (x : Pen) → x ≡ a .pen → x .full ≡ true → a ≡ whole e
+    walk-full x o f =
+        let q = waitOf p a in
+        ap (λ (b : Bool). cond b a (both a (turnOf a) (pushAll (q .bytes) (q .count) (tildeIf (turnOf a)))))
+        (sym (sym (ap (λ (x : Pen). x .full) o) ∙ f)) ∙ onward
+
+    -- both halves; g: what the first came to, x: the pen after it, k: the words of a half
+    pub walk-on : (g : Half) (x : Pen) (k : ℕ) (u : Bool) (q r : Waiting) (b : Walked) → g ≡ a .half → x ≡ a .pen → k ≡ 2 ^ d
+        → x .full ≡ false → u ≡ differ (g .complement) (truthAt v (at + k))
+        → q ≡ waitIn (a .waits) (p .count) (g .wrote) (g .skipped) (g .number) → r ≡ pushAll (q .bytes) (q .count) (tildeIf u)
+        → b ≡ walkIn v size d (i + 1) (at + k) (r .count) (a .table) (a .output) (r .bytes) x
+        → secondIn size i (r .count) u g b ≡ whole e
+    walk-on g x k u q r b c o z f y l n s =
+        ap (secondIn size i (r .count) u g) s
+        ∙ ap (λ (x : Pen). met g x k u r) o
+        ∙ ap (λ (k : ℕ). met g (a .pen) k u r) z
+        ∙ ap (met g (a .pen) (2 ^ d) u) n
+        ∙ ap₂ (λ (u : Bool) (q : Waiting). met g (a .pen) (2 ^ d) u (pushAll (q .bytes) (q .count) (tildeIf u)))
+        (y ∙ ap (λ (k : ℕ). differ (g .complement) (truthAt v (at + k))) z) l
+        ∙ ap started c
+        ∙ ap (λ (b : Bool). cond b a (both a (turnOf a) (pushAll (waitOf p a .bytes) (waitOf p a .count) (tildeIf (turnOf a)))))
+        (sym (sym (ap (λ (x : Pen). x .full) o) ∙ f))
+        ∙ onward
+      where
+        met : Half → Pen → ℕ → Bool → Waiting → Walked
+        met g x k u r =
+            secondIn size i (r .count) u g (walkIn v size d (i + 1) (at + k) (r .count) (a .table) (a .output) (r .bytes) x)
+
+        started : Half → Walked
+        started g =
+            let u = differ (g .complement) (truthAt v (at + 2 ^ d)) in
+            let q = waitIn (a .waits) (p .count) (g .wrote) (g .skipped) (g .number) in
+            met g (a .pen) (2 ^ d) u (pushAll (q .bytes) (q .count) (tildeIf u))
+
+-- ---- The whole stream ------------------------------------------------------------------------
+
+-- the end: what waits of the outermost node, and the point
+pub done-made : (m : ℕ) (r : Walked) (q e : Waiting) → r .pen .full ≡ false
+    → q ≡ waitIn (r .waits) m (r .half .wrote) (r .half .skipped) (r .half .number) → e ≡ pushAll (q .bytes) (q .count) (dot ∷ [])
+    → sendText (r .output) (e .bytes) (r .pen .written) (e .count) ≡ doneIn m r
+done-made m r q e f x y =
+    ap (λ (e : Waiting). sendText (r .output) (e .bytes) (r .pen .written) (e .count)) y
+    ∙ ap (λ (q : Waiting). sendText (r .output) (pushAll (q .bytes) (q .count) (dot ∷ []) .bytes) (r .pen .written)
+    (pushAll (q .bytes) (q .count) (dot ∷ []) .count)) x
+    ∙ ap (λ (b : Bool). cond b (record { written = r .pen .written; full = r .pen .full; output = r .output; waits = r .waits }) (endIn m r))
+    (sym f)
+
+-- the leading `~` and the walk
+pub body-made : (n size : ℕ) (v : List ℕ) (t : List (List ℕ)) (x : Sent) (m : Waiting) (y : Pen) (r : Walked) → x .full ≡ false
+    → m ≡ pushAll (x .waits) 0 (tildeIf (truthAt v 0)) → y ≡ penAfter x
+    → r ≡ walkIn v size n 1 0 (m .count) t (x .output) (m .bytes) y → doneIn (m .count) r ≡ bodyIn n size v t x
+body-made n size v t x m y r f p o q =
+    ap (doneIn (m .count)) q
+    ∙ ap₂ (λ (m : Waiting) (y : Pen). doneIn (m .count) (walkIn v size n 1 0 (m .count) t (x .output) (m .bytes) y)) p o
+    ∙ ap (λ (b : Bool). cond b x (walked (pushAll (x .waits) 0 (tildeIf (truthAt v 0))))) (sym f)
+  where
+    walked : Waiting → Sent
+    walked m = doneIn (m .count) (walkIn v size n 1 0 (m .count) t (x .output) (m .bytes) (penAfter x))
+
+-- the size, its LF and the rest
+pub stream-made : (n size : ℕ) (v : List ℕ) (t : List (List ℕ)) (out w : List ℕ) (a : Waiting) (x : Sent) → a ≡ pushAll w 0 (head size)
+    → x ≡ sendText out (a .bytes) 0 (a .count) → bodyIn n size v t x ≡ streamIn n size v t out w
+unfolding streamIn
+stream-made n size v t out w a x p q =
+    ap (bodyIn n size v t) (q ∙ ap (λ (a : Waiting). sendText out (a .bytes) 0 (a .count)) p)

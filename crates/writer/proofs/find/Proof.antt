@@ -1,0 +1,27 @@
+-- The search begins at the first number of the bucket.
+-- Assumes nothing.
+use borrow.Author.Needs.{needs}
+use Rattle.writer.proofs.find.Statement.{statement}
+use Rattle.writer.proofs.find.Tie as tie
+use mathlib.Core.Path.{refl}
+use Rattle.engine.specs.Recycling.{findIn}
+
+bucket-requires : tie.Need-bucket-requires
+bucket-requires c κs = search needs
+
+get-requires : tie.Need-get-requires
+get-requires c κs = search needs
+
+search-from-requires : tie.Need-search-from-requires
+search-from-requires c κs = search needs
+
+same-length : tie.Need-same-length
+same-length c = search needs
+
+returns : tie.Need-returns
+unfolding findIn
+returns c = rw (c .before .search-from .ensures .0, c .before .search-from .ensures .1, c .before .before .before .before .get .ensures .0, c .before .before .before .before .get .ensures .1, c .before .before .before .before .before .bucket .ensures) (refl, refl)
+
+pub find-spec : {M : Type 1} → statement M
+find-spec =
+    tie.close (tie.spec bucket-requires get-requires search-from-requires same-length returns)

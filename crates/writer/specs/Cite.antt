@@ -1,0 +1,46 @@
+-- How code holds what the engine speaks of: the declared structs as the types of Engine,
+-- and the answers as the paper has them. Assumes nothing.
+use mathlib.Core.List.{List}
+use Prim.Native.Nat.{ℕ}
+use Rattle.reading.specs.Causes as C
+use Rattle.writing.specs.Run as R
+use Rattle.engine.specs.Engine as E
+use Rattle.reader.specs.Answers.{refusalOf}
+use Rattle.writer.specs.declared.Half.{Half}
+use Rattle.writer.specs.declared.Pen.{Pen}
+use Rattle.writer.specs.declared.Walked.{Walked}
+use Rattle.writer.specs.declared.Ending.{Ending}
+use Rattle.writer.specs.declared.Ending.the-variants.{Whole, InputEnded, OutputFull}
+use Rattle.writer.specs.declared.Written.{Written}
+use Rattle.writer.specs.declared.Writing.{Writing}
+use Rattle.writer.specs.declared.Writing.the-variants as W
+
+abbrev pub halfOf : Half → E.Half
+halfOf h =
+    record {
+      number = h .number;
+      stamp = h .stamp;
+      skipped = h .skipped;
+      temporary = h .temporary;
+      complement = h .complement;
+      wrote = h .wrote;
+    }
+
+abbrev pub penOf : Pen → E.Pen
+penOf p = record { given = p .given; first = p .first; last = p .last; written = p .written; full = p .full }
+
+-- with what the lent records, output and waiting bytes hold
+abbrev pub walkedOf : Walked → List (List ℕ) → List ℕ → List ℕ → E.Walked
+walkedOf r t out w = record { half = halfOf (r .half); pen = penOf (r .pen); table = t; output = out; waits = w }
+
+abbrev pub endingsOf : Ending → R.Ending
+endingsOf Whole = R.whole
+endingsOf InputEnded = R.inputEnded
+endingsOf OutputFull = R.outputFull
+
+abbrev pub writtenOf : Written → R.Answer
+writtenOf x = record { written = x .bytes; covered = x .covered; ending = endingsOf (x .ending) }
+
+abbrev pub writingOf : Writing → C.Result R.Answer
+writingOf (W.Refused r) = C.refused (refusalOf r)
+writingOf (W.Done x) = C.done (writtenOf x)

@@ -1,0 +1,1025 @@
+// Writing the stream of a truth table: the unique table and its recycling queue in lent records, the text that waits, the walk.
+ghost use mathlib.Core.Path.{_≡_};
+ghost use mathlib.Core.Bool.{cond, true, false, not, _&&_, _||_};
+ghost use mathlib.Core.List.{List, [], _∷_, _++_};
+ghost use lib.Dec.{eqb, ltb};
+ghost use lib.ListN.{length, getD, take, replicate};
+ghost use Prim.Native.Nat.{ℕ, min, _+_, _-_, _<_, _≤_, _/_, _^_};
+ghost use Rattle.lists.specs.Lists.{differ};
+ghost use Rattle.reading.specs.Causes.{refusal};
+ghost use Rattle.reader.specs.Cite.{causeOf};
+ghost use Rattle.reader.specs.Answers.{refusalOf};
+ghost use Rattle.writing.specs.Texts.{decimal, tildeIf, storing};
+ghost use Rattle.writing.specs.Links.{stops};
+ghost use Rattle.writing.specs.Run.{head, whole, outputFull};
+ghost use Rattle.writing.specs.Calls.{truthAt, write};
+ghost use Rattle.engine.specs.Cells.{cell, putCell};
+ghost use Rattle.engine.specs.Recycling.{oneMore, leaveIn, joinIn, freeOf, bucketOf, fitsAt, searchIn, findIn, shelveIn, unshelveIn, moreIn, fewerIn, orphanIn, orphansIn, releaseIn, adoptIn, noteIn, placeIn, storeIn, nextIn};
+ghost use Rattle.engine.specs.Pending.{pushAll, waitIn, closeIn};
+ghost use Rattle.engine.specs.Engine.{isStale, alikeConstant, alikeNumber, barredHalf, spaced, sendNode, writeTemporary, giveIn, knownIn, meetIn, sendText, sameBytes, allBytes, secondIn, walkIn, doneIn, bodyIn, streamIn};
+ghost use Rattle.writer.specs.Cite.{halfOf, penOf, walkedOf, endingsOf, writtenOf, writingOf};
+use reader::Cause;
+use reader::Refusal;
+
+// ---- Records: the cells of a number are 0 level, 1 and 2 children, 3 complement, 4 stamp, 5 parents, 6 and 7 the numbers after and before it in the
+// queue, 8 and 9 those in its bucket; 10 and 11 are the first and the last number of the bucket that has this place.
+
+fn get(t: &mut [[u32; 12]], j: usize, k: u32) -> u32
+    requires { ⌜ j < 12 ⌝ }
+    ensures { λ x. ⌜ (x ≡ cell (now (t .entry)) j k) × (now (t .exit) ≡ now (t .entry)) ⌝ }
+{
+    if k == 0 {
+        return 0;
+    }
+    let p = (k - 1) as usize;
+    if t.len() <= p {
+        return 0;
+    }
+    t[p][j]
+}
+
+fn put(t: &mut [[u32; 12]], j: usize, k: u32, x: u32)
+    requires { ⌜ j < 12 ⌝ }
+    ensures { λ _. ⌜ now (t .exit) ≡ putCell (now (t .entry)) j k x ⌝ }
+{
+    if k == 0 {
+        return;
+    }
+    let p = (k - 1) as usize;
+    if t.len() <= p {
+        return;
+    }
+    t[p][j] = x;
+}
+
+// Every record becomes zero.
+fn clear(t: &mut [[u32; 12]])
+    ensures { λ _. ⌜ now (t .exit) ≡ replicate (length (now (t .entry))) (replicate 12 0) ⌝ }
+{
+    let mut i = 0;
+    while i < t.len() {
+        t[i] = [0; 12];
+        i += 1;
+    }
+}
+
+// ---- Numbers linked both ways
+
+// The first and the last of those that are linked; 0: none
+struct Ends {
+    first: u32,
+    last: u32,
+}
+
+fn either(c: bool, x: u32, y: u32) -> u32
+    ensures { λ r. ⌜ r ≡ cond c x y ⌝ }
+{
+    if c { x } else { y }
+}
+
+// k leaves the queue (j is 6) or a bucket (j is 8).
+fn leave(t: &mut [[u32; 12]], j: usize, e: Ends, k: u32) -> Ends
+    requires { ⌜ j + 1 < 12 ⌝ }
+    ensures { λ r. ⌜ record { table = now (t .exit); first = r .first; last = r .last } ≡ leaveIn (now (t .entry)) j (e .first) (e .last) k ⌝ }
+{
+    let p = get(t, j + 1, k);
+    let x = get(t, j, k);
+    put(t, j, p, x);
+    put(t, j + 1, x, p);
+    Ends {
+        first: either(p == 0, x, e.first),
+        last: either(x == 0, p, e.last),
+    }
+}
+
+// k joins at the end.
+fn join(t: &mut [[u32; 12]], j: usize, e: Ends, k: u32) -> Ends
+    requires { ⌜ j + 1 < 12 ⌝ }
+    ensures { λ r. ⌜ record { table = now (t .exit); first = r .first; last = r .last } ≡ joinIn (now (t .entry)) j (e .first) (e .last) k ⌝ }
+{
+    let l = e.last;
+    put(t, j, k, 0);
+    put(t, j, l, k);
+    put(t, j + 1, k, l);
+    Ends {
+        first: either(l == 0, k, e.first),
+        last: k,
+    }
+}
+
+// The search for a number to reuse ends at x.
+fn is_free(a: u32, b: u32, x: u32) -> bool
+    ensures { λ r. ⌜ r ≡ stops a b x ⌝ }
+{
+    if x == 0 {
+        return true;
+    }
+    if a == x {
+        return false;
+    }
+    b != x
+}
+
+// The first of the queue, x, or the next, or the one after it, that is not a or b.
+fn free(t: &mut [[u32; 12]], x: u32, a: u32, b: u32) -> u32
+    ensures { λ r. ⌜ (r ≡ freeOf (now (t .entry)) x a b) × (now (t .exit) ≡ now (t .entry)) ⌝ }
+{
+    if is_free(a, b, x) {
+        return x;
+    }
+    let y = get(t, 6, x);
+    if is_free(a, b, y) {
+        return y;
+    }
+    get(t, 6, y)
+}
+
+// ---- Looking up
+
+// The bucket of a node: level, children, complement
+fn bucket(i: u32, a: u32, b: u32, c: u32) -> u32
+    ensures { λ r. ⌜ r ≡ bucketOf i a b c ⌝ }
+{
+    ((a as u64 * 269 + b as u64 * 31 + i as u64 * 7 + c as u64) % 1024 + 1) as u32
+}
+
+// The bucket of the node that has number k
+fn bucket_at(t: &mut [[u32; 12]], k: u32) -> u32
+    ensures { λ r. ⌜ (r ≡ bucketOf (cell (now (t .entry)) 0 k) (cell (now (t .entry)) 1 k) (cell (now (t .entry)) 2 k) (cell (now (t .entry)) 3 k)) × (now (t .exit) ≡ now (t .entry)) ⌝ }
+{
+    let i = get(t, 0, k);
+    let a = get(t, 1, k);
+    let b = get(t, 2, k);
+    let c = get(t, 3, k);
+    bucket(i, a, b, c)
+}
+
+fn fits(t: &mut [[u32; 12]], k: u32, i: u32, a: u32, b: u32, c: u32) -> bool
+    ensures { λ r. ⌜ (r ≡ fitsAt (now (t .entry)) k i a b c) × (now (t .exit) ≡ now (t .entry)) ⌝ }
+{
+    if get(t, 0, k) != i {
+        return false;
+    }
+    if get(t, 1, k) != a {
+        return false;
+    }
+    if get(t, 2, k) != b {
+        return false;
+    }
+    get(t, 3, k) == c
+}
+
+// From k on in its bucket, the first that fits; at most m are looked at.
+fn search_from(t: &mut [[u32; 12]], m: u32, k: u32, i: u32, a: u32, b: u32, c: u32) -> u32
+    ensures { λ r. ⌜ (r ≡ searchIn (now (t .entry)) m k i a b c) × (now (t .exit) ≡ now (t .entry)) ⌝ }
+{
+    if m == 0 {
+        return 0;
+    }
+    if k == 0 {
+        return 0;
+    }
+    if fits(t, k, i, a, b, c) {
+        return k;
+    }
+    let x = get(t, 8, k);
+    search_from(t, m - 1, x, i, a, b, c)
+}
+
+// The number of a node among z numbers, 0 if there is none.
+fn find(t: &mut [[u32; 12]], z: u32, i: u32, a: u32, b: u32, c: u32) -> u32
+    ensures { λ r. ⌜ (r ≡ findIn (now (t .entry)) z i a b c) × (now (t .exit) ≡ now (t .entry)) ⌝ }
+{
+    let k = get(t, 10, bucket(i, a, b, c));
+    search_from(t, z, k, i, a, b, c)
+}
+
+// Number k joins its bucket.
+fn shelve(t: &mut [[u32; 12]], k: u32)
+    ensures { λ _. ⌜ now (t .exit) ≡ shelveIn (now (t .entry)) k ⌝ }
+{
+    let h = bucket_at(t, k);
+    let f = get(t, 10, h);
+    let l = get(t, 11, h);
+    let e = join(t, 8, Ends { first: f, last: l }, k);
+    put(t, 10, h, e.first);
+    put(t, 11, h, e.last);
+}
+
+// It leaves it.
+fn unshelve(t: &mut [[u32; 12]], k: u32)
+    ensures { λ _. ⌜ now (t .exit) ≡ unshelveIn (now (t .entry)) k ⌝ }
+{
+    let h = bucket_at(t, k);
+    let f = get(t, 10, h);
+    let l = get(t, 11, h);
+    let e = leave(t, 8, Ends { first: f, last: l }, k);
+    put(t, 10, h, e.first);
+    put(t, 11, h, e.last);
+}
+
+// ---- Storing
+
+fn one_more(p: u32) -> u32
+    ensures { λ x. ⌜ x ≡ oneMore p ⌝ }
+{
+    if p < 4294967295 { p + 1 } else { p }
+}
+
+// Number c gets a parent more.
+fn more_parents(t: &mut [[u32; 12]], c: u32)
+    ensures { λ _. ⌜ now (t .exit) ≡ moreIn (now (t .entry)) c ⌝ }
+{
+    let p = get(t, 5, c);
+    put(t, 5, c, one_more(p));
+}
+
+fn one_less(p: u32) -> u32
+    ensures { λ x. ⌜ x ≡ p - 1 ⌝ }
+{
+    if p == 0 { 0 } else { p - 1 }
+}
+
+fn fewer_parents(t: &mut [[u32; 12]], c: u32)
+    ensures { λ _. ⌜ now (t .exit) ≡ fewerIn (now (t .entry)) c ⌝ }
+{
+    let p = get(t, 5, c);
+    put(t, 5, c, one_less(p));
+}
+
+// c joins the queue if it has no parent.
+fn orphan(t: &mut [[u32; 12]], e: Ends, c: u32) -> Ends
+    ensures { λ r. ⌜ record { table = now (t .exit); first = r .first; last = r .last } ≡ orphanIn (now (t .entry)) (e .first) (e .last) c ⌝ }
+{
+    if c == 0 {
+        return e;
+    }
+    if get(t, 5, c) != 0 {
+        return e;
+    }
+    join(t, 6, e, c)
+}
+
+// The children x and y of a node that is no more.
+fn orphans(t: &mut [[u32; 12]], e: Ends, x: u32, y: u32) -> Ends
+    ensures { λ r. ⌜ record { table = now (t .exit); first = r .first; last = r .last } ≡ orphansIn (now (t .entry)) (e .first) (e .last) x y ⌝ }
+{
+    fewer_parents(t, x);
+    fewer_parents(t, y);
+    let f = orphan(t, e, x);
+    if x == y {
+        return f;
+    }
+    orphan(t, f, y)
+}
+
+// Number k is taken from its node, to be reused.
+fn release(t: &mut [[u32; 12]], e: Ends, k: u32) -> Ends
+    ensures { λ r. ⌜ record { table = now (t .exit); first = r .first; last = r .last } ≡ releaseIn (now (t .entry)) (e .first) (e .last) k ⌝ }
+{
+    let f = leave(t, 6, e, k);
+    unshelve(t, k);
+    let x = get(t, 1, k);
+    let y = get(t, 2, k);
+    orphans(t, f, x, y)
+}
+
+// c becomes the child of a new node.
+fn adopt(t: &mut [[u32; 12]], e: Ends, c: u32) -> Ends
+    ensures { λ r. ⌜ record { table = now (t .exit); first = r .first; last = r .last } ≡ adoptIn (now (t .entry)) (e .first) (e .last) c ⌝ }
+{
+    let p = get(t, 5, c);
+    more_parents(t, c);
+    if c == 0 {
+        return e;
+    }
+    if p != 0 {
+        return e;
+    }
+    leave(t, 6, e, c)
+}
+
+// The record of number k gets a node.
+fn note(t: &mut [[u32; 12]], k: u32, i: u32, a: u32, b: u32, c: u32)
+    ensures { λ _. ⌜ now (t .exit) ≡ noteIn (now (t .entry)) k i a b c ⌝ }
+{
+    let g = get(t, 4, k);
+    put(t, 0, k, i);
+    put(t, 1, k, a);
+    put(t, 2, k, b);
+    put(t, 3, k, c);
+    put(t, 4, k, one_more(g));
+}
+
+// Number k, which is nobody's, is given to a node.
+fn place(t: &mut [[u32; 12]], e: Ends, k: u32, i: u32, a: u32, b: u32, c: u32) -> Ends
+    ensures { λ r. ⌜ record { table = now (t .exit); first = r .first; last = r .last } ≡ placeIn (now (t .entry)) (e .first) (e .last) k i a b c ⌝ }
+{
+    let f = adopt(t, e, a);
+    let g = adopt(t, f, b);
+    note(t, k, i, a, b, c);
+    shelve(t, k);
+    join(t, 6, g, k)
+}
+
+// Of z numbers given out k is reused, or it is the next.
+fn store(t: &mut [[u32; 12]], z: u32, e: Ends, k: u32, i: u32, a: u32, b: u32, c: u32) -> Ends
+    ensures { λ r. ⌜ record { table = now (t .exit); first = r .first; last = r .last } ≡ storeIn (now (t .entry)) z (e .first) (e .last) k i a b c ⌝ }
+{
+    if z < k {
+        return place(t, e, k, i, a, b, c);
+    }
+    let f = release(t, e, k);
+    place(t, f, k, i, a, b, c)
+}
+
+// The number for a node with children a and b, 0 if there is none. f: the first of the queue
+fn next_number(t: &mut [[u32; 12]], z: u32, f: u32, size: u32, a: u32, b: u32) -> u32
+    ensures { λ r. ⌜ (r ≡ nextIn (now (t .entry)) z f size a b) × (now (t .exit) ≡ now (t .entry)) ⌝ }
+{
+    if z < size {
+        return z + 1;
+    }
+    free(t, f, a, b)
+}
+
+// ---- The text that waits: the first m bytes of w
+
+fn push(w: &mut [u8], m: usize, b: u8) -> usize
+    ensures { λ r. ⌜ record { bytes = now (w .exit); count = r } ≡ pushAll (now (w .entry)) m (b ∷ []) ⌝ }
+{
+    if w.len() <= m {
+        return m;
+    }
+    w[m] = b;
+    m + 1
+}
+
+// j times b
+fn push_many(w: &mut [u8], m: usize, b: u8, j: u32) -> usize
+    ensures { λ r. ⌜ record { bytes = now (w .exit); count = r } ≡ pushAll (now (w .entry)) m (replicate j b) ⌝ }
+{
+    if j == 0 {
+        return m;
+    }
+    let x = push(w, m, b);
+    push_many(w, x, b, j - 1)
+}
+
+fn push_number(w: &mut [u8], m: usize, k: u32) -> usize
+    ensures { λ r. ⌜ record { bytes = now (w .exit); count = r } ≡ pushAll (now (w .entry)) m (decimal k) ⌝ }
+{
+    if k < 10 {
+        return push(w, m, b'0' + k as u8);
+    }
+    let x = push_number(w, m, k / 10);
+    push(w, x, b'0' + (k % 10) as u8)
+}
+
+// `~` or nothing
+fn push_turn(w: &mut [u8], m: usize, t: bool) -> usize
+    ensures { λ r. ⌜ record { bytes = now (w .exit); count = r } ≡ pushAll (now (w .entry)) m (tildeIf t) ⌝ }
+{
+    if t { push(w, m, b'~') } else { m }
+}
+
+// What waits after a part that came to number k inside j brackets; nothing is before it if a node was written out.
+fn wait(w: &mut [u8], m: usize, wrote: bool, j: u32, k: u32) -> usize
+    ensures { λ r. ⌜ record { bytes = now (w .exit); count = r } ≡ waitIn (now (w .entry)) m wrote j k ⌝ }
+{
+    if wrote {
+        return push_many(w, 0, b')', j);
+    }
+    let x = push_many(w, m, b'(', j);
+    let y = push_number(w, x, k);
+    push_many(w, y, b')', j)
+}
+
+fn push_space(w: &mut [u8], m: usize, space: bool) -> usize
+    ensures { λ r. ⌜ record { bytes = now (w .exit); count = r } ≡ pushAll (now (w .entry)) m (cond space (32 ∷ []) []) ⌝ }
+{
+    if space { push(w, m, b' ') } else { m }
+}
+
+// `:` and the number k, nothing for 0
+fn push_storing(w: &mut [u8], m: usize, k: u32) -> usize
+    ensures { λ r. ⌜ record { bytes = now (w .exit); count = r } ≡ pushAll (now (w .entry)) m (storing k) ⌝ }
+{
+    if k == 0 {
+        return m;
+    }
+    let x = push(w, m, b':');
+    push_number(w, x, k)
+}
+
+// The end of a two-child node, from its second child on.
+fn close(w: &mut [u8], m: usize, space: bool, wrote: bool, j: u32, k: u32, number: u32) -> usize
+    ensures { λ r. ⌜ record { bytes = now (w .exit); count = r } ≡ closeIn (now (w .entry)) m space wrote j k number ⌝ }
+{
+    let x = push_space(w, m, space);
+    let y = wait(w, x, wrote, j, k);
+    let z = push(w, y, b')');
+    push_storing(w, z, number)
+}
+
+// ---- The output
+
+fn least(a: usize, b: usize) -> usize
+    ensures { λ r. ⌜ r ≡ min a b ⌝ }
+{
+    if a < b { a } else { b }
+}
+
+fn less(a: usize, b: usize) -> usize
+    ensures { λ r. ⌜ r ≡ a - b ⌝ }
+{
+    if a < b { 0 } else { a - b }
+}
+
+// The bytes written; more was sent than the output holds
+struct Sent {
+    written: usize,
+    full: bool,
+}
+
+// The first m bytes of w go to the output, after `at` that are written.
+fn send(out: &mut [u8], w: &mut [u8], at: usize, m: usize) -> Sent
+    ensures { λ r. ⌜ record { written = r .written; full = r .full; output = now (out .exit); waits = now (w .exit) } ≡ sendText (now (out .entry)) (now (w .entry)) at m ⌝ }
+{
+    let c = least(m, w.len());
+    let room = less(out.len(), at);
+    let e = least(c, room);
+    let mut j = 0;
+    while j < e {
+        out[at + j] = w[j];
+        j += 1;
+    }
+    Sent {
+        written: at + e,
+        full: room < c,
+    }
+}
+
+// ---- The engine
+
+// What a part came to: the number (0: the constant, or a temporary node), its stamp, the levels skipped
+struct Half {
+    number: u32,
+    stamp: u32,
+    skipped: u32,
+    temporary: bool,
+    complement: bool,
+    wrote: bool,
+}
+
+// How far the writer is: the numbers given out, the ends of the queue, the bytes written; more was sent than the output holds
+struct Pen {
+    written: usize,
+    given: u32,
+    first: u32,
+    last: u32,
+    full: bool,
+}
+
+struct Walked {
+    half: Half,
+    pen: Pen,
+}
+
+fn constant(v: bool) -> Half
+    ensures { λ r. ⌜ r ≡ record { number = 0; stamp = 0; skipped = 0; temporary = false; complement = v; wrote = false } ⌝ }
+{
+    Half {
+        number: 0,
+        stamp: 0,
+        skipped: 0,
+        temporary: false,
+        complement: v,
+        wrote: false,
+    }
+}
+
+fn numbered(k: u32, g: u32, j: u32, v: bool, wrote: bool) -> Half
+    ensures { λ r. ⌜ r ≡ record { number = k; stamp = g; skipped = j; temporary = false; complement = v; wrote = wrote } ⌝ }
+{
+    Half {
+        number: k,
+        stamp: g,
+        skipped: j,
+        temporary: false,
+        complement: v,
+        wrote: wrote,
+    }
+}
+
+fn temporary(v: bool) -> Half
+    ensures { λ r. ⌜ r ≡ record { number = 0; stamp = 0; skipped = 0; temporary = true; complement = v; wrote = true } ⌝ }
+{
+    Half {
+        number: 0,
+        stamp: 0,
+        skipped: 0,
+        temporary: true,
+        complement: v,
+        wrote: true,
+    }
+}
+
+// Rule 1: both constant, no `~`.
+fn alike_constant(v: bool, a: Half, b: Half) -> bool
+    ensures { λ r. ⌜ r ≡ alikeConstant v (halfOf a) (halfOf b) ⌝ }
+{
+    if a.number != 0 {
+        return false;
+    }
+    if a.temporary {
+        return false;
+    }
+    if b.number != 0 {
+        return false;
+    }
+    if b.temporary {
+        return false;
+    }
+    !v
+}
+
+// Its number was given out again since.
+fn is_stale(t: &mut [[u32; 12]], a: Half) -> bool
+    ensures { λ r. ⌜ (r ≡ isStale (now (t .entry)) (halfOf a)) × (now (t .exit) ≡ now (t .entry)) ⌝ }
+{
+    if a.number == 0 {
+        return false;
+    }
+    get(t, 4, a.number) != a.stamp
+}
+
+// Rule 2: same number, no `~`, not given out again since either half got it.
+fn alike_number(t: &mut [[u32; 12]], v: bool, a: Half, b: Half) -> bool
+    ensures { λ r. ⌜ (r ≡ alikeNumber (now (t .entry)) v (halfOf a) (halfOf b)) × (now (t .exit) ≡ now (t .entry)) ⌝ }
+{
+    if a.number == 0 {
+        return false;
+    }
+    if a.number != b.number {
+        return false;
+    }
+    if v {
+        return false;
+    }
+    if is_stale(t, a) {
+        return false;
+    }
+    !is_stale(t, b)
+}
+
+// Rule 3, of one half: temporary, or its number given out again since.
+fn is_barred(t: &mut [[u32; 12]], a: Half) -> bool
+    ensures { λ r. ⌜ (r ≡ barredHalf (now (t .entry)) (halfOf a)) × (now (t .exit) ≡ now (t .entry)) ⌝ }
+{
+    let x = a.temporary;
+    if x {
+        return true;
+    }
+    is_stale(t, a)
+}
+
+// A space stands between the halves.
+fn is_spaced(v: bool, a: Half, b: Half) -> bool
+    ensures { λ r. ⌜ r ≡ spaced v (halfOf a) (halfOf b) ⌝ }
+{
+    if v {
+        return false;
+    }
+    if a.temporary {
+        return false;
+    }
+    if a.skipped != 0 {
+        return false;
+    }
+    if b.wrote {
+        return false;
+    }
+    b.skipped == 0
+}
+
+// The two-child node of a and b goes out with its number k, 0 for none; `at` bytes are written.
+fn send_node(
+    m: usize,
+    v: bool,
+    a: Half,
+    b: Half,
+    k: u32,
+    out: &mut [u8],
+    w: &mut [u8],
+    at: usize,
+) -> Sent
+    ensures { λ r. ⌜ record { written = r .written; full = r .full; output = now (out .exit); waits = now (w .exit) } ≡ sendNode m v (halfOf a) (halfOf b) k (now (out .entry)) (now (w .entry)) at ⌝ }
+{
+    let space = is_spaced(v, a, b);
+    let x = close(w, m, space, b.wrote, b.skipped, b.number, k);
+    send(out, w, at, x)
+}
+
+fn sent_as(h: Half, z: u32, e: Ends, x: Sent) -> Walked
+    ensures { λ r. ⌜ r ≡ record { half = h; pen = record { written = x .written; given = z; first = e .first; last = e .last; full = x .full } } ⌝ }
+{
+    Walked {
+        half: h,
+        pen: Pen {
+            written: x.written,
+            given: z,
+            first: e.first,
+            last: e.last,
+            full: x.full,
+        },
+    }
+}
+
+fn kept(h: Half, pen: Pen) -> Walked
+    ensures { λ r. ⌜ r ≡ record { half = h; pen = pen } ⌝ }
+{
+    Walked { half: h, pen: pen }
+}
+
+fn half_of(r: Walked) -> Half
+    ensures { λ x. ⌜ x ≡ r .half ⌝ }
+{
+    r.half
+}
+
+fn pen_of(r: Walked) -> Pen
+    ensures { λ x. ⌜ x ≡ r .pen ⌝ }
+{
+    r.pen
+}
+
+// A node without a number
+fn write_temporary(
+    m: usize,
+    v: bool,
+    a: Half,
+    b: Half,
+    t: &mut [[u32; 12]],
+    out: &mut [u8],
+    w: &mut [u8],
+    pen: Pen,
+) -> Walked
+    ensures { λ r. ⌜ walkedOf r (now (t .exit)) (now (out .exit)) (now (w .exit)) ≡ writeTemporary m v (halfOf a) (halfOf b) (now (t .entry)) (now (out .entry)) (now (w .entry)) (penOf pen) ⌝ }
+{
+    let c = a.complement;
+    let x = send_node(m, v, a, b, 0, out, w, pen.written);
+    let e = Ends {
+        first: pen.first,
+        last: pen.last,
+    };
+    sent_as(temporary(c), pen.given, e, x)
+}
+
+// Rule 5: the node gets the number k, or none if that is 0.
+fn give(
+    k: u32,
+    i: u32,
+    m: usize,
+    v: bool,
+    a: Half,
+    b: Half,
+    t: &mut [[u32; 12]],
+    out: &mut [u8],
+    w: &mut [u8],
+    pen: Pen,
+) -> Walked
+    ensures { λ r. ⌜ walkedOf r (now (t .exit)) (now (out .exit)) (now (w .exit)) ≡ giveIn k i m v (halfOf a) (halfOf b) (now (t .entry)) (now (out .entry)) (now (w .entry)) (penOf pen) ⌝ }
+{
+    if k == 0 {
+        return write_temporary(m, v, a, b, t, out, w, pen);
+    }
+    let z = pen.given;
+    let q = Ends {
+        first: pen.first,
+        last: pen.last,
+    };
+    let e = store(t, z, q, k, i, a.number, b.number, either(v, 1, 0));
+    let g = get(t, 4, k);
+    let h = numbered(k, g, 0, a.complement, true);
+    let x = send_node(m, v, a, b, k, out, w, pen.written);
+    sent_as(h, either(z < k, k, z), e, x)
+}
+
+// Rule 4: the number k, in place of the text; 0: there is none.
+fn known(
+    k: u32,
+    size: u32,
+    i: u32,
+    m: usize,
+    v: bool,
+    a: Half,
+    b: Half,
+    t: &mut [[u32; 12]],
+    out: &mut [u8],
+    w: &mut [u8],
+    pen: Pen,
+) -> Walked
+    ensures { λ r. ⌜ walkedOf r (now (t .exit)) (now (out .exit)) (now (w .exit)) ≡ knownIn k size i m v (halfOf a) (halfOf b) (now (t .entry)) (now (out .entry)) (now (w .entry)) (penOf pen) ⌝ }
+{
+    if k == 0 {
+        let x = next_number(t, pen.given, pen.first, size, a.number, b.number);
+        return give(x, i, m, v, a, b, t, out, w, pen);
+    }
+    let g = get(t, 4, k);
+    kept(numbered(k, g, 0, a.complement, false), pen)
+}
+
+// Two halves meet at level i; v: the `~` between them, m: how much waits.
+fn meet(
+    size: u32,
+    i: u32,
+    m: usize,
+    v: bool,
+    a: Half,
+    b: Half,
+    t: &mut [[u32; 12]],
+    out: &mut [u8],
+    w: &mut [u8],
+    pen: Pen,
+) -> Walked
+    ensures { λ r. ⌜ walkedOf r (now (t .exit)) (now (out .exit)) (now (w .exit)) ≡ meetIn size i m v (halfOf a) (halfOf b) (now (t .entry)) (now (out .entry)) (now (w .entry)) (penOf pen) ⌝ }
+{
+    if alike_constant(v, a, b) {
+        return kept(constant(a.complement), pen);
+    }
+    if alike_number(t, v, a, b) {
+        return kept(
+            numbered(
+                a.number,
+                a.stamp,
+                one_more(a.skipped),
+                a.complement,
+                a.wrote,
+            ),
+            pen,
+        );
+    }
+    if is_barred(t, a) {
+        return write_temporary(m, v, a, b, t, out, w, pen);
+    }
+    if is_barred(t, b) {
+        return write_temporary(m, v, a, b, t, out, w, pen);
+    }
+    let k = find(t, pen.given, i, a.number, b.number, either(v, 1, 0));
+    known(k, size, i, m, v, a, b, t, out, w, pen)
+}
+
+// ---- The walk over a truth table
+
+fn truth(v: &[u8], at: usize) -> bool
+    ensures { λ r. ⌜ r ≡ truthAt (now (v .entry)) at ⌝ }
+{
+    let p = at / 8;
+    if v.len() <= p {
+        return false;
+    }
+    (v[p] >> (at % 8)) % 2 == 1
+}
+
+// All of the c bytes from p on are b.
+fn same_bytes(v: &[u8], b: u8, p: usize, c: usize) -> bool
+    requires { ⌜ (p ≤ 65536) × (c ≤ 65536) ⌝ }
+    ensures { λ r. ⌜ r ≡ sameBytes (now (v .entry)) b p c ⌝ }
+{
+    let mut j = 0;
+    while j < c {
+        let q = p + j;
+        let x = if q < v.len() { v[q] } else { 0 };
+        if x != b {
+            return false;
+        }
+        j += 1;
+    }
+    true
+}
+
+// The 2^d words from `at` on are those of bytes b alone.
+fn all_bytes(v: &[u8], b: u8, d: u32, at: usize) -> bool
+    requires { ⌜ (d ≤ 16) × (at ≤ 65536) ⌝ }
+    ensures { λ r. ⌜ r ≡ allBytes (now (v .entry)) b d at ⌝ }
+{
+    if d < 3 {
+        return false;
+    }
+    same_bytes(v, b, at / 8, (1usize << d) / 8)
+}
+
+fn differs(a: bool, b: bool) -> bool
+    ensures { λ r. ⌜ r ≡ differ a b ⌝ }
+{
+    if a { !b } else { b }
+}
+
+// After the second half: the halves meet, unless more was sent than the output holds.
+fn second(
+    size: u32,
+    i: u32,
+    m: usize,
+    v: bool,
+    a: Half,
+    b: Walked,
+    t: &mut [[u32; 12]],
+    out: &mut [u8],
+    w: &mut [u8],
+) -> Walked
+    ensures { λ r. ⌜ walkedOf r (now (t .exit)) (now (out .exit)) (now (w .exit)) ≡ secondIn size i m v (halfOf a) (walkedOf b (now (t .entry)) (now (out .entry)) (now (w .entry))) ⌝ }
+{
+    let pen = b.pen;
+    let full = pen.full;
+    if full {
+        return b;
+    }
+    let h = b.half;
+    meet(size, i, m, v, a, h, t, out, w, pen)
+}
+
+// The part of level i of the 2^d words from `at` on, m bytes waiting before it.
+fn walk(
+    v: &[u8],
+    size: u32,
+    d: u32,
+    i: u32,
+    at: usize,
+    m: usize,
+    t: &mut [[u32; 12]],
+    out: &mut [u8],
+    w: &mut [u8],
+    pen: Pen,
+) -> Walked
+    requires { ⌜ (d ≤ 16) × ((i + d ≤ 64) × (at + 2 ^ d ≤ 65536)) ⌝ }
+    ensures { λ r. ⌜ walkedOf r (now (t .exit)) (now (out .exit)) (now (w .exit)) ≡ walkIn (now (v .entry)) size d i at m (now (t .entry)) (now (out .entry)) (now (w .entry)) (penOf pen) ⌝ }
+{
+    if d == 0 {
+        return kept(constant(truth(v, at)), pen);
+    }
+    if all_bytes(v, 0, d, at) {
+        return kept(constant(false), pen);
+    }
+    if all_bytes(v, 255, d, at) {
+        return kept(constant(true), pen);
+    }
+    let e = d - 1;
+    let j = i + 1;
+    let mid = at + (1usize << e);
+    let p = push(w, m, b'(');
+    let a = walk(v, size, e, j, at, p, t, out, w, pen);
+    let x = pen_of(a);
+    if x.full {
+        return a;
+    }
+    let h = half_of(a);
+    let turned = differs(h.complement, truth(v, mid));
+    let q = wait(w, p, h.wrote, h.skipped, h.number);
+    let r = push_turn(w, q, turned);
+    let b = walk(v, size, e, j, mid, r, t, out, w, x);
+    second(size, i, r, turned, h, b, t, out, w)
+}
+
+// ---- The whole stream
+
+fn pen_after(x: Sent) -> Pen
+    ensures { λ r. ⌜ r ≡ record { written = x .written; given = 0; first = 0; last = 0; full = x .full } ⌝ }
+{
+    Pen {
+        written: x.written,
+        given: 0,
+        first: 0,
+        last: 0,
+        full: x.full,
+    }
+}
+
+// After the walk: what waits, and the point, unless more was sent than the output holds. m: how much waited before it
+fn done(m: usize, r: Walked, out: &mut [u8], w: &mut [u8]) -> Sent
+    ensures { λ x. ⌜ record { written = x .written; full = x .full; output = now (out .exit); waits = now (w .exit) } ≡ doneIn m (walkedOf r [] (now (out .entry)) (now (w .entry))) ⌝ }
+{
+    let pen = r.pen;
+    let full = pen.full;
+    if full {
+        return Sent {
+            written: pen.written,
+            full: full,
+        };
+    }
+    let h = r.half;
+    let q = wait(w, m, h.wrote, h.skipped, h.number);
+    let e = push(w, q, b'.');
+    send(out, w, pen.written, e)
+}
+
+// After the size and its LF: the leading `~` and the outermost node, unless more was sent than the output holds.
+fn body(
+    n: u32,
+    size: u32,
+    v: &[u8],
+    t: &mut [[u32; 12]],
+    out: &mut [u8],
+    w: &mut [u8],
+    x: Sent,
+) -> Sent
+    requires { ⌜ n ≤ 16 ⌝ }
+    ensures { λ r. ⌜ record { written = r .written; full = r .full; output = now (out .exit); waits = now (w .exit) } ≡ bodyIn n size (now (v .entry)) (now (t .entry)) (record { written = x .written; full = x .full; output = now (out .entry); waits = now (w .entry) }) ⌝ }
+{
+    let full = x.full;
+    if full {
+        return x;
+    }
+    let m = push_turn(w, 0, truth(v, 0));
+    let r = walk(v, size, n, 1, 0, m, t, out, w, pen_after(x));
+    done(m, r, out, w)
+}
+
+fn stream(n: u32, size: u32, v: &[u8], t: &mut [[u32; 12]], out: &mut [u8], w: &mut [u8]) -> Sent
+    requires { ⌜ n ≤ 16 ⌝ }
+    ensures { λ r. ⌜ record { written = r .written; full = r .full; output = now (out .exit); waits = now (w .exit) } ≡ streamIn n size (now (v .entry)) (now (t .entry)) (now (out .entry)) (now (w .entry)) ⌝ }
+{
+    let a = push_number(w, 0, size);
+    let b = push(w, a, b'\n');
+    let x = send(out, w, 0, b);
+    body(n, size, v, t, out, w, x)
+}
+
+// ---- The call
+
+// How a run ends
+pub enum Ending {
+    Whole,
+    InputEnded,
+    OutputFull,
+}
+
+// The answer: bytes written, covered count, ending
+pub struct Written {
+    pub bytes: usize,
+    pub covered: u64,
+    pub ending: Ending,
+}
+
+pub enum Writing {
+    Refused(Refusal),
+    Done(Written),
+}
+
+// Tested before anything is written.
+fn early(c: Cause) -> Refusal
+    ensures { λ r. ⌜ refusalOf r ≡ refusal (causeOf c) 0 0 ⌝ }
+{
+    Refusal {
+        cause: c,
+        stream: 0,
+        byte: 0,
+    }
+}
+
+fn ending_of(full: bool) -> Ending
+    ensures { λ r. ⌜ endingsOf r ≡ cond full outputFull whole ⌝ }
+{
+    if full {
+        Ending::OutputFull
+    } else {
+        Ending::Whole
+    }
+}
+
+fn answer(n: u32, x: Sent) -> Written
+    requires { ⌜ n ≤ 16 ⌝ }
+    ensures { λ r. ⌜ writtenOf r ≡ record { written = x .written; covered = 2 ^ n; ending = cond (x .full) outputFull whole } ⌝ }
+{
+    Written {
+        bytes: x.written,
+        covered: 1u64 << n,
+        ending: ending_of(x.full),
+    }
+}
+
+// WRITING the stream of a truth table: causes 1, 3, 4 and 6.
+pub fn write(n: u32, size: u32, v: &[u8], out: &mut [u8], t: &mut [[u32; 12]]) -> Writing
+    ensures { λ r. ⌜ record { answer = writingOf r; table = now (t .exit); output = now (out .exit) } ≡ write (replicate 12 0) n size (now (v .entry)) (now (out .entry)) (now (t .entry)) ⌝ }
+{
+    if n < 3 {
+        return Writing::Refused(early(Cause::OptionCount));
+    }
+    if 16 < n {
+        return Writing::Refused(early(Cause::OptionCount));
+    }
+    if 1024 < size {
+        return Writing::Refused(early(Cause::SizeToWrite));
+    }
+    if t.len() < 1024 {
+        return Writing::Refused(early(Cause::WorkTable));
+    }
+    if v.len() != (1usize << n) / 8 {
+        return Writing::Refused(early(Cause::TruthTable));
+    }
+    clear(t);
+    let mut w = [0u8; 2400];
+    let x = stream(n, size, v, t, out, &mut w);
+    clear(t);
+    Writing::Done(answer(n, x))
+}

@@ -1,0 +1,2 @@
+# crates/writer/src/lib.rt
+/^fn alike_number/,/^}/s/^    if is_stale(t, a) {/    if is_stale(t, b) {/

@@ -1,0 +1,2 @@
+# crates/writer/src/lib.rt
+/^fn orphans/,/^}/s/^    if x == y {/    if x == 0 {/

@@ -1,0 +1,2 @@
+# crates/writer/src/lib.rt
+s/^        full: room < c,/        full: room <= c,/

@@ -1,0 +1,2 @@
+# crates/writer/src/lib.rt
+/^fn is_stale/,/^}/s/!= a\.stamp$/< a.stamp/
