@@ -1,18 +1,18 @@
 -- The writer's engine as code has it: what it knows of a part, how two halves meet by rules 1 to 5, and the walk over a truth table.
--- Definitions only; EngineLaws ties them to the walk of Online. Assumes nothing.
+-- Definitions only; Walking ties them to the walk of Online. Assumes nothing.
 use mathlib.Core.Bool.{Bool, true, false, not, cond, _&&_, _||_}
-use mathlib.Core.List.{List, [], _∷_, _++_}
+use mathlib.Core.List.{List, [], _∷_}
 use Prim.Native.Nat.{ℕ, zero, suc, _+_, _-_, _/_, _^_}
 use lib.Dec.{eqb, ltb}
 use lib.ListN.{length, getD, take}
 use Rattle.lists.specs.Lists.{differ}
 use Rattle.reading.specs.Bytes.{opener, dot}
-use Rattle.writing.specs.Texts.{decimal, tildeIf}
+use Rattle.writing.specs.Texts.{tildeIf}
 use Rattle.writing.specs.Run.{head}
 use Rattle.writing.specs.Calls.{truthAt}
 use Rattle.engine.specs.Cells.{cell}
 use Rattle.engine.specs.Recycling.{Lane, oneMore, findIn, storeIn, nextIn}
-use Rattle.engine.specs.Pending.{Waiting, pushAll, waitIn, closeIn, sentTo, writtenTo}
+use Rattle.engine.specs.Pending.{pushAll, waitIn, closeIn, sentTo, writtenTo}
 
 -- ---- What is known ---------------------------------------------------------------------------
 
@@ -168,12 +168,27 @@ sameBytes v b p (suc c) = eqb (getD v p 0) b && sameBytes v b (p + 1) c
 abbrev pub allBytes : List ℕ → ℕ → ℕ → ℕ → Bool
 allBytes v b m at = not (ltb m 3) && sameBytes v b (at / 8) (2 ^ m / 8)
 
+-- the c bytes from q on are those from p on, or those turned about if u
+unfoldable pub alikeBytes : List ℕ → Bool → ℕ → ℕ → ℕ → Bool
+alikeBytes v u p q zero = true
+alikeBytes v u p q (suc c) =
+    cond u (eqb (getD v q 0 + getD v p 0) 255) (eqb (getD v q 0) (getD v p 0)) && alikeBytes v u (p + 1) (q + 1) c
+
+-- so are the 2 ^ d words from `mid` on, which follow the 2 ^ d words from `at` on: told from whole bytes
+abbrev pub repeats : List ℕ → Bool → ℕ → ℕ → ℕ → Bool
+repeats v u d at mid = not (ltb d 3) && alikeBytes v u (at / 8) (mid / 8) (2 ^ d / 8)
+
+-- the first half (h) came to a number, and the second repeats it
+abbrev pub againHalf : List ℕ → Bool → ℕ → ℕ → ℕ → Half → Bool
+againHalf v u d at mid h = not (eqb (h .number) 0) && repeats v u d at mid
+
 -- after the second half (b): the halves meet, unless more was sent than the output holds
 abbrev pub secondIn : ℕ → ℕ → ℕ → Bool → Half → Walked → Walked
 secondIn size i m v a b =
     cond (b .pen .full) b (meetIn size i m v a (b .half) (b .table) (b .output) (b .waits) (b .pen))
 
--- The part of level i whose words are at .. at + 2 ^ d - 1, after m bytes that wait
+-- The part of level i whose words are at .. at + 2 ^ d - 1, after m bytes that wait. A second half that repeats a first half which
+-- came to a number is that number again
 unfoldable pub walkIn : List ℕ → ℕ → ℕ → ℕ → ℕ → ℕ → List (List ℕ) → List ℕ → List ℕ → Pen → Walked
 walkIn v size zero i at m t out w pen = kept (constantHalf (truthAt v at)) t out w pen
 walkIn v size (suc d) i at m t out w pen =
@@ -182,7 +197,10 @@ walkIn v size (suc d) i at m t out w pen =
     let turned = differ (a .half .complement) (truthAt v (at + 2 ^ d)) in
     let q = waitIn (a .waits) (p .count) (a .half .wrote) (a .half .skipped) (a .half .number) in
     let r = pushAll (q .bytes) (q .count) (tildeIf turned) in
-    let b = walkIn v size d (i + 1) (at + 2 ^ d) (r .count) (a .table) (a .output) (r .bytes) (a .pen) in
+    let b = cond (againHalf v turned d at (at + 2 ^ d) (a .half))
+    (kept (numberHalf (a .half .number) (a .half .stamp) (a .half .skipped) (truthAt v (at + 2 ^ d)) false) (a .table) (a .output)
+    (r .bytes) (a .pen))
+    (walkIn v size d (i + 1) (at + 2 ^ d) (r .count) (a .table) (a .output) (r .bytes) (a .pen)) in
     cond (allBytes v 0 (suc d) at) (kept (constantHalf false) t out w pen)
     (cond (allBytes v 255 (suc d) at) (kept (constantHalf true) t out w pen)
     (cond (a .pen .full) a (secondIn size i (r .count) turned (a .half) b)))

@@ -1,10 +1,9 @@
 -- One law for each way through the functions of the engine: what they answer there is what Engine says. Assumes nothing.
 use mathlib.Core.Path.{_≡_, refl, sym, ap, ap₂, _∙_}
 use mathlib.Core.Logic.{_≢_}
-use mathlib.Core.Bool.{Bool, true, false, not, cond, _&&_, _||_}
+use mathlib.Core.Bool.{Bool, true, false, not, cond, _&&_}
 use mathlib.Core.List.{List, [], _∷_}
-use Prim.Native.Nat.{ℕ, zero, suc, _+_, _-_, _^_}
-use native.Mathlib.Omega.{arith}
+use Prim.Native.Nat.{ℕ, suc, _+_, _^_}
 use lib.Dec.{eqb, ltb}
 use borrow.Author.Tests.{eq-eqb, ne-eqb}
 use Rattle.lists.specs.Lists.{differ}
@@ -15,7 +14,7 @@ use Rattle.writing.specs.Calls.{truthAt}
 use Rattle.engine.specs.Cells.{cell}
 use Rattle.engine.specs.Recycling.{Lane, oneMore, findIn, storeIn, nextIn}
 use Rattle.engine.specs.Pending.{Waiting, pushAll, waitIn}
-use Rattle.engine.specs.Engine.{Half, Pen, Walked, Sent, constantHalf, numberHalf, isStale, alikeConstant, alikeNumber, barredHalf, sendText, sendNode, sentAs, writeNode, writeTemporary, kept, giveIn, knownIn, meetIn, allBytes, secondIn, walkIn, penAfter, endIn, doneIn, bodyIn, streamIn}
+use Rattle.engine.specs.Engine.{Half, Pen, Walked, Sent, constantHalf, numberHalf, isStale, alikeConstant, alikeNumber, barredHalf, sendText, sendNode, sentAs, writeNode, writeTemporary, kept, giveIn, knownIn, meetIn, allBytes, againHalf, secondIn, walkIn, penAfter, endIn, doneIn, bodyIn, streamIn}
 
 -- ---- What the rules ask ----------------------------------------------------------------------
 
@@ -140,9 +139,18 @@ module _ (v : List ℕ) (size d i at m : ℕ) (t : List (List ℕ)) (out w : Lis
   abbrev first : Waiting → Walked
   first p = walkIn v size d (i + 1) at (p .count) t out (p .bytes) pen
 
-  -- the second half after the first, a, and the bytes r
-  abbrev second : Walked → Waiting → Walked
-  second a r = walkIn v size d (i + 1) (at + 2 ^ d) (r .count) (a .table) (a .output) (r .bytes) (a .pen)
+  -- the second half after the first, a, and the bytes r, if it is walked. x: the pen after the first, k: the words of a half
+  abbrev walked₂ : Walked → Pen → ℕ → Waiting → Walked
+  walked₂ a x k r = walkIn v size d (i + 1) (at + k) (r .count) (a .table) (a .output) (r .bytes) x
+
+  -- if it repeats the first, which came to g
+  abbrev repeated : Walked → Half → Pen → ℕ → Waiting → Walked
+  repeated a g x k r =
+      kept (numberHalf (g .number) (g .stamp) (g .skipped) (truthAt v (at + k)) false) (a .table) (a .output) (r .bytes) x
+
+  -- by either way; u: the `~` between the halves
+  abbrev second : Walked → Half → Pen → ℕ → Bool → Waiting → Walked
+  second a g x k u r = cond (againHalf v u d at (at + k) g) (repeated a g x k r) (walked₂ a x k r)
 
   abbrev turnOf : Walked → Bool
   turnOf a = differ (a .half .complement) (truthAt v (at + 2 ^ d))
@@ -153,7 +161,7 @@ module _ (v : List ℕ) (size d i at m : ℕ) (t : List (List ℕ)) (out w : Lis
 
   -- both, with the `~` u and the bytes r between them
   abbrev both : Walked → Bool → Waiting → Walked
-  both a u r = secondIn size i (r .count) u (a .half) (second a r)
+  both a u r = secondIn size i (r .count) u (a .half) (second a (a .half) (a .pen) (2 ^ d) u r)
 
   abbrev afterFirst : Waiting → Walked → Walked
   afterFirst p a =
@@ -196,33 +204,45 @@ module _ (v : List ℕ) (size d i at m : ℕ) (t : List (List ℕ)) (out w : Lis
         ap (λ (b : Bool). cond b a (both a (turnOf a) (pushAll (q .bytes) (q .count) (tildeIf (turnOf a)))))
         (sym (sym (ap (λ (x : Pen). x .full) o) ∙ f)) ∙ onward
 
-    -- both halves; g: what the first came to, x: the pen after it, k: the words of a half
-    pub walk-on : (g : Half) (x : Pen) (k : ℕ) (u : Bool) (q r : Waiting) (b : Walked) → g ≡ a .half → x ≡ a .pen → k ≡ 2 ^ d
-        → x .full ≡ false → u ≡ differ (g .complement) (truthAt v (at + k))
-        → q ≡ waitIn (a .waits) (p .count) (g .wrote) (g .skipped) (g .number) → r ≡ pushAll (q .bytes) (q .count) (tildeIf u)
-        → b ≡ walkIn v size d (i + 1) (at + k) (r .count) (a .table) (a .output) (r .bytes) x
-        → secondIn size i (r .count) u g b ≡ whole e
-    walk-on g x k u q r b c o z f y l n s =
-        ap (secondIn size i (r .count) u g) s
-        ∙ ap (λ (x : Pen). met g x k u r) o
-        ∙ ap (λ (k : ℕ). met g (a .pen) k u r) z
-        ∙ ap (met g (a .pen) (2 ^ d) u) n
-        ∙ ap₂ (λ (u : Bool) (q : Waiting). met g (a .pen) (2 ^ d) u (pushAll (q .bytes) (q .count) (tildeIf u)))
-        (y ∙ ap (λ (k : ℕ). differ (g .complement) (truthAt v (at + k))) z) l
-        ∙ ap started c
-        ∙ ap (λ (b : Bool). cond b a (both a (turnOf a) (pushAll (waitOf p a .bytes) (waitOf p a .count) (tildeIf (turnOf a)))))
-        (sym (sym (ap (λ (x : Pen). x .full) o) ∙ f))
-        ∙ onward
-      where
-        met : Half → Pen → ℕ → Bool → Waiting → Walked
-        met g x k u r =
-            secondIn size i (r .count) u g (walkIn v size d (i + 1) (at + k) (r .count) (a .table) (a .output) (r .bytes) x)
+    -- g: what the first half came to, x: the pen after it, k: the words of a half, u: the `~` between the halves
+    module _ (g : Half) (x : Pen) (k : ℕ) (u : Bool) (q r : Waiting) (b : Walked) (came : g ≡ a .half) (left : x ≡ a .pen)
+        (words : k ≡ 2 ^ d) (goes : x .full ≡ false) (turned : u ≡ differ (g .complement) (truthAt v (at + k)))
+        (waited : q ≡ waitIn (a .waits) (p .count) (g .wrote) (g .skipped) (g .number))
+        (ready : r ≡ pushAll (q .bytes) (q .count) (tildeIf u)) where
+      abbrev met : Half → Pen → ℕ → Bool → Waiting → Walked
+      met g x k u r = secondIn size i (r .count) u g (second a g x k u r)
 
-        started : Half → Walked
-        started g =
-            let u = differ (g .complement) (truthAt v (at + 2 ^ d)) in
-            let q = waitIn (a .waits) (p .count) (g .wrote) (g .skipped) (g .number) in
-            met g (a .pen) (2 ^ d) u (pushAll (q .bytes) (q .count) (tildeIf u))
+      abbrev started : Half → Walked
+      started g =
+          let u = differ (g .complement) (truthAt v (at + 2 ^ d)) in
+          let q = waitIn (a .waits) (p .count) (g .wrote) (g .skipped) (g .number) in
+          met g (a .pen) (2 ^ d) u (pushAll (q .bytes) (q .count) (tildeIf u))
+
+      -- both halves
+      walk-both : b ≡ second a g x k u r → secondIn size i (r .count) u g b ≡ whole e
+      walk-both s =
+          ap (secondIn size i (r .count) u g) s
+          ∙ ap (λ (x : Pen). met g x k u r) left
+          ∙ ap (λ (k : ℕ). met g (a .pen) k u r) words
+          ∙ ap (met g (a .pen) (2 ^ d) u) ready
+          ∙ ap₂ (λ (u : Bool) (q : Waiting). met g (a .pen) (2 ^ d) u (pushAll (q .bytes) (q .count) (tildeIf u)))
+          (turned ∙ ap (λ (k : ℕ). differ (g .complement) (truthAt v (at + k))) words) waited
+          ∙ ap started came
+          ∙ ap (λ (b : Bool). cond b a (both a (turnOf a) (pushAll (waitOf p a .bytes) (waitOf p a .count) (tildeIf (turnOf a)))))
+          (sym (sym (ap (λ (x : Pen). x .full) left) ∙ goes))
+          ∙ onward
+
+      -- the second half is walked
+      pub walk-on : againHalf v u d at (at + k) g ≡ false
+          → b ≡ walkIn v size d (i + 1) (at + k) (r .count) (a .table) (a .output) (r .bytes) x
+          → secondIn size i (r .count) u g b ≡ whole e
+      walk-on f s = walk-both (s ∙ ap (λ (t : Bool). cond t (repeated a g x k r) (walked₂ a x k r)) (sym f))
+
+      -- the second half repeats the first, which came to a number
+      pub walk-repeat : againHalf v u d at (at + k) g ≡ true
+          → b ≡ kept (numberHalf (g .number) (g .stamp) (g .skipped) (truthAt v (at + k)) false) (a .table) (a .output) (r .bytes) x
+          → secondIn size i (r .count) u g b ≡ whole e
+      walk-repeat f s = walk-both (s ∙ ap (λ (t : Bool). cond t (repeated a g x k r) (walked₂ a x k r)) (sym f))
 
 -- ---- The whole stream ------------------------------------------------------------------------
 

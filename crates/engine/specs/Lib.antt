@@ -22,6 +22,7 @@ pub mod Blocks
 pub mod EngineMade
 pub mod Leading
 pub mod Meeting
+pub mod Again
 pub mod Walking
 pub mod Streaming
 -- The call

@@ -1,10 +1,10 @@
 -- The text that waits, as code holds it: bytes in a lent row, and how many of them count. It goes out to the output, clipped at its end.
--- Definitions only; PendingLaws ties them to what the walk of Online sends. Assumes nothing.
-use mathlib.Core.Bool.{Bool, true, false, not, cond, _&&_}
+-- Definitions only; PendingLaws and Meeting tie them to what the walk of Online sends. Assumes nothing.
+use mathlib.Core.Bool.{Bool, cond}
 use mathlib.Core.List.{List, [], _∷_, _++_}
-use Prim.Native.Nat.{ℕ, zero, suc, _+_, _-_, min}
-use lib.Dec.{eqb, ltb}
-use lib.ListN.{length, set, take, replicate}
+use Prim.Native.Nat.{ℕ, _+_, _-_, min}
+use lib.Dec.{ltb}
+use lib.ListN.{length, set, replicate}
 use Rattle.reading.specs.Bytes.{opener, closer, blank}
 use Rattle.writing.specs.Texts.{decimal, storing}
 

@@ -17,7 +17,7 @@ use Rattle.writing.specs.Texts.{decimal, storing}
 use Rattle.writing.specs.Calls.{truthAt}
 use Rattle.engine.specs.Pending.{Waiting, waiting, pushAll, waitIn, closeIn, sentTo}
 use Rattle.engine.specs.PendingLaws.{push-append, decimal-small, decimal-more, sent-set, sent-take}
-use Rattle.engine.specs.Engine.{Half, Sent, spaced, sendText, sendNode, sameBytes}
+use Rattle.engine.specs.Engine.{Half, Sent, spaced, sendText, sendNode, sameBytes, alikeBytes}
 
 -- ---- What waits ------------------------------------------------------------------------------
 
@@ -201,3 +201,47 @@ same-stop v b p c j i h d = sym (i ∙ same-other v b (p + j) (c - j) (omega (ar
 pub same-end : (v : List ℕ) (b p c j : ℕ) → SameFrom v b p c j → c ≤ j → true ≡ sameBytes v b p c
 unfolding sameBytes
 same-end v b p c j i h = let z : c - j ≡ 0 = omega (arith, h) in sym (i ∙ ap (sameBytes v b (p + j)) z)
+
+-- the byte at q is the one at p, or that turned about if u
+abbrev pub alikeByte : List ℕ → Bool → ℕ → ℕ → Bool
+alikeByte v u p q = cond u (eqb (getD v q 0 + getD v p 0) 255) (eqb (getD v q 0) (getD v p 0))
+
+-- bytes from place q on and those from place p on, n of each: the first two are not alike, or they are
+alike-other : (v : List ℕ) (u : Bool) (p q n : ℕ) → 0 < n → alikeByte v u p q ≡ false → alikeBytes v u p q n ≡ false
+unfolding alikeBytes
+alike-other v u p q zero h e = absurd (omega arith)
+alike-other v u p q (suc n) h e = ap (λ (t : Bool). t && alikeBytes v u (p + 1) (q + 1) n) e
+
+alike-more : (v : List ℕ) (u : Bool) (p q n : ℕ) → 0 < n → alikeByte v u p q ≡ true
+    → alikeBytes v u p q n ≡ alikeBytes v u (p + 1) (q + 1) (n - 1)
+unfolding alikeBytes
+alike-more v u p q zero h e = absurd (omega arith)
+alike-more v u p q (suc n) h e =
+    let s : n ≡ suc n - 1 = omega arith in
+    ap (λ (t : Bool). t && alikeBytes v u (p + 1) (q + 1) n) e ∙ ap (alikeBytes v u (p + 1) (q + 1)) s
+
+-- of c bytes from q on and c from p on the first j were alike: the others tell
+abbrev pub AlikeFrom : List ℕ → Bool → ℕ → ℕ → ℕ → ℕ → Type 0
+AlikeFrom v u p q c j = alikeBytes v u p q c ≡ alikeBytes v u (p + j) (q + j) (c - j)
+
+-- equal places and counts, the same answer
+alike-places : (v : List ℕ) (u : Bool) {p p′ q q′ c c′ : ℕ} → p ≡ p′ → q ≡ q′ → c ≡ c′
+    → alikeBytes v u p q c ≡ alikeBytes v u p′ q′ c′
+alike-places v u x y z = cc
+
+pub alike-start : (v : List ℕ) (u : Bool) (p q c : ℕ) → AlikeFrom v u p q c 0
+alike-start v u p q c = alike-places v u (omega arith) (omega arith) (omega arith)
+
+pub alike-step : (v : List ℕ) (u : Bool) (p q c j : ℕ) → AlikeFrom v u p q c j → j < c → alikeByte v u (p + j) (q + j) ≡ true
+    → AlikeFrom v u p q c (j + 1)
+alike-step v u p q c j i h e =
+    i ∙ alike-more v u (p + j) (q + j) (c - j) (omega (arith, h)) e
+    ∙ alike-places v u (omega arith) (omega arith) (omega arith)
+
+pub alike-stop : (v : List ℕ) (u : Bool) (p q c j : ℕ) → AlikeFrom v u p q c j → j < c → alikeByte v u (p + j) (q + j) ≡ false
+    → false ≡ alikeBytes v u p q c
+alike-stop v u p q c j i h e = sym (i ∙ alike-other v u (p + j) (q + j) (c - j) (omega (arith, h)) e)
+
+pub alike-end : (v : List ℕ) (u : Bool) (p q c j : ℕ) → AlikeFrom v u p q c j → c ≤ j → true ≡ alikeBytes v u p q c
+unfolding alikeBytes
+alike-end v u p q c j i h = let z : c - j ≡ 0 = omega (arith, h) in sym (i ∙ ap (alikeBytes v u (p + j) (q + j)) z)

@@ -1,10 +1,10 @@
 -- The unique table and its recycling queue as code has them, in the cells of lent records: numbers linked both ways in the queue and in
 -- buckets, looking a node up, the number for a new node, storing it. Definitions only; Buckets, Finding and Placing tie them to UniqueTable.
 -- Assumes nothing.
-use mathlib.Core.Bool.{Bool, true, false, not, cond, _&&_, _||_}
+use mathlib.Core.Bool.{Bool, not, cond, _&&_, _||_}
 use mathlib.Core.List.{List}
 use Prim.Native.Nat.{ℕ, zero, suc, _+_, _*_, _-_, _%_}
-use lib.Dec.{eqb, ltb, leb}
+use lib.Dec.{eqb, ltb}
 use Rattle.reading.specs.Limits.{tableLimit}
 use Rattle.writing.specs.Links.{stops}
 use Rattle.engine.specs.Cells.{cell, putCell}

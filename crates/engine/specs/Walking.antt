@@ -1,15 +1,16 @@
--- The engine's walk leads, part by part, to what the walk of Online knows: two halves that lead there make a part that does.
--- Assumes nothing.
+-- The engine's walk leads, part by part, to what the walk of Online knows: two halves that lead there make a part that does, whether
+-- the second is walked or repeats the first. Assumes nothing.
 use mathlib.Core.Path.{_≡_, refl, sym, ap, ap₂, _∙_, subst, subst⁻¹}
 use mathlib.Core.Bool.{Bool, true, false, not, cond, true≢false, false≢true}
 use mathlib.Core.List.{List, [], _∷_, _++_, append-assoc, append-nil}
 use Prim.Native.Nat.{ℕ, zero, suc, _+_, _*_, _≤_, _<_, _^_}
 use native.Mathlib.Nat.{mul-assoc, mul-comm, add-mul, one-mul, pow-suc}
 use native.Mathlib.Omega.{arith}
+use lib.Dec.{eqb}
 use lib.ListN.{length, take, drop, length-append, take-append-drop}
 use lib.Seq.{length-take-le, take-append-seam}
-use borrow.Author.Tests.{ltb-true, lt-ltb, le-ltb}
-use Rattle.lists.specs.Lists.{differ}
+use borrow.Author.Tests.{eqb-false, not-true, ltb-true, lt-ltb}
+use Rattle.lists.specs.Lists.{differ, and-l, and-r}
 use Rattle.lists.specs.Prefixes.{Begins, begins-refl, begins-trans, begins-left, begins-append}
 use Rattle.reading.specs.Bytes.{opener, closer}
 use Rattle.reading.specs.Nodes.{Ref, terminal, entry, temporary, stamp}
@@ -28,10 +29,11 @@ use Rattle.writing.specs.Flow.{flow, plain-flow, waits}
 use Rattle.writing.specs.Online.{Went, bare, waiting, gapOf, joinBy, online, went, online-went}
 use Rattle.engine.specs.Pending.{Waiting, pushAll, waitIn}
 use Rattle.engine.specs.PendingLaws.{push-length, push-count, push-take}
-use Rattle.engine.specs.Engine.{Pen, Walked, constantHalf, kept, meetIn, allBytes, secondIn, walkIn}
-use Rattle.engine.specs.Blocks.{block-no, block-yes}
+use Rattle.engine.specs.Engine.{Pen, Walked, constantHalf, numberHalf, kept, meetIn, allBytes, repeats, againHalf, secondIn, walkIn}
+use Rattle.engine.specs.Blocks.{block-no, block-yes, block-repeats}
 use Rattle.engine.specs.Leading.{Stands, After, Leads}
 use Rattle.engine.specs.Meeting.{WroteAs, Fits, Waited, wait-came, online-fits, meet-leads}
+use Rattle.engine.specs.Again.{still-leads, repeat-leads}
 
 -- ---- What two halves send --------------------------------------------------------------------
 
@@ -363,18 +365,8 @@ pub constant-leads : (n size i m : ℕ) (o T p w : List ℕ) (t : List (List ℕ
     → Leads n size i m o T p w (kept (constantHalf c) t out w pen)
     (record { ref = terminal; complement = c; wrote = false; state = s; sent = [] })
 constant-leads n size i m o T p w t out pen s c st here =
-    let h = subst⁻¹ (λ (l : List ℕ). Stands n size o l t out pen s) (append-nil T) st in
-    record {
-      output = h .output;
-      full = h .goes-on ∙ sym (le-ltb (length o) (length (T ++ [])) (h .holds));
-      all = λ f. absurd (true≢false (sym f ∙ h .goes-on));
-      room = refl;
-      after = λ f. record {
-        stands = h;
-        came = record { ref = refl; number = refl; skipped = refl; complement = refl; wrote = refl };
-        waits = λ u. here;
-      };
-    }
+    still-leads n size i m o T p w t out pen s (constantHalf c) terminal c st here
+    (record { ref = refl; number = refl; skipped = refl; complement = refl; wrote = refl })
 
 -- a part whose words are all c
 pub block-leads : (n size d i at m : ℕ) (o T p w : List ℕ) (f : ℕ → Bool) (t : List (List ℕ)) (out : List ℕ) (pen : Pen)
@@ -449,8 +441,14 @@ walk-step v n size d i o real deep small few half c at m T p w t out pen s z st 
     mid : Bool → Waiting
     mid u = partIn (opened .count) (tildeIf u) a
 
+    -- in the engine: if it is walked, at level j, and if it repeats the first
     b : Bool → ℕ → Walked
     b u j = walkIn v size d j (at + 2 ^ d) (mid u .count) (a .table) (a .output) (mid u .bytes) (a .pen)
+
+    rep : Bool → Walked
+    rep u =
+        kept (numberHalf (a .half .number) (a .half .stamp) (a .half .skipped) (f (at + 2 ^ d)) false) (a .table) (a .output)
+        (mid u .bytes) (a .pen)
 
     p₂ : List ℕ
     p₂ = waiting (p ++ (opener ∷ [])) (suc i) x ++ tildeIf turn
@@ -458,15 +456,20 @@ walk-step v n size d i o real deep small few half c at m T p w t out pen s z st 
     y : Went
     y = online size d (suc i) (at + 2 ^ d) p₂ f (x .state)
 
-    Second : Bool → ℕ → Type 0
-    Second u j = Leads n size (suc i) (mid u .count) o (T ++ x .sent) p₂ (mid u .bytes) (b u j) y
+    Second : Bool → Walked → Type 0
+    Second u r = Leads n size (suc i) (mid u .count) o (T ++ x .sent) p₂ (mid u .bytes) r y
 
     long : m + 214 ≤ length w
     long = omega (arith, room)
 
-    second : a .pen .full ≡ false → Second turn (suc i)
-    second g =
-        let r = second-ready n size d i at m o T p w f s (st .sound) (st .normal) real deep small here long a first g in
+    -- what waits before it
+    before : a .pen .full ≡ false → Ready w (m + 70) p₂ (mid turn)
+    before g = second-ready n size d i at m o T p w f s (st .sound) (st .normal) real deep small here long a first g
+
+    -- what it leads to if it is walked
+    walked : a .pen .full ≡ false → Second turn (b turn (suc i))
+    walked g =
+        let r = before g in
         half (c * 2 + 1) (at + 2 ^ d) (mid turn .count) (T ++ x .sent) p₂ (mid turn .bytes) (a .table) (a .output) (a .pen)
         (x .state) (second-at c d at z) (first .after g .stands) (r .text) (omega (arith, r .count, r .room, room))
         (λ k. omega (
@@ -479,10 +482,32 @@ walk-step v n size d i o real deep small few half c at m T p w t out pen s z st 
     same : a .pen .full ≡ false → turned ≡ turn
     same g = ap (λ (u : Bool). differ u (f (at + 2 ^ d))) (first .after g .came .complement)
 
+    -- if it repeats the first
+    repeated : a .pen .full ≡ false → againHalf v turned d at (at + 2 ^ d) (a .half) ≡ true → Second turn (rep turn)
+    repeated g e =
+        let some = not (eqb (a .half .number) 0) in
+        let words = repeats v turned d at (at + 2 ^ d) in
+        repeat-leads n size d (suc i) at (at + 2 ^ d) (mid turn .count) o (T ++ x .sent) (p ++ (opener ∷ [])) p₂ (mid turn .bytes) f
+        (a .table) (a .output) (a .pen) s (a .half) (st .sound) (st .normal) (omega arith) (omega (arith, deep))
+        (first .after g .came) (eqb-false (a .half .number) 0 (not-true (eqb (a .half .number) 0) (and-l some words e)))
+        (subst (λ (u : Bool). (j : ℕ) → j < 2 ^ d → f (at + 2 ^ d + j) ≡ differ u (f (at + j))) (same g)
+        (subst⁻¹ (λ (k : ℕ). repeats v turned d k (k + 2 ^ d) ≡ true → (j : ℕ) → j < 2 ^ d
+        → f (k + 2 ^ d + j) ≡ differ turned (f (k + j))) (first-at c d at z)
+        (block-repeats v turned d (c * 2)) (and-r some words e)))
+        (first .after g .stands) (before g .text)
+
+    -- by either way
+    second : (again : Bool) → againHalf v turned d at (at + 2 ^ d) (a .half) ≡ again → a .pen .full ≡ false
+        → Second turned (cond again (rep turned) (b turned (i + 1)))
+    second true e g = subst⁻¹ (λ (u : Bool). Second u (rep u)) (same g) (repeated g e)
+    second false e g =
+        subst⁻¹ (λ (j : ℕ). Second turned (b turned j)) next (subst⁻¹ (λ (u : Bool). Second u (b u (suc i))) (same g) (walked g))
+
     go : (zeros ones : Bool) → allBytes v 0 (suc d) at ≡ zeros → allBytes v 255 (suc d) at ≡ ones
         → Leads n size i m o T p w (cond zeros (kept (constantHalf false) t out w pen)
         (cond ones (kept (constantHalf true) t out w pen)
-        (cond (a .pen .full) a (secondIn size i (mid turned .count) turned (a .half) (b turned (i + 1))))))
+        (cond (a .pen .full) a (secondIn size i (mid turned .count) turned (a .half)
+        (cond (againHalf v turned d at (at + 2 ^ d) (a .half)) (rep turned) (b turned (i + 1)))))))
         (online size (suc d) i at p f s)
     go true ones e k =
         block-leads n size (suc d) i at m o T p w f t out pen s false real deep st here
@@ -494,8 +519,9 @@ walk-step v n size d i o real deep small few half c at m T p w t out pen s z st 
         (block-yes v (suc d) c) k)
     go false false e k =
         halves-lead n size d i at m o T p w f s (st .sound) (st .normal) real deep small here long few
-        (λ j. omega (arith, young j)) a (b turned (i + 1)) turned first same
-        (λ g. subst⁻¹ (λ (j : ℕ). Second turned j) next (subst⁻¹ (λ (u : Bool). Second u (suc i)) (same g) (second g)))
+        (λ j. omega (arith, young j)) a
+        (cond (againHalf v turned d at (at + 2 ^ d) (a .half)) (rep turned) (b turned (i + 1))) turned first same
+        (second (againHalf v turned d at (at + 2 ^ d) (a .half)) refl)
 
 -- each part
 walks : (v : List ℕ) (n size d i : ℕ) (o : List ℕ) → 0 < i → i + d ≡ suc n → n ≤ 32 → size ≤ tableLimit → Walks v n size d i o

@@ -1,5 +1,7 @@
 -- How code holds what the engine speaks of: the declared structs as the types of Engine,
 -- and the answers as the paper has them. Assumes nothing.
+use mathlib.Core.Path.{_≡_, ap, _∙_}
+use mathlib.Core.Bool.{Bool, false}
 use mathlib.Core.List.{List}
 use Prim.Native.Nat.{ℕ}
 use Rattle.reading.specs.Causes as C
@@ -32,6 +34,14 @@ penOf p = record { given = p .given; first = p .first; last = p .last; written =
 -- with what the lent records, output and waiting bytes hold
 abbrev pub walkedOf : Walked → List (List ℕ) → List ℕ → List ℕ → E.Walked
 walkedOf r t out w = record { half = halfOf (r .half); pen = penOf (r .pen); table = t; output = out; waits = w }
+
+-- a second half that is the number of the first (h) again; s: its first word
+pub again-as : (r : Walked) (g h : Half) (x : Pen) (s y : Bool) (t : List (List ℕ)) (out w : List ℕ) → r ≡ record { half = g; pen = x }
+    → g ≡ record { number = h .number; stamp = h .stamp; skipped = h .skipped; temporary = false; complement = s; wrote = false }
+    → s ≡ y → walkedOf r t out w ≡ E.kept (E.numberHalf (h .number) (h .stamp) (h .skipped) y false) t out w (penOf x)
+again-as r g h x s y t out w p q e =
+    ap (λ (r : Walked). walkedOf r t out w) p ∙ ap (λ (g : Half). E.kept (halfOf g) t out w (penOf x)) q
+    ∙ ap (λ (s : Bool). E.kept (E.numberHalf (h .number) (h .stamp) (h .skipped) s false) t out w (penOf x)) e
 
 abbrev pub endingsOf : Ending → R.Ending
 endingsOf Whole = R.whole

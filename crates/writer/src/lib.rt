@@ -16,7 +16,7 @@ ghost use Rattle.writing.specs.Calls.{truthAt, write};
 ghost use Rattle.engine.specs.Cells.{cell, putCell};
 ghost use Rattle.engine.specs.Recycling.{oneMore, leaveIn, joinIn, freeOf, bucketOf, fitsAt, searchIn, findIn, shelveIn, unshelveIn, moreIn, fewerIn, orphanIn, orphansIn, releaseIn, adoptIn, noteIn, placeIn, storeIn, nextIn};
 ghost use Rattle.engine.specs.Pending.{pushAll, waitIn, closeIn};
-ghost use Rattle.engine.specs.Engine.{isStale, alikeConstant, alikeNumber, barredHalf, spaced, sendNode, writeTemporary, giveIn, knownIn, meetIn, sendText, sameBytes, allBytes, secondIn, walkIn, doneIn, bodyIn, streamIn};
+ghost use Rattle.engine.specs.Engine.{isStale, alikeConstant, alikeNumber, barredHalf, spaced, sendNode, writeTemporary, giveIn, knownIn, meetIn, sendText, sameBytes, allBytes, alikeBytes, againHalf, secondIn, walkIn, doneIn, bodyIn, streamIn};
 ghost use Rattle.writer.specs.Cite.{halfOf, penOf, walkedOf, endingsOf, writtenOf, writingOf};
 use reader::Cause;
 use reader::Refusal;
@@ -810,6 +810,57 @@ fn all_bytes(v: &[u8], b: u8, d: u32, at: usize) -> bool
     same_bytes(v, b, at / 8, (1usize << d) / 8)
 }
 
+// The byte at p, 0 past the end
+fn byte_at(v: &[u8], p: usize) -> u8
+    ensures { λ r. ⌜ r ≡ getD (now (v .entry)) p 0 ⌝ }
+{
+    if v.len() <= p {
+        return 0;
+    }
+    v[p]
+}
+
+// The byte y is x, or x turned about if u.
+fn alike(u: bool, x: u8, y: u8) -> bool
+    ensures { λ r. ⌜ r ≡ cond u (eqb (y + x) 255) (eqb y x) ⌝ }
+{
+    if u {
+        return y as u32 + x as u32 == 255;
+    }
+    y == x
+}
+
+// The c bytes from q on are those from p on, or those turned about if u.
+fn alike_bytes(v: &[u8], u: bool, p: usize, q: usize, c: usize) -> bool
+    requires { ⌜ (p ≤ 65536) × ((q ≤ 65536) × (c ≤ 65536)) ⌝ }
+    ensures { λ r. ⌜ r ≡ alikeBytes (now (v .entry)) u p q c ⌝ }
+{
+    let mut j = 0;
+    while j < c {
+        let x = byte_at(v, p + j);
+        let y = byte_at(v, q + j);
+        if !alike(u, x, y) {
+            return false;
+        }
+        j += 1;
+    }
+    true
+}
+
+// The first half came to a number (h), and the 2^d words from `mid` on repeat those from `at` on, or all turned about if u.
+fn is_again(v: &[u8], u: bool, d: u32, at: usize, mid: usize, h: Half) -> bool
+    requires { ⌜ (d ≤ 16) × ((at ≤ 65536) × (mid ≤ 65536)) ⌝ }
+    ensures { λ r. ⌜ r ≡ againHalf (now (v .entry)) u d at mid (halfOf h) ⌝ }
+{
+    if h.number == 0 {
+        return false;
+    }
+    if d < 3 {
+        return false;
+    }
+    alike_bytes(v, u, at / 8, mid / 8, (1usize << d) / 8)
+}
+
 fn differs(a: bool, b: bool) -> bool
     ensures { λ r. ⌜ r ≡ differ a b ⌝ }
 {
@@ -874,9 +925,14 @@ fn walk(
         return a;
     }
     let h = half_of(a);
-    let turned = differs(h.complement, truth(v, mid));
+    let s = truth(v, mid);
+    let turned = differs(h.complement, s);
     let q = wait(w, p, h.wrote, h.skipped, h.number);
     let r = push_turn(w, q, turned);
+    if is_again(v, turned, e, at, mid, h) {
+        let b = kept(numbered(h.number, h.stamp, h.skipped, s, false), x);
+        return second(size, i, r, turned, h, b, t, out, w);
+    }
     let b = walk(v, size, e, j, mid, r, t, out, w, x);
     second(size, i, r, turned, h, b, t, out, w)
 }

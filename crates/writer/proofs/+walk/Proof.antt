@@ -1,4 +1,4 @@
--- A word, a block of like bytes, or two halves that meet; each half has an option less.
+-- A word, a block of like bytes, a second half that repeats the first, or two halves that meet; each half has an option less.
 -- Assumes nothing.
 use borrow.Author.Needs.{needs}
 use Prim.Native.Nat.{ℕ, _<_}
@@ -11,7 +11,9 @@ use Rattle.writer.proofs.all_bytes.Reads as all-bytes-reads
 use Rattle.writer.proofs.constant.Reads as constant-reads
 use Rattle.writer.proofs.differs.Reads as differs-reads
 use Rattle.writer.proofs.half_of.Reads as half-of-reads
+use Rattle.writer.proofs.is_again.Reads as is-again-reads
 use Rattle.writer.proofs.kept.Reads as kept-reads
+use Rattle.writer.proofs.numbered.Reads as numbered-reads
 use Rattle.writer.proofs.pen_of.Reads as pen-of-reads
 use Rattle.writer.proofs.push.Reads as push-reads
 use Rattle.writer.proofs.push_turn.Reads as push-turn-reads
@@ -25,8 +27,8 @@ use native.Mathlib.Omega.{arith}
 use Prim.Native.Nat.{suc, _+_, _*_, _-_, _%_, _≤_, _^_}
 use Rattle.lists.specs.Lists.{differ}
 use Rattle.engine.specs.PendingMade.{few-words}
-use Rattle.engine.specs.EngineMade.{walk-word, walk-no, walk-yes, walk-full, walk-on}
-use Rattle.writer.specs.Cite.{halfOf, penOf}
+use Rattle.engine.specs.EngineMade.{walk-word, walk-no, walk-yes, walk-full, walk-on, walk-repeat}
+use Rattle.writer.specs.Cite.{halfOf, penOf, again-as}
 use Rattle.reader.specs.TruthLaws.{both-halves}
 
 abbrev μ-walk : Measures 4 walk-kinds.ps ℕ
@@ -61,6 +63,10 @@ walk-truth-requires : (t : ℕ) → walk-lts.Need-truth-requires (
   wait-reads.Learnt,
   push-turn-reads.Asked,
   push-turn-reads.Learnt,
+  is-again-reads.Asked,
+  is-again-reads.Learnt,
+  numbered-reads.Asked,
+  numbered-reads.Learnt,
   second-reads.Asked,
   second-reads.Learnt,
 ) (walk-at t) walk.Post
@@ -89,6 +95,10 @@ walk-constant-requires : (t : ℕ) → walk-lts.Need-constant-requires (
   wait-reads.Learnt,
   push-turn-reads.Asked,
   push-turn-reads.Learnt,
+  is-again-reads.Asked,
+  is-again-reads.Learnt,
+  numbered-reads.Asked,
+  numbered-reads.Learnt,
   second-reads.Asked,
   second-reads.Learnt,
 ) (walk-at t) walk.Post
@@ -117,6 +127,10 @@ walk-kept-requires : (t : ℕ) → walk-lts.Need-kept-requires (
   wait-reads.Learnt,
   push-turn-reads.Asked,
   push-turn-reads.Learnt,
+  is-again-reads.Asked,
+  is-again-reads.Learnt,
+  numbered-reads.Asked,
+  numbered-reads.Learnt,
   second-reads.Asked,
   second-reads.Learnt,
 ) (walk-at t) walk.Post
@@ -145,6 +159,10 @@ walk-returns : (t : ℕ) → walk-lts.Need-returns (
   wait-reads.Learnt,
   push-turn-reads.Asked,
   push-turn-reads.Learnt,
+  is-again-reads.Asked,
+  is-again-reads.Learnt,
+  numbered-reads.Asked,
+  numbered-reads.Learnt,
   second-reads.Asked,
   second-reads.Learnt,
 ) (walk-at t) walk.Post
@@ -175,6 +193,10 @@ walk-all-bytes-requires : (t : ℕ) → walk-lts.Need-all-bytes-requires (
   wait-reads.Learnt,
   push-turn-reads.Asked,
   push-turn-reads.Learnt,
+  is-again-reads.Asked,
+  is-again-reads.Learnt,
+  numbered-reads.Asked,
+  numbered-reads.Learnt,
   second-reads.Asked,
   second-reads.Learnt,
 ) (walk-at t) walk.Post
@@ -203,6 +225,10 @@ walk-constant-requires-2 : (t : ℕ) → walk-lts.Need-constant-requires-2 (
   wait-reads.Learnt,
   push-turn-reads.Asked,
   push-turn-reads.Learnt,
+  is-again-reads.Asked,
+  is-again-reads.Learnt,
+  numbered-reads.Asked,
+  numbered-reads.Learnt,
   second-reads.Asked,
   second-reads.Learnt,
 ) (walk-at t) walk.Post
@@ -231,6 +257,10 @@ walk-kept-requires-2 : (t : ℕ) → walk-lts.Need-kept-requires-2 (
   wait-reads.Learnt,
   push-turn-reads.Asked,
   push-turn-reads.Learnt,
+  is-again-reads.Asked,
+  is-again-reads.Learnt,
+  numbered-reads.Asked,
+  numbered-reads.Learnt,
   second-reads.Asked,
   second-reads.Learnt,
 ) (walk-at t) walk.Post
@@ -259,6 +289,10 @@ walk-returns-2 : (t : ℕ) → walk-lts.Need-returns-2 (
   wait-reads.Learnt,
   push-turn-reads.Asked,
   push-turn-reads.Learnt,
+  is-again-reads.Asked,
+  is-again-reads.Learnt,
+  numbered-reads.Asked,
+  numbered-reads.Learnt,
   second-reads.Asked,
   second-reads.Learnt,
 ) (walk-at t) walk.Post
@@ -290,6 +324,10 @@ walk-all-bytes-requires-2 : (t : ℕ) → walk-lts.Need-all-bytes-requires-2 (
   wait-reads.Learnt,
   push-turn-reads.Asked,
   push-turn-reads.Learnt,
+  is-again-reads.Asked,
+  is-again-reads.Learnt,
+  numbered-reads.Asked,
+  numbered-reads.Learnt,
   second-reads.Asked,
   second-reads.Learnt,
 ) (walk-at t) walk.Post
@@ -318,6 +356,10 @@ walk-constant-requires-3 : (t : ℕ) → walk-lts.Need-constant-requires-3 (
   wait-reads.Learnt,
   push-turn-reads.Asked,
   push-turn-reads.Learnt,
+  is-again-reads.Asked,
+  is-again-reads.Learnt,
+  numbered-reads.Asked,
+  numbered-reads.Learnt,
   second-reads.Asked,
   second-reads.Learnt,
 ) (walk-at t) walk.Post
@@ -346,6 +388,10 @@ walk-kept-requires-3 : (t : ℕ) → walk-lts.Need-kept-requires-3 (
   wait-reads.Learnt,
   push-turn-reads.Asked,
   push-turn-reads.Learnt,
+  is-again-reads.Asked,
+  is-again-reads.Learnt,
+  numbered-reads.Asked,
+  numbered-reads.Learnt,
   second-reads.Asked,
   second-reads.Learnt,
 ) (walk-at t) walk.Post
@@ -374,6 +420,10 @@ walk-returns-3 : (t : ℕ) → walk-lts.Need-returns-3 (
   wait-reads.Learnt,
   push-turn-reads.Asked,
   push-turn-reads.Learnt,
+  is-again-reads.Asked,
+  is-again-reads.Learnt,
+  numbered-reads.Asked,
+  numbered-reads.Learnt,
   second-reads.Asked,
   second-reads.Learnt,
 ) (walk-at t) walk.Post
@@ -405,6 +455,10 @@ walk-sub-e : (t : ℕ) → walk-lts.Need-sub-e (
   wait-reads.Learnt,
   push-turn-reads.Asked,
   push-turn-reads.Learnt,
+  is-again-reads.Asked,
+  is-again-reads.Learnt,
+  numbered-reads.Asked,
+  numbered-reads.Learnt,
   second-reads.Asked,
   second-reads.Learnt,
 ) (walk-at t) walk.Post
@@ -433,6 +487,10 @@ walk-add-j : (t : ℕ) → walk-lts.Need-add-j (
   wait-reads.Learnt,
   push-turn-reads.Asked,
   push-turn-reads.Learnt,
+  is-again-reads.Asked,
+  is-again-reads.Learnt,
+  numbered-reads.Asked,
+  numbered-reads.Learnt,
   second-reads.Asked,
   second-reads.Learnt,
 ) (walk-at t) walk.Post
@@ -461,6 +519,10 @@ walk-cast-mid : (t : ℕ) → walk-lts.Need-cast-mid (
   wait-reads.Learnt,
   push-turn-reads.Asked,
   push-turn-reads.Learnt,
+  is-again-reads.Asked,
+  is-again-reads.Learnt,
+  numbered-reads.Asked,
+  numbered-reads.Learnt,
   second-reads.Asked,
   second-reads.Learnt,
 ) (walk-at t) walk.Post
@@ -489,6 +551,10 @@ walk-shl-mid : (t : ℕ) → walk-lts.Need-shl-mid (
   wait-reads.Learnt,
   push-turn-reads.Asked,
   push-turn-reads.Learnt,
+  is-again-reads.Asked,
+  is-again-reads.Learnt,
+  numbered-reads.Asked,
+  numbered-reads.Learnt,
   second-reads.Asked,
   second-reads.Learnt,
 ) (walk-at t) walk.Post
@@ -517,6 +583,10 @@ walk-add-mid : (t : ℕ) → walk-lts.Need-add-mid (
   wait-reads.Learnt,
   push-turn-reads.Asked,
   push-turn-reads.Learnt,
+  is-again-reads.Asked,
+  is-again-reads.Learnt,
+  numbered-reads.Asked,
+  numbered-reads.Learnt,
   second-reads.Asked,
   second-reads.Learnt,
 ) (walk-at t) walk.Post
@@ -546,6 +616,10 @@ walk-push-requires : (t : ℕ) → walk-lts.Need-push-requires (
   wait-reads.Learnt,
   push-turn-reads.Asked,
   push-turn-reads.Learnt,
+  is-again-reads.Asked,
+  is-again-reads.Learnt,
+  numbered-reads.Asked,
+  numbered-reads.Learnt,
   second-reads.Asked,
   second-reads.Learnt,
 ) (walk-at t) walk.Post
@@ -574,6 +648,10 @@ walk-walk-requires : (t : ℕ) → walk-lts.Need-walk-requires (
   wait-reads.Learnt,
   push-turn-reads.Asked,
   push-turn-reads.Learnt,
+  is-again-reads.Asked,
+  is-again-reads.Learnt,
+  numbered-reads.Asked,
+  numbered-reads.Learnt,
   second-reads.Asked,
   second-reads.Learnt,
 ) (walk-at t) walk.Post
@@ -602,6 +680,10 @@ walk-pen-of-requires : (t : ℕ) → walk-lts.Need-pen-of-requires (
   wait-reads.Learnt,
   push-turn-reads.Asked,
   push-turn-reads.Learnt,
+  is-again-reads.Asked,
+  is-again-reads.Learnt,
+  numbered-reads.Asked,
+  numbered-reads.Learnt,
   second-reads.Asked,
   second-reads.Learnt,
 ) (walk-at t) walk.Post
@@ -630,6 +712,10 @@ walk-same-length : (t : ℕ) → walk-lts.Need-same-length (
   wait-reads.Learnt,
   push-turn-reads.Asked,
   push-turn-reads.Learnt,
+  is-again-reads.Asked,
+  is-again-reads.Learnt,
+  numbered-reads.Asked,
+  numbered-reads.Learnt,
   second-reads.Asked,
   second-reads.Learnt,
 ) (walk-at t) walk.Post
@@ -658,6 +744,10 @@ walk-same-length-2 : (t : ℕ) → walk-lts.Need-same-length-2 (
   wait-reads.Learnt,
   push-turn-reads.Asked,
   push-turn-reads.Learnt,
+  is-again-reads.Asked,
+  is-again-reads.Learnt,
+  numbered-reads.Asked,
+  numbered-reads.Learnt,
   second-reads.Asked,
   second-reads.Learnt,
 ) (walk-at t) walk.Post
@@ -686,6 +776,10 @@ walk-same-length-3 : (t : ℕ) → walk-lts.Need-same-length-3 (
   wait-reads.Learnt,
   push-turn-reads.Asked,
   push-turn-reads.Learnt,
+  is-again-reads.Asked,
+  is-again-reads.Learnt,
+  numbered-reads.Asked,
+  numbered-reads.Learnt,
   second-reads.Asked,
   second-reads.Learnt,
 ) (walk-at t) walk.Post
@@ -714,6 +808,10 @@ walk-returns-4 : (t : ℕ) → walk-lts.Need-returns-4 (
   wait-reads.Learnt,
   push-turn-reads.Asked,
   push-turn-reads.Learnt,
+  is-again-reads.Asked,
+  is-again-reads.Learnt,
+  numbered-reads.Asked,
+  numbered-reads.Learnt,
   second-reads.Asked,
   second-reads.Learnt,
 ) (walk-at t) walk.Post
@@ -746,6 +844,10 @@ walk-half-of-requires : (t : ℕ) → walk-lts.Need-half-of-requires (
   wait-reads.Learnt,
   push-turn-reads.Asked,
   push-turn-reads.Learnt,
+  is-again-reads.Asked,
+  is-again-reads.Learnt,
+  numbered-reads.Asked,
+  numbered-reads.Learnt,
   second-reads.Asked,
   second-reads.Learnt,
 ) (walk-at t) walk.Post
@@ -774,6 +876,10 @@ walk-truth-requires-2 : (t : ℕ) → walk-lts.Need-truth-requires-2 (
   wait-reads.Learnt,
   push-turn-reads.Asked,
   push-turn-reads.Learnt,
+  is-again-reads.Asked,
+  is-again-reads.Learnt,
+  numbered-reads.Asked,
+  numbered-reads.Learnt,
   second-reads.Asked,
   second-reads.Learnt,
 ) (walk-at t) walk.Post
@@ -802,6 +908,10 @@ walk-differs-requires : (t : ℕ) → walk-lts.Need-differs-requires (
   wait-reads.Learnt,
   push-turn-reads.Asked,
   push-turn-reads.Learnt,
+  is-again-reads.Asked,
+  is-again-reads.Learnt,
+  numbered-reads.Asked,
+  numbered-reads.Learnt,
   second-reads.Asked,
   second-reads.Learnt,
 ) (walk-at t) walk.Post
@@ -830,6 +940,10 @@ walk-wait-requires : (t : ℕ) → walk-lts.Need-wait-requires (
   wait-reads.Learnt,
   push-turn-reads.Asked,
   push-turn-reads.Learnt,
+  is-again-reads.Asked,
+  is-again-reads.Learnt,
+  numbered-reads.Asked,
+  numbered-reads.Learnt,
   second-reads.Asked,
   second-reads.Learnt,
 ) (walk-at t) walk.Post
@@ -858,12 +972,16 @@ walk-push-turn-requires : (t : ℕ) → walk-lts.Need-push-turn-requires (
   wait-reads.Learnt,
   push-turn-reads.Asked,
   push-turn-reads.Learnt,
+  is-again-reads.Asked,
+  is-again-reads.Learnt,
+  numbered-reads.Asked,
+  numbered-reads.Learnt,
   second-reads.Asked,
   second-reads.Learnt,
 ) (walk-at t) walk.Post
 walk-push-turn-requires t c κs = search needs
 
-walk-walk-requires-2 : (t : ℕ) → walk-lts.Need-walk-requires-2 (
+walk-is-again-requires : (t : ℕ) → walk-lts.Need-is-again-requires (
   truth-reads.Asked,
   truth-reads.Learnt,
   constant-reads.Asked,
@@ -886,13 +1004,81 @@ walk-walk-requires-2 : (t : ℕ) → walk-lts.Need-walk-requires-2 (
   wait-reads.Learnt,
   push-turn-reads.Asked,
   push-turn-reads.Learnt,
+  is-again-reads.Asked,
+  is-again-reads.Learnt,
+  numbered-reads.Asked,
+  numbered-reads.Learnt,
   second-reads.Asked,
   second-reads.Learnt,
 ) (walk-at t) walk.Post
-walk-walk-requires-2 t c κs = let a = c .before .before .before .before .before .before .before .before .before .before .before .before .before .before .before .before .before .before .before .before .before .before .before .before .before .before .before .before .before .before .before .before .before .before .before .before .before .args in
-    let h : (a .d - 1 < t) × ((a .d - 1 ≤ 16) × ((a .i + 1 + (a .d - 1) ≤ 64) × (a .at + 1 * 2 ^ (a .d - 1) % 18446744073709551616 + 2 ^ (a .d - 1) ≤ 65536))) =
-    omega (arith, c .before .before .before .before .before .before .before .before .before .before .before .before .before .before .before .before .before .before .before .before .before .before .before .before .before .before .before .before .before .before .before .before .before .before .before .before .before .pre, c .before .before .before .before .before .before .before .before .before .before .before .before .before .before .before .before .before .before .before .before .before .before .before .before .before .before .before .before .before .before .before .before .before .if1 .left, few-words (a .d - 1) (omega (arith, c .before .before .before .before .before .before .before .before .before .before .before .before .before .before .before .before .before .before .before .before .before .before .before .before .before .before .before .before .before .before .before .before .before .before .before .before .before .pre)), both-halves (a .d) (c .before .before .before .before .before .before .before .before .before .before .before .before .before .before .before .before .before .before .before .before .before .before .before .before .before .before .before .before .before .before .before .before .before .if1 .left)) in
+walk-is-again-requires t c κs = let a = c .before .before .before .before .before .before .before .before .before .before .before .before .before .before .before .before .before .before .before .before .before .before .before .before .before .before .before .before .before .before .before .before .before .before .args in
+    let h : (a .d - 1 ≤ 16) × ((a .at ≤ 65536) × (a .at + 1 * 2 ^ (a .d - 1) % 18446744073709551616 ≤ 65536)) =
+    omega (arith, c .before .before .before .before .before .before .before .before .before .before .before .before .before .before .before .before .before .before .before .before .before .before .before .before .before .before .before .before .before .before .before .before .before .before .pre, c .before .before .before .before .before .before .before .before .before .before .before .before .before .before .before .before .before .before .before .before .before .before .before .before .before .before .before .before .before .before .if1 .left, few-words (a .d - 1) (omega (arith, c .before .before .before .before .before .before .before .before .before .before .before .before .before .before .before .before .before .before .before .before .before .before .before .before .before .before .before .before .before .before .before .before .before .before .pre)), both-halves (a .d) (c .before .before .before .before .before .before .before .before .before .before .before .before .before .before .before .before .before .before .before .before .before .before .before .before .before .before .before .before .before .before .if1 .left)) in
     h
+
+walk-numbered-requires : (t : ℕ) → walk-lts.Need-numbered-requires (
+  truth-reads.Asked,
+  truth-reads.Learnt,
+  constant-reads.Asked,
+  constant-reads.Learnt,
+  kept-reads.Asked,
+  kept-reads.Learnt,
+  all-bytes-reads.Asked,
+  all-bytes-reads.Learnt,
+  push-reads.Asked,
+  push-reads.Learnt,
+  walk-below t,
+  walk.Post,
+  pen-of-reads.Asked,
+  pen-of-reads.Learnt,
+  half-of-reads.Asked,
+  half-of-reads.Learnt,
+  differs-reads.Asked,
+  differs-reads.Learnt,
+  wait-reads.Asked,
+  wait-reads.Learnt,
+  push-turn-reads.Asked,
+  push-turn-reads.Learnt,
+  is-again-reads.Asked,
+  is-again-reads.Learnt,
+  numbered-reads.Asked,
+  numbered-reads.Learnt,
+  second-reads.Asked,
+  second-reads.Learnt,
+) (walk-at t) walk.Post
+walk-numbered-requires t c κs = search needs
+
+walk-kept-requires-4 : (t : ℕ) → walk-lts.Need-kept-requires-4 (
+  truth-reads.Asked,
+  truth-reads.Learnt,
+  constant-reads.Asked,
+  constant-reads.Learnt,
+  kept-reads.Asked,
+  kept-reads.Learnt,
+  all-bytes-reads.Asked,
+  all-bytes-reads.Learnt,
+  push-reads.Asked,
+  push-reads.Learnt,
+  walk-below t,
+  walk.Post,
+  pen-of-reads.Asked,
+  pen-of-reads.Learnt,
+  half-of-reads.Asked,
+  half-of-reads.Learnt,
+  differs-reads.Asked,
+  differs-reads.Learnt,
+  wait-reads.Asked,
+  wait-reads.Learnt,
+  push-turn-reads.Asked,
+  push-turn-reads.Learnt,
+  is-again-reads.Asked,
+  is-again-reads.Learnt,
+  numbered-reads.Asked,
+  numbered-reads.Learnt,
+  second-reads.Asked,
+  second-reads.Learnt,
+) (walk-at t) walk.Post
+walk-kept-requires-4 t c κs = search needs
 
 walk-second-requires : (t : ℕ) → walk-lts.Need-second-requires (
   truth-reads.Asked,
@@ -917,6 +1103,10 @@ walk-second-requires : (t : ℕ) → walk-lts.Need-second-requires (
   wait-reads.Learnt,
   push-turn-reads.Asked,
   push-turn-reads.Learnt,
+  is-again-reads.Asked,
+  is-again-reads.Learnt,
+  numbered-reads.Asked,
+  numbered-reads.Learnt,
   second-reads.Asked,
   second-reads.Learnt,
 ) (walk-at t) walk.Post
@@ -945,10 +1135,14 @@ walk-same-length-4 : (t : ℕ) → walk-lts.Need-same-length-4 (
   wait-reads.Learnt,
   push-turn-reads.Asked,
   push-turn-reads.Learnt,
+  is-again-reads.Asked,
+  is-again-reads.Learnt,
+  numbered-reads.Asked,
+  numbered-reads.Learnt,
   second-reads.Asked,
   second-reads.Learnt,
 ) (walk-at t) walk.Post
-walk-same-length-4 t c = c .before .before .before .before .t3 .given ∙ c .before .before .before .before .before .before .before .before .before .before .before .before .before .t2 .given ∙ c .before .before .before .before .before .before .before .before .before .before .before .before .before .before .before .before .before .before .before .before .before .before .before .before .before .before .before .before .before .before .before .before .before .before .before .t .given
+walk-same-length-4 t c = c .before .before .before .before .t2 .given ∙ c .before .before .before .before .before .before .before .before .before .before .before .before .before .before .before .before .before .before .before .before .before .before .before .before .before .before .before .before .before .before .t .given
 
 walk-same-length-5 : (t : ℕ) → walk-lts.Need-same-length-5 (
   truth-reads.Asked,
@@ -973,10 +1167,14 @@ walk-same-length-5 : (t : ℕ) → walk-lts.Need-same-length-5 (
   wait-reads.Learnt,
   push-turn-reads.Asked,
   push-turn-reads.Learnt,
+  is-again-reads.Asked,
+  is-again-reads.Learnt,
+  numbered-reads.Asked,
+  numbered-reads.Learnt,
   second-reads.Asked,
   second-reads.Learnt,
 ) (walk-at t) walk.Post
-walk-same-length-5 t c = c .before .before .before .out3 .given ∙ c .before .before .before .before .before .before .before .before .before .before .before .before .out2 .given ∙ c .before .before .before .before .before .before .before .before .before .before .before .before .before .before .before .before .before .before .before .before .before .before .before .before .before .before .before .before .before .before .before .before .before .before .out .given
+walk-same-length-5 t c = c .before .before .before .out2 .given ∙ c .before .before .before .before .before .before .before .before .before .before .before .before .before .before .before .before .before .before .before .before .before .before .before .before .before .before .before .before .before .out .given
 
 walk-same-length-6 : (t : ℕ) → walk-lts.Need-same-length-6 (
   truth-reads.Asked,
@@ -1001,10 +1199,14 @@ walk-same-length-6 : (t : ℕ) → walk-lts.Need-same-length-6 (
   wait-reads.Learnt,
   push-turn-reads.Asked,
   push-turn-reads.Learnt,
+  is-again-reads.Asked,
+  is-again-reads.Learnt,
+  numbered-reads.Asked,
+  numbered-reads.Learnt,
   second-reads.Asked,
   second-reads.Learnt,
 ) (walk-at t) walk.Post
-walk-same-length-6 t c = c .before .w6 .given ∙ c .before .before .before .before .before .before .before .before .before .before .w5 .given ∙ c .before .before .before .before .before .before .before .before .before .before .before .before .before .before .before .before .before .before .before .w4 .given ∙ c .before .before .before .before .before .before .before .before .before .before .before .before .before .before .before .before .before .before .before .before .before .before .before .w3 .given ∙ c .before .before .before .before .before .before .before .before .before .before .before .before .before .before .before .before .before .before .before .before .before .before .before .before .before .before .before .before .before .before .before .before .w2 .given ∙ c .before .before .before .before .before .before .before .before .before .before .before .before .before .before .before .before .before .before .before .before .before .before .before .before .before .before .before .before .before .before .before .before .before .before .before .before .before .before .before .before .before .w .given
+walk-same-length-6 t c = c .before .w5 .given ∙ c .before .before .before .before .before .before .before .before .before .before .before .before .before .before .w4 .given ∙ c .before .before .before .before .before .before .before .before .before .before .before .before .before .before .before .before .before .before .w3 .given ∙ c .before .before .before .before .before .before .before .before .before .before .before .before .before .before .before .before .before .before .before .before .before .before .before .before .before .before .before .w2 .given ∙ c .before .before .before .before .before .before .before .before .before .before .before .before .before .before .before .before .before .before .before .before .before .before .before .before .before .before .before .before .before .before .before .before .before .before .before .before .w .given
 
 walk-returns-5 : (t : ℕ) → walk-lts.Need-returns-5 (
   truth-reads.Asked,
@@ -1029,17 +1231,226 @@ walk-returns-5 : (t : ℕ) → walk-lts.Need-returns-5 (
   wait-reads.Learnt,
   push-turn-reads.Asked,
   push-turn-reads.Learnt,
+  is-again-reads.Asked,
+  is-again-reads.Learnt,
+  numbered-reads.Asked,
+  numbered-reads.Learnt,
   second-reads.Asked,
   second-reads.Learnt,
 ) (walk-at t) walk.Post
-walk-returns-5 t c = let a = c .before .before .before .before .before .before .before .before .before .before .before .before .before .before .before .before .before .before .before .before .before .before .before .before .before .before .before .before .before .before .before .before .before .before .before .before .before .before .before .before .before .before .before .before .before .before .before .before .before .before .before .before .args in
-    let e : a .d ≡ suc (a .d - 1) = omega (arith, c .before .before .before .before .before .before .before .before .before .before .before .before .before .before .before .before .before .before .before .before .before .before .before .before .before .before .before .before .before .before .before .before .before .before .before .before .before .before .before .before .before .before .before .before .before .before .before .before .if1 .left) in
+walk-returns-5 t c = let a = c .before .before .before .before .before .before .before .before .before .before .before .before .before .before .before .before .before .before .before .before .before .before .before .before .before .before .before .before .before .before .before .before .before .before .before .before .before .before .before .before .before .before .before .before .before .before .before .args in
+    let e : a .d ≡ suc (a .d - 1) = omega (arith, c .before .before .before .before .before .before .before .before .before .before .before .before .before .before .before .before .before .before .before .before .before .before .before .before .before .before .before .before .before .before .before .before .before .before .before .before .before .before .before .before .before .before .before .if1 .left) in
     c .before .before .before .before .before .second .ensures
+    ∙ walk-repeat (a .v .now) (a .size) (a .d - 1) (a .i) (a .at) (a .m) (a .t .now) (a .out .now) (a .w .now) (penOf (a .pen)) (a .d) e
+    (sym (c .before .before .before .before .before .before .before .before .before .before .before .before .before .before .before .before .before .before .before .before .before .before .before .before .before .before .before .before .before .before .before .before .before .before .before .before .before .before .before .before .before .before .all-bytes .ensures) ∙ c .before .before .before .before .before .before .before .before .before .before .before .before .before .before .before .before .before .before .before .before .before .before .before .before .before .before .before .before .before .before .before .before .before .before .before .before .before .before .before .before .before .if2 .left) (sym (c .before .before .before .before .before .before .before .before .before .before .before .before .before .before .before .before .before .before .before .before .before .before .before .before .before .before .before .before .before .before .before .before .before .before .before .before .before .before .before .before .all-bytes2 .ensures) ∙ c .before .before .before .before .before .before .before .before .before .before .before .before .before .before .before .before .before .before .before .before .before .before .before .before .before .before .before .before .before .before .before .before .before .before .before .before .before .before .before .if3 .left) _ _ (c .before .before .before .before .before .before .before .before .before .before .before .before .before .before .before .before .before .before .before .before .before .before .before .before .before .before .before .before .before .before .before .before .before .before .before .before .before .push .ensures) (c .before .before .before .before .before .before .before .before .before .before .before .before .before .before .before .before .before .before .before .before .before .before .before .before .before .before .before .before .before .before .before .walk .ensures)
+    (halfOf (c .before .before .before .before .before .before .before .before .before .before .before .before .before .before .before .before .before .before .before .before .before .before .before .half-of .result)) (penOf (c .before .before .before .before .before .before .before .before .before .before .before .before .before .before .before .before .before .before .before .before .before .before .before .before .before .pen-of .result)) _ _ _ _ _ (ap halfOf (c .before .before .before .before .before .before .before .before .before .before .before .before .before .before .before .before .before .before .before .before .before .before .before .half-of .ensures)) (ap penOf (c .before .before .before .before .before .before .before .before .before .before .before .before .before .before .before .before .before .before .before .before .before .before .before .before .before .pen-of .ensures))
+    (few-words (a .d - 1) (omega (arith, c .before .before .before .before .before .before .before .before .before .before .before .before .before .before .before .before .before .before .before .before .before .before .before .before .before .before .before .before .before .before .before .before .before .before .before .before .before .before .before .before .before .before .before .before .before .before .before .pre))) (c .before .before .before .before .before .before .before .before .before .before .before .before .before .before .before .before .before .before .before .before .before .before .before .before .if4 .left)
+    (c .before .before .before .before .before .before .before .before .before .before .before .before .before .before .before .before .before .before .before .before .before .differs .ensures ∙ ap (differ (c .before .before .before .before .before .before .before .before .before .before .before .before .before .before .before .before .before .before .before .before .before .before .before .half-of .result .complement)) (c .before .before .before .before .before .before .before .before .before .before .before .before .before .before .before .before .before .before .before .before .before .before .truth2 .ensures)) (c .before .before .before .before .before .before .before .before .before .before .before .before .before .before .before .before .before .before .before .wait .ensures) (c .before .before .before .before .before .before .before .before .before .before .before .before .before .before .before .push-turn .ensures)
+    (sym (c .before .before .before .before .before .before .before .before .before .before .before .before .is-again .ensures) ∙ c .before .before .before .before .before .before .before .before .before .before .before .if5 .taken)
+    (again-as (c .before .before .before .before .before .before .before .before .before .kept4 .result) (c .before .before .before .before .before .before .before .before .before .before .numbered .result) (c .before .before .before .before .before .before .before .before .before .before .before .before .before .before .before .before .before .before .before .before .before .before .before .half-of .result) (c .before .before .before .before .before .before .before .before .before .before .before .before .before .before .before .before .before .before .before .before .before .before .before .before .before .pen-of .result) _ _ _ _ _ (c .before .before .before .before .before .before .before .before .before .kept4 .ensures) (c .before .before .before .before .before .before .before .before .before .before .numbered .ensures) (c .before .before .before .before .before .before .before .before .before .before .before .before .before .before .before .before .before .before .before .before .before .before .truth2 .ensures))
+
+walk-walk-requires-2 : (t : ℕ) → walk-lts.Need-walk-requires-2 (
+  truth-reads.Asked,
+  truth-reads.Learnt,
+  constant-reads.Asked,
+  constant-reads.Learnt,
+  kept-reads.Asked,
+  kept-reads.Learnt,
+  all-bytes-reads.Asked,
+  all-bytes-reads.Learnt,
+  push-reads.Asked,
+  push-reads.Learnt,
+  walk-below t,
+  walk.Post,
+  pen-of-reads.Asked,
+  pen-of-reads.Learnt,
+  half-of-reads.Asked,
+  half-of-reads.Learnt,
+  differs-reads.Asked,
+  differs-reads.Learnt,
+  wait-reads.Asked,
+  wait-reads.Learnt,
+  push-turn-reads.Asked,
+  push-turn-reads.Learnt,
+  is-again-reads.Asked,
+  is-again-reads.Learnt,
+  numbered-reads.Asked,
+  numbered-reads.Learnt,
+  second-reads.Asked,
+  second-reads.Learnt,
+) (walk-at t) walk.Post
+walk-walk-requires-2 t c κs = let a = c .before .before .before .before .before .before .before .before .before .before .before .before .before .before .before .before .before .before .before .before .before .before .before .before .before .before .before .before .before .before .before .before .before .before .before .before .before .before .before .args in
+    let h : (a .d - 1 < t) × ((a .d - 1 ≤ 16) × ((a .i + 1 + (a .d - 1) ≤ 64) × (a .at + 1 * 2 ^ (a .d - 1) % 18446744073709551616 + 2 ^ (a .d - 1) ≤ 65536))) =
+    omega (arith, c .before .before .before .before .before .before .before .before .before .before .before .before .before .before .before .before .before .before .before .before .before .before .before .before .before .before .before .before .before .before .before .before .before .before .before .before .before .before .before .pre, c .before .before .before .before .before .before .before .before .before .before .before .before .before .before .before .before .before .before .before .before .before .before .before .before .before .before .before .before .before .before .before .before .before .before .before .if1 .left, few-words (a .d - 1) (omega (arith, c .before .before .before .before .before .before .before .before .before .before .before .before .before .before .before .before .before .before .before .before .before .before .before .before .before .before .before .before .before .before .before .before .before .before .before .before .before .before .before .pre)), both-halves (a .d) (c .before .before .before .before .before .before .before .before .before .before .before .before .before .before .before .before .before .before .before .before .before .before .before .before .before .before .before .before .before .before .before .before .before .before .before .if1 .left)) in
+    h
+
+walk-second-requires-2 : (t : ℕ) → walk-lts.Need-second-requires-2 (
+  truth-reads.Asked,
+  truth-reads.Learnt,
+  constant-reads.Asked,
+  constant-reads.Learnt,
+  kept-reads.Asked,
+  kept-reads.Learnt,
+  all-bytes-reads.Asked,
+  all-bytes-reads.Learnt,
+  push-reads.Asked,
+  push-reads.Learnt,
+  walk-below t,
+  walk.Post,
+  pen-of-reads.Asked,
+  pen-of-reads.Learnt,
+  half-of-reads.Asked,
+  half-of-reads.Learnt,
+  differs-reads.Asked,
+  differs-reads.Learnt,
+  wait-reads.Asked,
+  wait-reads.Learnt,
+  push-turn-reads.Asked,
+  push-turn-reads.Learnt,
+  is-again-reads.Asked,
+  is-again-reads.Learnt,
+  numbered-reads.Asked,
+  numbered-reads.Learnt,
+  second-reads.Asked,
+  second-reads.Learnt,
+) (walk-at t) walk.Post
+walk-second-requires-2 t c κs = search needs
+
+walk-same-length-7 : (t : ℕ) → walk-lts.Need-same-length-7 (
+  truth-reads.Asked,
+  truth-reads.Learnt,
+  constant-reads.Asked,
+  constant-reads.Learnt,
+  kept-reads.Asked,
+  kept-reads.Learnt,
+  all-bytes-reads.Asked,
+  all-bytes-reads.Learnt,
+  push-reads.Asked,
+  push-reads.Learnt,
+  walk-below t,
+  walk.Post,
+  pen-of-reads.Asked,
+  pen-of-reads.Learnt,
+  half-of-reads.Asked,
+  half-of-reads.Learnt,
+  differs-reads.Asked,
+  differs-reads.Learnt,
+  wait-reads.Asked,
+  wait-reads.Learnt,
+  push-turn-reads.Asked,
+  push-turn-reads.Learnt,
+  is-again-reads.Asked,
+  is-again-reads.Learnt,
+  numbered-reads.Asked,
+  numbered-reads.Learnt,
+  second-reads.Asked,
+  second-reads.Learnt,
+) (walk-at t) walk.Post
+walk-same-length-7 t c = c .before .before .before .before .t4 .given ∙ c .before .before .before .before .before .before .before .before .before .before .before .before .before .t3 .given ∙ c .before .before .before .before .before .before .before .before .before .before .before .before .before .before .before .before .before .before .before .before .before .before .before .before .before .before .before .before .before .before .before .before .before .before .before .before .before .t .given
+
+walk-same-length-8 : (t : ℕ) → walk-lts.Need-same-length-8 (
+  truth-reads.Asked,
+  truth-reads.Learnt,
+  constant-reads.Asked,
+  constant-reads.Learnt,
+  kept-reads.Asked,
+  kept-reads.Learnt,
+  all-bytes-reads.Asked,
+  all-bytes-reads.Learnt,
+  push-reads.Asked,
+  push-reads.Learnt,
+  walk-below t,
+  walk.Post,
+  pen-of-reads.Asked,
+  pen-of-reads.Learnt,
+  half-of-reads.Asked,
+  half-of-reads.Learnt,
+  differs-reads.Asked,
+  differs-reads.Learnt,
+  wait-reads.Asked,
+  wait-reads.Learnt,
+  push-turn-reads.Asked,
+  push-turn-reads.Learnt,
+  is-again-reads.Asked,
+  is-again-reads.Learnt,
+  numbered-reads.Asked,
+  numbered-reads.Learnt,
+  second-reads.Asked,
+  second-reads.Learnt,
+) (walk-at t) walk.Post
+walk-same-length-8 t c = c .before .before .before .out4 .given ∙ c .before .before .before .before .before .before .before .before .before .before .before .before .out3 .given ∙ c .before .before .before .before .before .before .before .before .before .before .before .before .before .before .before .before .before .before .before .before .before .before .before .before .before .before .before .before .before .before .before .before .before .before .before .before .out .given
+
+walk-same-length-9 : (t : ℕ) → walk-lts.Need-same-length-9 (
+  truth-reads.Asked,
+  truth-reads.Learnt,
+  constant-reads.Asked,
+  constant-reads.Learnt,
+  kept-reads.Asked,
+  kept-reads.Learnt,
+  all-bytes-reads.Asked,
+  all-bytes-reads.Learnt,
+  push-reads.Asked,
+  push-reads.Learnt,
+  walk-below t,
+  walk.Post,
+  pen-of-reads.Asked,
+  pen-of-reads.Learnt,
+  half-of-reads.Asked,
+  half-of-reads.Learnt,
+  differs-reads.Asked,
+  differs-reads.Learnt,
+  wait-reads.Asked,
+  wait-reads.Learnt,
+  push-turn-reads.Asked,
+  push-turn-reads.Learnt,
+  is-again-reads.Asked,
+  is-again-reads.Learnt,
+  numbered-reads.Asked,
+  numbered-reads.Learnt,
+  second-reads.Asked,
+  second-reads.Learnt,
+) (walk-at t) walk.Post
+walk-same-length-9 t c = c .before .w7 .given ∙ c .before .before .before .before .before .before .before .before .before .before .w6 .given ∙ c .before .before .before .before .before .before .before .before .before .before .before .before .before .before .before .before .before .before .before .before .before .w4 .given ∙ c .before .before .before .before .before .before .before .before .before .before .before .before .before .before .before .before .before .before .before .before .before .before .before .before .before .w3 .given ∙ c .before .before .before .before .before .before .before .before .before .before .before .before .before .before .before .before .before .before .before .before .before .before .before .before .before .before .before .before .before .before .before .before .before .before .w2 .given ∙ c .before .before .before .before .before .before .before .before .before .before .before .before .before .before .before .before .before .before .before .before .before .before .before .before .before .before .before .before .before .before .before .before .before .before .before .before .before .before .before .before .before .before .before .w .given
+
+walk-returns-6 : (t : ℕ) → walk-lts.Need-returns-6 (
+  truth-reads.Asked,
+  truth-reads.Learnt,
+  constant-reads.Asked,
+  constant-reads.Learnt,
+  kept-reads.Asked,
+  kept-reads.Learnt,
+  all-bytes-reads.Asked,
+  all-bytes-reads.Learnt,
+  push-reads.Asked,
+  push-reads.Learnt,
+  walk-below t,
+  walk.Post,
+  pen-of-reads.Asked,
+  pen-of-reads.Learnt,
+  half-of-reads.Asked,
+  half-of-reads.Learnt,
+  differs-reads.Asked,
+  differs-reads.Learnt,
+  wait-reads.Asked,
+  wait-reads.Learnt,
+  push-turn-reads.Asked,
+  push-turn-reads.Learnt,
+  is-again-reads.Asked,
+  is-again-reads.Learnt,
+  numbered-reads.Asked,
+  numbered-reads.Learnt,
+  second-reads.Asked,
+  second-reads.Learnt,
+) (walk-at t) walk.Post
+walk-returns-6 t c = let a = c .before .before .before .before .before .before .before .before .before .before .before .before .before .before .before .before .before .before .before .before .before .before .before .before .before .before .before .before .before .before .before .before .before .before .before .before .before .before .before .before .before .before .before .before .before .before .before .before .before .before .before .before .before .before .args in
+    let e : a .d ≡ suc (a .d - 1) = omega (arith, c .before .before .before .before .before .before .before .before .before .before .before .before .before .before .before .before .before .before .before .before .before .before .before .before .before .before .before .before .before .before .before .before .before .before .before .before .before .before .before .before .before .before .before .before .before .before .before .before .before .before .if1 .left) in
+    c .before .before .before .before .before .second2 .ensures
     ∙ walk-on (a .v .now) (a .size) (a .d - 1) (a .i) (a .at) (a .m) (a .t .now) (a .out .now) (a .w .now) (penOf (a .pen)) (a .d) e
-    (sym (c .before .before .before .before .before .before .before .before .before .before .before .before .before .before .before .before .before .before .before .before .before .before .before .before .before .before .before .before .before .before .before .before .before .before .before .before .before .before .before .before .before .before .before .before .before .before .before .all-bytes .ensures) ∙ c .before .before .before .before .before .before .before .before .before .before .before .before .before .before .before .before .before .before .before .before .before .before .before .before .before .before .before .before .before .before .before .before .before .before .before .before .before .before .before .before .before .before .before .before .before .before .if2 .left) (sym (c .before .before .before .before .before .before .before .before .before .before .before .before .before .before .before .before .before .before .before .before .before .before .before .before .before .before .before .before .before .before .before .before .before .before .before .before .before .before .before .before .before .before .before .before .before .all-bytes2 .ensures) ∙ c .before .before .before .before .before .before .before .before .before .before .before .before .before .before .before .before .before .before .before .before .before .before .before .before .before .before .before .before .before .before .before .before .before .before .before .before .before .before .before .before .before .before .before .before .if3 .left) _ _ (c .before .before .before .before .before .before .before .before .before .before .before .before .before .before .before .before .before .before .before .before .before .before .before .before .before .before .before .before .before .before .before .before .before .before .before .before .before .before .before .before .before .before .push .ensures) (c .before .before .before .before .before .before .before .before .before .before .before .before .before .before .before .before .before .before .before .before .before .before .before .before .before .before .before .before .before .before .before .before .before .before .before .before .walk .ensures)
-    (halfOf (c .before .before .before .before .before .before .before .before .before .before .before .before .before .before .before .before .before .before .before .before .before .before .before .before .before .before .before .before .half-of .result)) (penOf (c .before .before .before .before .before .before .before .before .before .before .before .before .before .before .before .before .before .before .before .before .before .before .before .before .before .before .before .before .before .before .pen-of .result)) _ _ _ _ _ (ap halfOf (c .before .before .before .before .before .before .before .before .before .before .before .before .before .before .before .before .before .before .before .before .before .before .before .before .before .before .before .before .half-of .ensures)) (ap penOf (c .before .before .before .before .before .before .before .before .before .before .before .before .before .before .before .before .before .before .before .before .before .before .before .before .before .before .before .before .before .before .pen-of .ensures))
-    (few-words (a .d - 1) (omega (arith, c .before .before .before .before .before .before .before .before .before .before .before .before .before .before .before .before .before .before .before .before .before .before .before .before .before .before .before .before .before .before .before .before .before .before .before .before .before .before .before .before .before .before .before .before .before .before .before .before .before .before .before .before .pre))) (c .before .before .before .before .before .before .before .before .before .before .before .before .before .before .before .before .before .before .before .before .before .before .before .before .before .before .before .before .before .if4 .left)
-    (c .before .before .before .before .before .before .before .before .before .before .before .before .before .before .before .before .before .before .before .before .before .before .before .before .before .before .differs .ensures ∙ ap (differ (c .before .before .before .before .before .before .before .before .before .before .before .before .before .before .before .before .before .before .before .before .before .before .before .before .before .before .before .before .half-of .result .complement)) (c .before .before .before .before .before .before .before .before .before .before .before .before .before .before .before .before .before .before .before .before .before .before .before .before .before .before .before .truth2 .ensures)) (c .before .before .before .before .before .before .before .before .before .before .before .before .before .before .before .before .before .before .before .before .before .before .before .before .wait .ensures) (c .before .before .before .before .before .before .before .before .before .before .before .before .before .before .before .before .before .before .before .before .push-turn .ensures) (c .before .before .before .before .before .before .before .before .before .before .before .before .before .before .walk2 .ensures)
+    (sym (c .before .before .before .before .before .before .before .before .before .before .before .before .before .before .before .before .before .before .before .before .before .before .before .before .before .before .before .before .before .before .before .before .before .before .before .before .before .before .before .before .before .before .before .before .before .before .before .before .before .all-bytes .ensures) ∙ c .before .before .before .before .before .before .before .before .before .before .before .before .before .before .before .before .before .before .before .before .before .before .before .before .before .before .before .before .before .before .before .before .before .before .before .before .before .before .before .before .before .before .before .before .before .before .before .before .if2 .left) (sym (c .before .before .before .before .before .before .before .before .before .before .before .before .before .before .before .before .before .before .before .before .before .before .before .before .before .before .before .before .before .before .before .before .before .before .before .before .before .before .before .before .before .before .before .before .before .before .before .all-bytes2 .ensures) ∙ c .before .before .before .before .before .before .before .before .before .before .before .before .before .before .before .before .before .before .before .before .before .before .before .before .before .before .before .before .before .before .before .before .before .before .before .before .before .before .before .before .before .before .before .before .before .before .if3 .left) _ _ (c .before .before .before .before .before .before .before .before .before .before .before .before .before .before .before .before .before .before .before .before .before .before .before .before .before .before .before .before .before .before .before .before .before .before .before .before .before .before .before .before .before .before .before .before .push .ensures) (c .before .before .before .before .before .before .before .before .before .before .before .before .before .before .before .before .before .before .before .before .before .before .before .before .before .before .before .before .before .before .before .before .before .before .before .before .before .before .walk .ensures)
+    (halfOf (c .before .before .before .before .before .before .before .before .before .before .before .before .before .before .before .before .before .before .before .before .before .before .before .before .before .before .before .before .before .before .half-of .result)) (penOf (c .before .before .before .before .before .before .before .before .before .before .before .before .before .before .before .before .before .before .before .before .before .before .before .before .before .before .before .before .before .before .before .before .pen-of .result)) _ _ _ _ _ (ap halfOf (c .before .before .before .before .before .before .before .before .before .before .before .before .before .before .before .before .before .before .before .before .before .before .before .before .before .before .before .before .before .before .half-of .ensures)) (ap penOf (c .before .before .before .before .before .before .before .before .before .before .before .before .before .before .before .before .before .before .before .before .before .before .before .before .before .before .before .before .before .before .before .before .pen-of .ensures))
+    (few-words (a .d - 1) (omega (arith, c .before .before .before .before .before .before .before .before .before .before .before .before .before .before .before .before .before .before .before .before .before .before .before .before .before .before .before .before .before .before .before .before .before .before .before .before .before .before .before .before .before .before .before .before .before .before .before .before .before .before .before .before .before .before .pre))) (c .before .before .before .before .before .before .before .before .before .before .before .before .before .before .before .before .before .before .before .before .before .before .before .before .before .before .before .before .before .before .before .if4 .left)
+    (c .before .before .before .before .before .before .before .before .before .before .before .before .before .before .before .before .before .before .before .before .before .before .before .before .before .before .before .before .differs .ensures ∙ ap (differ (c .before .before .before .before .before .before .before .before .before .before .before .before .before .before .before .before .before .before .before .before .before .before .before .before .before .before .before .before .before .before .half-of .result .complement)) (c .before .before .before .before .before .before .before .before .before .before .before .before .before .before .before .before .before .before .before .before .before .before .before .before .before .before .before .before .before .truth2 .ensures)) (c .before .before .before .before .before .before .before .before .before .before .before .before .before .before .before .before .before .before .before .before .before .before .before .before .before .before .wait .ensures) (c .before .before .before .before .before .before .before .before .before .before .before .before .before .before .before .before .before .before .before .before .before .before .push-turn .ensures)
+    (sym (c .before .before .before .before .before .before .before .before .before .before .before .before .before .before .before .before .before .before .before .is-again .ensures) ∙ c .before .before .before .before .before .before .before .before .before .before .before .before .before .before .before .before .before .before .if5 .left) (c .before .before .before .before .before .before .before .before .before .before .before .before .before .before .walk2 .ensures)
 
 pub +walk-spec : {M : Type 1} → statement M
 +walk-spec = close μ-walk λ t. walk-lts.spec (
@@ -1065,6 +1476,10 @@ pub +walk-spec : {M : Type 1} → statement M
   wait-reads.Learnt,
   push-turn-reads.Asked,
   push-turn-reads.Learnt,
+  is-again-reads.Asked,
+  is-again-reads.Learnt,
+  numbered-reads.Asked,
+  numbered-reads.Learnt,
   second-reads.Asked,
   second-reads.Learnt,
 )
@@ -1099,9 +1514,17 @@ pub +walk-spec : {M : Type 1} → statement M
     (walk-differs-requires t)
     (walk-wait-requires t)
     (walk-push-turn-requires t)
-    (walk-walk-requires-2 t)
+    (walk-is-again-requires t)
+    (walk-numbered-requires t)
+    (walk-kept-requires-4 t)
     (walk-second-requires t)
     (walk-same-length-4 t)
     (walk-same-length-5 t)
     (walk-same-length-6 t)
     (walk-returns-5 t)
+    (walk-walk-requires-2 t)
+    (walk-second-requires-2 t)
+    (walk-same-length-7 t)
+    (walk-same-length-8 t)
+    (walk-same-length-9 t)
+    (walk-returns-6 t)
