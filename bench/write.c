@@ -1,6 +1,6 @@
 /*
- * write: the time of writing a truth table of 16 options, a random one with several table sizes and a constant one: microseconds for a call, and
- * nanoseconds for each two-child node written out. Beside it the time of checking the stream that was written, and the ratio. Both run in turns; the
+ * write: the time of writing a truth table of 16 options, a random one with several table sizes, parity, whose second halves are the first ones
+ * turned about, and a constant one: microseconds for a call, and nanoseconds for each two-child node written out. Beside it the time of checking the stream that was written, and the ratio. Both run in turns; the
  * best turn of each counts. Each call has to clear its work table of 1,024 records, and that is in its time.
  */
 #define _POSIX_C_SOURCE 199309L
@@ -94,6 +94,13 @@ int main(void)
     }
     for (i = 0; i < sizeof sizes / sizeof *sizes; i++)
         measure("random", sizes[i]);
+    for (i = 0; i < TRUTH_BYTES; i++) {
+        size_t bits = i, odd = 0;
+        for (; bits != 0; bits >>= 1)
+            odd ^= bits & 1;
+        truths[i] = odd ? 0x69 : 0x96;
+    }
+    measure("parity", 1024);
     memset(truths, 0xff, TRUTH_BYTES);
     measure("constant", 1024);
     return 0;
