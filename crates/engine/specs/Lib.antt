@@ -27,3 +27,6 @@ pub mod Walking
 pub mod Streaming
 -- The call
 pub mod WriteMade
+-- Combining: the walk over stored nodes
+pub mod Applying
+pub mod ApplyLaws
