@@ -30,3 +30,6 @@ pub mod WriteMade
 -- Combining: the walk over stored nodes
 pub mod Applying
 pub mod ApplyLaws
+-- Combining: the walk over texts
+pub mod Taping
+pub mod TapeLaws

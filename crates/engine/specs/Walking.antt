@@ -380,11 +380,11 @@ block-leads n size d i at m o T p w f t out pen s c r e st here h =
     (constant-leads n size i m o T p w t out pen s c st here)
 
 -- where the first half begins
-first-at : (c d at : ℕ) → at ≡ c * 2 ^ suc d → at ≡ c * 2 * 2 ^ d
+pub first-at : (c d at : ℕ) → at ≡ c * 2 ^ suc d → at ≡ c * 2 * 2 ^ d
 first-at c d at e = e ∙ ap (λ (k : ℕ). c * k) (pow-suc 2 d ∙ mul-comm (2 ^ d) 2) ∙ sym (mul-assoc c 2 (2 ^ d))
 
 -- where the second begins
-second-at : (c d at : ℕ) → at ≡ c * 2 ^ suc d → at + 2 ^ d ≡ (c * 2 + 1) * 2 ^ d
+pub second-at : (c d at : ℕ) → at ≡ c * 2 ^ suc d → at + 2 ^ d ≡ (c * 2 + 1) * 2 ^ d
 second-at c d at e =
     ap (λ (k : ℕ). k + 2 ^ d) (first-at c d at e)
     ∙ ap (λ (k : ℕ). c * 2 * 2 ^ d + k) (sym (one-mul (2 ^ d))) ∙ sym (add-mul (c * 2) 1 (2 ^ d))

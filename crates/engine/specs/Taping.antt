@@ -1,0 +1,123 @@
+-- The part of a combiner that walks the texts of its inputs: each stands at an edge of its table, or in its text at a block that a
+-- tape has read. Definitions only; code mirrors them, and TapeLaws ties them to the walk of Online. Assumes nothing.
+use mathlib.Core.Bool.{Bool, true, false, cond, _&&_, _||_}
+use mathlib.Core.List.{List, [], _∷_}
+use Prim.Native.Nat.{ℕ, zero, suc, _+_, _^_}
+use lib.Dec.{eqb, leb}
+use Rattle.lists.specs.Lists.{differ}
+use Rattle.reading.specs.Bytes.{opener}
+use Rattle.writing.specs.Texts.{tildeIf}
+use Rattle.engine.specs.Pending.{pushAll, waitIn}
+use Rattle.engine.specs.Engine.{Pen, Walked, secondIn}
+use Rattle.engine.specs.Applying.{Source, firstSource, secondSource, applyIn}
+
+-- ---- What is known ---------------------------------------------------------------------------
+
+-- An input at a part: its tape; whether it is still in its text, the tape at the block that begins with the part and is smaller; else
+-- the edge that stands for the whole part
+pub record Feed (Tape : Type 0) : Type 0 where
+  pub tape : Tape
+  pub inText : Bool
+  pub source : Source
+
+-- after a part: the engine, the inputs' tapes, and whether the first word that is not covered was met
+pub record Applied (Tape : Type 0) : Type 0 where
+  pub walked : Walked
+  pub tapes : List Tape
+  pub ended : Bool
+
+-- ---- Inputs and their tapes ------------------------------------------------------------------
+
+module _ {Tape : Type 0} where
+  -- an input with a tape put in
+  abbrev pub onTape : Feed Tape → Tape → Feed Tape
+  onTape f τ = record { tape = τ; inText = f .inText; source = f .source }
+
+  -- at an edge, with its tape kept
+  abbrev pub atEdge : Feed Tape → Source → Feed Tape
+  atEdge f x = record { tape = f .tape; inText = false; source = x }
+
+  -- one of them is still in its text
+  abbrev pub anyText : List (Feed Tape) → Bool
+  anyText [] = false
+  anyText (f ∷ fs) = f .inText || anyText fs
+
+  -- their edges
+  abbrev pub sources : List (Feed Tape) → List Source
+  sources [] = []
+  sources (f ∷ fs) = f .source ∷ sources fs
+
+  -- their tapes
+  abbrev pub tapesOf : List (Feed Tape) → List Tape
+  tapesOf [] = []
+  tapesOf (f ∷ fs) = f .tape ∷ tapesOf fs
+
+  -- with the tapes of a list put in, as many
+  abbrev pub resume : List (Feed Tape) → List Tape → List (Feed Tape)
+  resume [] τs = []
+  resume (f ∷ fs) [] = f ∷ fs
+  resume (f ∷ fs) (τ ∷ τs) = onTape f τ ∷ resume fs τs
+
+  -- nothing is walked after it: the first word that is not covered was met, or more was sent than the output holds
+  abbrev pub halted : Applied Tape → Bool
+  halted a = a .ended || a .walked .pen .full
+
+  -- the first word after it is not covered
+  abbrev pub endedAt : Applied Tape → Applied Tape
+  endedAt a = record { walked = a .walked; tapes = a .tapes; ended = true }
+
+  -- the walk went on, with these tapes
+  abbrev pub wentOn : Walked → List Tape → Applied Tape
+  wentOn x τs = record { walked = x; tapes = τs; ended = false }
+
+-- ---- The halves of a part --------------------------------------------------------------------
+
+-- deepOf: how many nodes are open around a tape's block; sourceOf: the edge that stands for it; next: the tape a block further
+module _ {Tape : Type 0} (deepOf : Tape → ℕ) (sourceOf : Tape → Source) (next : Tape → Tape) where
+  -- at a part of level i: a block as great as the part is an edge
+  abbrev pub settle : ℕ → Feed Tape → Feed Tape
+  settle i f = cond (f .inText && eqb (deepOf (f .tape) + 1) i) (atEdge f (sourceOf (f .tape))) f
+
+  -- at the two halves of a part of level i
+  abbrev pub firstFeed : ℕ → Feed Tape → Feed Tape
+  firstFeed i f = cond (f .inText) (settle (i + 1) f) (atEdge f (firstSource i (f .source)))
+
+  abbrev pub secondFeed : ℕ → Feed Tape → Feed Tape
+  secondFeed i f = cond (f .inText) (settle (i + 1) (onTape f (next (f .tape)))) (atEdge f (secondSource i (f .source)))
+
+  -- all of them
+  abbrev pub firstFeeds : ℕ → List (Feed Tape) → List (Feed Tape)
+  firstFeeds i [] = []
+  firstFeeds i (f ∷ fs) = firstFeed i f ∷ firstFeeds i fs
+
+  abbrev pub secondFeeds : ℕ → List (Feed Tape) → List (Feed Tape)
+  secondFeeds i [] = []
+  secondFeeds i (f ∷ fs) = secondFeed i f ∷ secondFeeds i fs
+
+  -- which of them are turned about: what they decide at the first word of the part
+  abbrev pub turnsOf : List (Feed Tape) → List Bool
+  turnsOf [] = []
+  turnsOf (f ∷ fs) = cond (f .inText) (sourceOf (f .tape) .turned) (f .source .turned) ∷ turnsOf fs
+
+  -- ---- The walk over texts --------------------------------------------------------------------
+
+  -- The part of level i whose words are at .. at + 2 ^ d - 1, after m bytes that wait. c: how many words are covered, more than
+  -- `at`; op: what the inputs' decisions come to
+  unfoldable pub textIn : (List Bool → Bool) → ℕ → ℕ → ℕ → ℕ → ℕ → ℕ → List (Feed Tape) → List (List ℕ) → List ℕ → List ℕ → Pen
+      → Applied Tape
+  textIn op c size zero i at m fs t out w pen = wentOn (applyIn op size 0 i m (sources fs) t out w pen) (tapesOf fs)
+  textIn op c size (suc d) i at m fs t out w pen =
+      let p = pushAll w m (opener ∷ []) in
+      let a = textIn op c size d (i + 1) at (p .count) (firstFeeds i fs) t out (p .bytes) pen in
+      let h = a .walked .half in
+      let zs = secondFeeds i (resume fs (a .tapes)) in
+      let u = differ (h .complement) (op (turnsOf zs)) in
+      let q = waitIn (a .walked .waits) (p .count) (h .wrote) (h .skipped) (h .number) in
+      let r = pushAll (q .bytes) (q .count) (tildeIf u) in
+      let b = textIn op c size d (i + 1) (at + 2 ^ d) (r .count) zs (a .walked .table) (a .walked .output) (r .bytes)
+      (a .walked .pen) in
+      cond (anyText fs)
+      (cond (halted a) a
+      (cond (leb c (at + 2 ^ d)) (endedAt a)
+      (cond (halted b) b (wentOn (secondIn size i (r .count) u h (b .walked)) (b .tapes)))))
+      (wentOn (applyIn op size (suc d) i m (sources fs) t out w pen) (tapesOf fs))
