@@ -1,18 +1,19 @@
 -- One turn of the code's loop is one element more of the theory's reading. Assumes nothing.
 use mathlib.Core.Path.{_≡_, refl, sym, ap, ap₂, _∙_, subst}
 use mathlib.Core.Bool.{Bool, true, false, cond, not, _&&_, _||_, true≢false, false≢true}
-use mathlib.Core.List.{List, []}
+use mathlib.Core.List.{List, [], _∷_}
 use mathlib.Core.Option.{none, some}
 use Prim.{tt}
 use Prim.Native.Nat.{ℕ, zero, suc, _+_, _<_, _≤_}
 use native.Mathlib.Omega.{arith}
 use lib.Dec.{ltb, eqb}
-use lib.ListN.{length, getD, set, replicate, length-set}
+use lib.ListN.{length, getD, set, replicate, length-set, length-replicate}
 use borrow.Author.Tests.{eqb-true, eqb-false, eq-eqb, ne-eqb, ltb-false}
 use Rattle.reading.specs.Bytes.{colon}
 use Rattle.reading.specs.Nodes.{Node, noNode, node, stamp, terminal, entry, temporary, bars}
 use Rattle.reading.specs.Causes.{notStorable}
 use Rattle.reading.specs.Element as T
+use Rattle.reader.specs.Glance as G
 use Rattle.reading.specs.Reading.{State, Reading, goes, fails, isStart, isTwo, barredColon, firstDigit, withElement, after, advance}
 use Rattle.reading.specs.Deciding.{drawing, Trace}
 use Rattle.reading.specs.Prefix.{chosen, byteAt, advance-chosen, trace-past}
@@ -238,7 +239,7 @@ module _ (n : ℕ) (r : Run) (d : ℕ) (o : Open) (g : ℕ) (x : Row) (at : ℕ)
   refused : {A : Type 0} → true ≡ false → A
   refused q = absurd (true≢false q)
 
-  taken-at : (e : Element) → Onto (takenOf n r d o g e x at m)
+  pub taken-at : (e : Element) → Onto (takenOf n r d o g e x at m)
   taken-at E.Opening = onto-cond (ltb n (d + 1)) _ _ refused (λ _. refl)
   taken-at (E.Number v) =
       onto-cond (isStart (markOf (r .mark))) _ _ (onto-cond (ltb 1024 v) _ _ refused (λ _. refl))
@@ -401,6 +402,36 @@ cap-ahead a i l (T.got T.end) q h = h
 cap-ahead a i l (T.fault k b) q h = h
 cap-ahead a i l T.ranOut q h = h
 
+-- some d open nodes, low the innermost
+abbrev opensFor : ℕ → Open → List T.Open
+opensFor zero low = []
+opensFor (suc d) low = openOf low ∷ replicate d T.inFirst
+
+for-top : (d : ℕ) (low : Open) → G.topOf (opensFor d low) ≡ sideOf d low
+for-top zero low = refl
+for-top (suc d) low = rw (ne-eqb (suc d) 0 (λ z. omega (arith, z))) (go (low .second))
+  where
+    go : (b : Bool) → G.topOf (cond b (T.inSecond (refOf (low .first)) (low .turned)) T.inFirst ∷ replicate d T.inFirst) ≡ cond b G.outer G.inner
+    go true = refl
+    go false = refl
+
+for-length : (d : ℕ) (low : Open) → length (opensFor d low) ≡ d
+for-length zero low = refl
+for-length (suc d) low = ap suc (length-replicate d T.inFirst)
+
+-- An element ends behind its place.
+pub look-ahead : (bytes : List ℕ) (r : Run) (d : ℕ) (low : Open) (x : Look) → lookOf x ≡ lookAt bytes (r .at) (markOf (r .mark)) (r .last) d low → (e : Element) → outcomeIn x ≡ Got e → r .at < length bytes → r .at < x .at
+look-ahead bytes r d low x s e got l =
+    let k = deepOf d in
+    let b = getD bytes (r .at) 0 in
+    let p = T.place (r .at) (markOf (r .mark)) (opensFor k low) (refOf (r .last)) in
+    let A : T.Outcome → ℕ → Type 0 = λ (o : T.Outcome) (q : ℕ). AheadBy (r .at) (digitPlace (r .at) b) (length bytes) o q in
+    let y = G.glance bytes (r .at) (markOf (r .mark)) (sideOf k low) k in
+    let g : T.step p bytes ≡ G.applied p y
+    = G.step-glance p bytes ∙ ap₂ (λ (u : G.Top) (i : ℕ). G.applied p (G.glance bytes (r .at) (markOf (r .mark)) u i)) (for-top k low) (for-length k low) in
+    let a = cap-ahead (r .at) (digitPlace (r .at) b) (length bytes) (y .outcome) (y .at) (subst (λ (z : T.Step). A (z .outcome) (z .place .at)) g (step-ahead p bytes b (look-inside bytes (r .at) 0 l))) in
+    subst (λ (o : Outcome). A (outcomeOf o) (x .at)) got (subst (λ (z : Looked). A (z .outcome) (z .at)) (sym s) a) .0
+
 -- x is the look that code has at a place
 module _ (n : ℕ) (bytes : List ℕ) (r : Run) (o : Opens) (t : List (List ℕ)) (kept : Kept r o t)
     (x : Look) (seen : lookOf x ≡ lookAt bytes (r .at) (markOf (r .mark)) (r .last) (o .depth) (lowOf o)) where
@@ -436,15 +467,6 @@ module _ (n : ℕ) (bytes : List ℕ) (r : Run) (o : Opens) (t : List (List ℕ)
   advance-out : outcomeIn x ≡ RanOut → barredColon s b ≡ false → advance n bytes s ≡ goes s
   unfolding after
   advance-out e free = advance-look free ∙ ap (λ (y : Outcome). after n s (firstDigit s b) (outcomeOf y) onto) e
-
-  -- an element ends behind its place
-  ahead-look : (e : Element) → outcomeIn x ≡ Got e → r .at < length bytes → r .at < x .at
-  ahead-look e got l =
-      let p : Place = record { at = r .at; mark = r .mark; opens = o; last = r .last } in
-      let j = place-step bytes p (kept .nodes) (lowAt (o .depth)) (highAt (o .depth)) refl refl x seen in
-      let k = step-ahead (s .place) bytes b (look-inside bytes (r .at) 0 l) in
-      subst (λ (u : Outcome). AheadBy (r .at) (digitPlace (r .at) b) (length bytes) (outcomeOf u) (x .at)) got
-      (subst (λ (z : T.Step). AheadBy (r .at) (digitPlace (r .at) b) (length bytes) (z .outcome) (z .place .at)) (sym j) (cap-ahead (r .at) (digitPlace (r .at) b) (length bytes) (T.step (s .place) bytes .outcome) (T.step (s .place) bytes .place .at) k)) .0
 
   -- the look gives the element e
   module _ (e : Element) (got : outcomeIn x ≡ Got e) (young : Young r t) where
@@ -552,7 +574,7 @@ module _ (n : ℕ) (bytes : List ℕ) (r : Run) (o : Opens) (t : List (List ℕ)
 
       -- The place moves on.
       ahead-element : r .at < length bytes → r .at < y .run .at
-      ahead-element l = subst (λ (i : ℕ). r .at < i) (sym (taken-at n r (o .depth) (lowOf o) (firstDigit s b) (getIn t (r .size) (x .number)) (x .at) (x .mark) e f)) (ahead-look e got l)
+      ahead-element l = subst (λ (i : ℕ). r .at < i) (sym (taken-at n r (o .depth) (lowOf o) (firstDigit s b) (getIn t (r .size) (x .number)) (x .at) (x .mark) e f)) (look-ahead bytes r (o .depth) (lowOf o) x seen e got l)
 
 -- ---- A turn of the loop ----------------------------------------------------------------------
 

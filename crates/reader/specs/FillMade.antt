@@ -1,6 +1,5 @@
 -- Filling a truth table node by node, from what the loop reaches. Assumes nothing.
 use mathlib.Core.Path.{_≡_, sym, ap, ap₂, _∙_, subst}
-use mathlib.Core.Logic.{⊎-elim}
 use mathlib.Core.Bool.{Bool, true, false, cond}
 use mathlib.Core.List.{List, []}
 use mathlib.Core.Option.{none}
@@ -8,7 +7,7 @@ use Prim.Native.Nat.{ℕ, suc, _+_, _-_, _/_, _<_, _≤_, _^_}
 use native.Mathlib.Omega.{arith}
 use lib.ListN.{length, replicate}
 use lib.Pow.{pow-mono}
-use Rattle.lists.specs.Lists.{differ, decide-le}
+use Rattle.lists.specs.Lists.{differ}
 use Rattle.reading.specs.Nodes.{Node, child}
 use Rattle.reading.specs.Reading.{State, Reading, reading}
 use Rattle.reading.specs.Deciding.{Trace, traceOn, trace}
@@ -17,7 +16,7 @@ use Rattle.reading.specs.Covered.{parity}
 use Rattle.reading.specs.Settled.{never-some}
 use Rattle.reading.specs.Passing.{startTrace}
 use Rattle.reading.specs.Filling.{putNode}
-use Rattle.reading.specs.Reaching.{At, at-fault, at-end, at-end-trace, at-within, at-grows, at-most, at-passes, filled-first, filled-alike, filled-on}
+use Rattle.reading.specs.Reaching.{At, at-fault, at-end, at-end-trace, at-within, at-most, filled-first, filled-alike, filled-on}
 use Rattle.reader.specs.Cite.{refOf, causeOf, openList}
 use Rattle.reader.specs.TableLaws.{tableOf}
 use Rattle.reader.specs.Simulation.{child-of}
@@ -26,6 +25,8 @@ use Rattle.reader.specs.Loop.{firstRun, firstOpens, Stands, stands-first
 use Rattle.reader.specs.Truths.{putNodeIn}
 use Rattle.reader.specs.TruthLaws.{put-truths}
 use Rattle.reader.specs.CallsMade.{edgeAt}
+use Rattle.reader.specs.ReadOn.{readAll, read-called}
+use Rattle.reader.specs.BlockLaws.{passed-from, passed-covers}
 use Rattle.reader.specs.declared.Edge.{Edge}
 use Rattle.reader.specs.declared.Opens.{Opens}
 use Rattle.reader.specs.declared.Run.{Run}
@@ -46,8 +47,11 @@ pub filled-begun : (n : ℕ) (bytes : List ℕ) (t : List (List ℕ)) (v : List 
 filled-begun n bytes t v r o room e re oe = subst (λ (x : Run). FilledTo n bytes x o t v) (sym re) (subst (λ (y : Opens). FilledTo n bytes firstRun y t v) (sym oe) (filled-start n bytes t v room e))
 
 -- x: what the loop reaches from where r stands, with r's covered count as its stop
-module _ (n : ℕ) (bytes : List ℕ) (r : Run) (o : Opens) (t : List (List ℕ)) (v : List ℕ) (h : FilledTo n bytes r o t v)
-    (x : Reached) (u : List (List ℕ)) (reached : ReachedBy n bytes (r .covered) x u) where
+module _ (n : ℕ) (bytes : List ℕ) (r : Run) (o : Opens) (t : List (List ℕ)) (v : List ℕ) (h : FilledTo n bytes r o t v) (few : n ≤ 32)
+    (x : Reached) (u : List (List ℕ)) (called : record { reached = x; table = u } ≡ readAll n bytes (r .covered) r o t) where
+  reached : ReachedBy n bytes (r .covered) x u
+  reached = read-called n bytes few (r .covered) r o t (h .stands) (omega arith) x u called
+
   abbrev s : State
   s = stateAt r o t
 
@@ -75,9 +79,9 @@ module _ (n : ℕ) (bytes : List ℕ) (r : Run) (o : Opens) (t : List (List ℕ)
           ∙ filled-alike n bytes (h .stands .steps) (reached .stands .steps) s s′ here there (omega (arith, l, most)) (2 ^ n / 8)
           ∙ ap (λ (y : Trace). bytesFrom (2 ^ n / 8) n y 0) (sym (at-end-trace n bytes (reached .stands .steps) s′ there k))
 
-  module _ (e : x .halted ≡ false) where
+  module _ (halts : x .halted ≡ false) where
     past : (r .covered < x .run .covered) × PassedLast n bytes (x .run .mark) (reached .stands .steps) (r .covered) (x .from) (x .deep)
-    past = subst (Ends n bytes (r .covered) x u (reached .stands .steps)) e (reached .ends)
+    past = subst (Ends n bytes (r .covered) x u (reached .stands .steps)) halts (reached .ends)
 
     abbrev p : PassedLast n bytes (x .run .mark) (reached .stands .steps) (r .covered) (x .from) (x .deep)
     p = past .1
@@ -85,18 +89,10 @@ module _ (n : ℕ) (bytes : List ℕ) (r : Run) (o : Opens) (t : List (List ℕ)
     there-last : At n bytes (suc (p .before)) s′
     there-last = subst (λ (f : ℕ). At n bytes f s′) (p .last) there
 
-    -- what is passed begins where the table is filled to
-    from-here : x .from ≡ r .covered
-    from-here = ⊎-elim
-        (λ (l : h .stands .steps ≤ p .before). omega (arith, p .low, p .covered, at-grows n bytes (h .stands .steps) (p .before) s (p .state) l here (p .here)))
-        (λ (l : p .before < h .stands .steps). absurd (omega (arith, past .0, at-grows n bytes (suc (p .before)) (h .stands .steps) s′ s (omega (arith, l)) there-last here)))
-        (decide-le (h .stands .steps) (p .before))
-
     -- The words that are passed fit. m: the options below
     pub words-fit : (m : ℕ) → n ≤ 16 → m ≡ n - x .deep → (m ≤ 16) × ((x .deep + 1 + m ≤ 64) × (x .from + 2 ^ m ≤ 65536))
     words-fit m few e =
-        let a = at-passes n bytes (p .before) (p .state) s′ (p .here) there-last (omega (arith, p .covered, p .low, past .0)) in
-        let b : x .from + 2 ^ m ≡ x .run .covered = sym (a ∙ ap₂ (λ (c d : ℕ). c + 2 ^ (n - d)) (p .covered) (p .depth) ∙ ap (λ (d : ℕ). x .from + 2 ^ d) (sym e)) in
+        let b : x .from + 2 ^ m ≡ x .run .covered = sym (passed-covers n bytes r o t (h .stands) x u reached halts ∙ ap (λ (d : ℕ). x .from + 2 ^ d) (sym e)) in
         (omega (arith, few, e), (omega (arith, few, e, p .shallow), omega (arith, b, at-within n bytes (reached .stands .steps) s′ there, pow-mono {i = n} {j = 16} few)))
 
     pub words-shallow : x .deep ≤ 32
@@ -107,7 +103,7 @@ module _ (n : ℕ) (bytes : List ℕ) (r : Run) (o : Opens) (t : List (List ℕ)
     words-more w three k = record { stands = reached .stands; words = k ∙ ap (putNodeIn (n - x .deep) (tableOf u (x .run .size)) (x .deep + 1) (edgeAt x .number) (edgeAt x .turned) (x .from)) before-words ∙ put-truths (n - x .deep) (tableOf u (x .run .size)) (x .deep + 1) (edgeAt x .number) (edgeAt x .turned) (x .from) (2 ^ n / 8) n (traceOn (p .before) n bytes startTrace) (traceOn (reached .stands .steps) n bytes startTrace) after-words }
       where
         before-words : v ≡ filled (p .before)
-        before-words = h .words ∙ filled-alike n bytes (h .stands .steps) (p .before) s (p .state) here (p .here) (sym (p .covered ∙ from-here)) (2 ^ n / 8)
+        before-words = h .words ∙ filled-alike n bytes (h .stands .steps) (p .before) s (p .state) here (p .here) (sym (p .covered ∙ passed-from n bytes r o t (h .stands) x u reached halts)) (2 ^ n / 8)
 
         N : List Node → ℕ → ℕ → ℕ → List ℕ
         N tb d a i = putNode (n - d) tb (d + 1) a (differ (parity (openList (x .opens))) (x .run .complement)) i (filled (p .before))

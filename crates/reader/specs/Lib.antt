@@ -12,10 +12,13 @@ pub mod CappedElement
 pub mod TableLaws
 pub mod Advance
 pub mod Turn
+pub mod Turning
 pub mod Loop
 pub mod Answers
 pub mod Truths
 pub mod WalkLaws
 pub mod TruthLaws
 pub mod CallsMade
+pub mod ReadOn
+pub mod BlockLaws
 pub mod FillMade

@@ -5,17 +5,16 @@ use mathlib.Core.Bool.{Bool, true, false}
 use mathlib.Core.List.{List}
 use Prim.Native.Nat.{ℕ, suc, _-_, _<_, _≤_}
 use native.Mathlib.Omega.{arith}
-use lib.ListN.{length, getD, set, replicate, length-replicate}
+use lib.ListN.{length, replicate, length-replicate}
 use Rattle.reading.specs.Reading.{State, isStart}
 use Rattle.reading.specs.Reaching.{At, at-start, at-next, at-covered, at-stamp}
-use Rattle.reader.specs.Cite.{markOf, insideOpen, terminalRef, temporaryRef, opensOf, spotsOf}
+use Rattle.reader.specs.Cite.{markOf, insideOpen, terminalRef, temporaryRef, opensOf}
 use Rattle.reader.specs.declared.Cause.the-variants.{WrongByte}
 use Rattle.reader.specs.declared.Open.{Open}
 use Rattle.reader.specs.declared.Opens.{Opens}
 use Rattle.reader.specs.declared.Mark.{Mark}
 use Rattle.reader.specs.declared.Mark.the-variants.{Start}
 use Rattle.reader.specs.declared.Run.{Run}
-use Rattle.reader.specs.declared.Spots.{Spots}
 use Rattle.reader.specs.declared.Turn.{Turn}
 use Rattle.reader.specs.declared.Reached.{Reached}
 use Rattle.reader.specs.Table.{getIn}
@@ -59,6 +58,10 @@ stands-begun n bytes t r o room re oe = subst (λ (x : Run). Stands n bytes x o 
 pub first-none : (r : Run) (stop : ℕ) → r ≡ firstRun → r .covered ≤ stop
 first-none r stop e = let z : r .covered ≡ 0 = ap (λ (x : Run). x .covered) e in omega (arith, z)
 
+-- No node is open yet.
+pub first-shallow : (o : Opens) → o ≡ firstOpens → o .depth ≤ 32
+first-shallow o e = let z : o .depth ≡ 0 = ap (λ (x : Opens). x .depth) e in omega (arith, z)
+
 -- ---- What is reached -------------------------------------------------------------------------
 
 -- The last of the steps, which has come to the mark m, passed the words from `from` on, inside `deep` open nodes.
@@ -98,14 +101,14 @@ module _ (n : ℕ) (bytes : List ℕ) (few : n ≤ 32) (r : Run) (o : Opens) (t 
   -- the turn's result y, with the lent table u
   module _ (y : Turn) (u : List (List ℕ)) (made : TurnMade n bytes r (o .depth) (lowOf o) t y u) where
     -- A turn that does not go on halts, and lends nothing.
-    halts-here : y .went ≡ false → (u ≡ t) × HaltsAt n bytes (stateAt r o t) (y .faulty) (y .cause) (y .byte)
+    pub halts-here : y .went ≡ false → (u ≡ t) × HaltsAt n bytes (stateAt r o t) (y .faulty) (y .cause) (y .byte)
     halts-here = turn-halts n bytes r o t (h .kept) young y u made
 
     went : y .went ≡ true → Comes n bytes r o t y u true
     went = turn-went n bytes r o t (h .kept) young y u made
 
     -- A turn that goes on is a step more, and passes what it passes inside the open nodes before it.
-    goes-here : y .went ≡ true → (stop : ℕ) → r .covered ≤ stop → Running n bytes stop (y .run) (opensTo o (y .depth) (y .low)) (r .covered) (o .depth) u
+    pub goes-here : y .went ≡ true → (stop : ℕ) → r .covered ≤ stop → Running n bytes stop (y .run) (opensTo o (y .depth) (y .low)) (r .covered) (o .depth) u
     goes-here e stop l = record {
       stands = record {
         steps = suc (h .steps);
@@ -116,34 +119,10 @@ module _ (n : ℕ) (bytes : List ℕ) (few : n ≤ 32) (r : Run) (o : Opens) (t 
     }
 
     -- It moves on.
-    ahead-here : y .went ≡ true → length bytes - y .run .at < length bytes - r .at
+    pub ahead-here : y .went ≡ true → length bytes - y .run .at < length bytes - r .at
     ahead-here e = omega (arith, went e .1 .1 .0, went e .1 .1 .1 .0)
 
--- ---- The code's turn -------------------------------------------------------------------------
-
--- i, j: the places of the innermost entry and of the one after it
-module _ (n : ℕ) (bytes : List ℕ) (few : n ≤ 32) (stop : ℕ) (r : Run) (o : Opens) (t : List (List ℕ)) (h : Stands n bytes r o t) (p : Spots) (spots : p ≡ spotsOf (o .depth))
-    (y : Turn) (u : List (List ℕ)) (made : TurnMade n bytes r (o .depth) (getD (o .nodes) (p .low) insideOpen) t y u) where
-  made-low : TurnMade n bytes r (o .depth) (lowOf o) t y u
-  made-low = subst (λ (q : Spots). TurnMade n bytes r (o .depth) (getD (o .nodes) (q .low) insideOpen) t y u) spots made
-
-  -- The loop halts.
-  pub loop-halts : y .went ≡ false → r .covered ≤ stop → (from deep : ℕ) → ReachedBy n bytes stop (record { run = r; opens = o; from = from; deep = deep; halted = true; faulty = y .faulty; cause = y .cause; byte = y .byte }) u
-  loop-halts e l from deep =
-      let k = halts-here n bytes few r o t h y u made-low e in
-      subst (ReachedBy n bytes stop (record { run = r; opens = o; from = from; deep = deep; halted = true; faulty = y .faulty; cause = y .cause; byte = y .byte })) (sym (k .0)) (record { stands = h; ends = (l, k .1) })
-
-  -- The loop goes on.
-  pub loop-goes : y .went ≡ true → r .covered ≤ stop → (z : Open) → z ≡ insideOpen
-      → Running n bytes stop (y .run) (record { nodes = set (set (o .nodes) (p .high) z) (p .low) (y .low); depth = y .depth }) (r .covered) (o .depth) u
-  loop-goes e l z ze =
-      subst (λ (x : Open). Running n bytes stop (y .run) (record { nodes = set (set (o .nodes) (p .high) x) (p .low) (y .low); depth = y .depth }) (r .covered) (o .depth) u) (sym ze)
-      (subst (λ (q : Spots). Running n bytes stop (y .run) (record { nodes = set (set (o .nodes) (q .high) insideOpen) (q .low) (y .low); depth = y .depth }) (r .covered) (o .depth) u) (sym spots)
-      (goes-here n bytes few r o t h y u made-low e stop l))
-
-  -- It moves on.
-  pub loop-moves : y .went ≡ true → length bytes - y .run .at < length bytes - r .at
-  loop-moves = ahead-here n bytes few r o t h y u made-low
+-- ---- The ends of the loop ---------------------------------------------------------------------
 
 -- A turn keeps the length of the lent table.
 pub turn-length : (n : ℕ) (bytes : List ℕ) (r : Run) (d : ℕ) (low : Open) (t : List (List ℕ)) (y : Turn) (u : List (List ℕ)) → TurnMade n bytes r d low t y u → length u ≡ length t

@@ -22,7 +22,8 @@ ghost use Rattle.reading.specs.TableWalk.{rowWalk};
 ghost use Rattle.reader.specs.TableLaws.{tableOf};
 ghost use Rattle.reader.specs.Answers.{refusalOf, checkingOf, verdictsOf, decidingOf, fillingOf};
 ghost use Rattle.reader.specs.Truths.{firstEdge, secondEdge, withWordIn, putNodeIn};
-ghost use Rattle.reader.specs.Loop.{firstRun, firstOpens, Stands, ReachedBy};
+ghost use Rattle.reader.specs.Loop.{firstRun, firstOpens};
+ghost use Rattle.reader.specs.ReadOn.{readAll, firstCursor, offBy, blockOf, nextBlock};
 ghost use Rattle.reader.specs.CallsMade.{checkedBy, decidedBy, edgeAt, wordAt, AsLong};
 ghost use mathlib.Core.Option.{none};
 
@@ -1110,13 +1111,13 @@ pub struct Run {
 
 // A record of the table: the level (0: none), the children, the edge to the second complemented, how often the number was given out, and how
 // many records have it as a child.
-struct Row {
-    level: u32,
-    first: u32,
-    second: u32,
-    complement: bool,
-    stamp: u32,
-    parents: u32,
+pub struct Row {
+    pub level: u32,
+    pub first: u32,
+    pub second: u32,
+    pub complement: bool,
+    pub stamp: u32,
+    pub parents: u32,
 }
 
 // An element taken: what reading has come to; the fault, if there is one; whether its number is the size, or is stored.
@@ -1422,8 +1423,8 @@ fn no_row() -> Row
     }
 }
 
-// The record of the number k in a table of z numbers.
-fn get(t: &mut [[u32; 6]], z: u32, k: u32) -> Row
+// THE RECORD of the number k in a table of z numbers.
+pub fn get(t: &mut [[u32; 6]], z: u32, k: u32) -> Row
     ensures { λ x. ⌜ (x ≡ getIn (now (t .entry)) z k) × (now (t .exit) ≡ now (t .entry)) ⌝ }
 {
     if k == 0 {
@@ -1739,8 +1740,8 @@ fn run_on(
     around: Opens,
     stop: u64,
 ) -> Reached
-    requires { ⌜ (now k ≡ kindTable) × ((n ≤ 32) × ((first .covered ≤ stop) × Stands n (now s) first around (now t))) ⌝ }
-    ensures { λ y. ⌜ ReachedBy n (now (s .entry)) stop y (now (t .exit)) ⌝ }
+    requires { ⌜ (now k ≡ kindTable) × ((n ≤ 32) × ((around .depth ≤ 32) × (stop ≤ 4294967296))) ⌝ }
+    ensures { λ y. ⌜ record { reached = y; table = now (t .exit) } ≡ readAll n (now (s .entry)) stop first around (now (t .entry)) ⌝ }
 {
     let mut run = first;
     let mut opens = around;
@@ -2174,4 +2175,88 @@ pub fn fill(n: u32, s: &[u8], v: &mut [u8], t: &mut [[u32; 6]]) -> Filling
     clear(t, z);
     let q = r.run;
     Filling::Done(q.covered)
+}
+
+// ---- Block by block
+
+// Where the reading of a stream stands: what it has come to, with the open nodes.
+pub struct Cursor {
+    pub run: Run,
+    pub opens: Opens,
+}
+
+// The words that one element passes: the first of them, how many nodes are open around them, and what they stand for: a number (0: the terminal),
+// turned about or not. The cursor stands behind them. Halted: reading has come to its end, and no words were passed.
+pub struct Block {
+    pub cursor: Cursor,
+    pub from: u64,
+    pub deep: usize,
+    pub number: u32,
+    pub turned: bool,
+    pub halted: bool,
+}
+
+// Where reading begins.
+pub fn first_cursor() -> Cursor
+    ensures { λ c. ⌜ c ≡ firstCursor ⌝ }
+{
+    Cursor {
+        run: first_run(),
+        opens: first_opens(),
+    }
+}
+
+// More options, open nodes or words than any reading has.
+fn is_off(n: u32, c: Cursor) -> bool
+    ensures { λ r. ⌜ r ≡ offBy n c ⌝ }
+{
+    if 32 < n {
+        return true;
+    }
+    let o = c.opens;
+    if 32 < o.depth {
+        return true;
+    }
+    let q = c.run;
+    4294967296 < q.covered
+}
+
+// The block that the loop's last element passed.
+fn block_of(r: Reached) -> Block
+    ensures { λ b. ⌜ b ≡ blockOf r ⌝ }
+{
+    let e = edge_of(r);
+    let q = r.run;
+    let o = r.opens;
+    let c = Cursor { run: q, opens: o };
+    Block {
+        cursor: c,
+        from: r.from,
+        deep: r.deep,
+        number: e.number,
+        turned: e.turned,
+        halted: r.halted,
+    }
+}
+
+// THE NEXT BLOCK: reads on until more words are covered.
+pub fn next_block(n: u32, s: &[u8], t: &mut [[u32; 6]], c: Cursor) -> Block
+    ensures { λ b. ⌜ record { block = b; table = now (t .exit) } ≡ nextBlock n (now (s .entry)) c (now (t .entry)) ⌝ }
+{
+    let q = c.run;
+    let o = c.opens;
+    if is_off(n, c) {
+        return block_of(Reached {
+            run: q,
+            opens: o,
+            from: 0,
+            deep: 0,
+            halted: true,
+            faulty: false,
+            cause: Cause::WrongByte,
+            byte: 0,
+        });
+    }
+    let k = kinds();
+    block_of(run_on(&k, n, s, t, q, o, q.covered))
 }

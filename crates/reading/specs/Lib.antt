@@ -24,3 +24,4 @@ pub mod StampBound
 pub mod ParentCounts
 pub mod Filling
 pub mod Reaching
+pub mod Aligned

@@ -3,7 +3,8 @@
 use mathlib.Core.Path.{ap}
 use native.Mathlib.Omega.{arith}
 use Rattle.reading.specs.Causes as C
-use Rattle.reader.specs.Loop.{stands-begun, first-none}
+use Rattle.reader.specs.Loop.{first-shallow}
+use Rattle.reader.specs.ReadOn.{read-begun}
 use Rattle.reader.specs.CallsMade.{cleared-after, all-reads, check-options, check-table, check-made}
 use borrow.Author.Needs.{needs}
 use Rattle.reader.proofs.check.Statement.{statement}
@@ -36,19 +37,9 @@ first-opens-requires c κs = search needs
 
 run-on-requires : tie.Need-run-on-requires
 run-on-requires c κs =
-    let a = c .before .before .before .before .before .before .before .before .args in
     let if1 = c .before .before .before .before .before .before .if1 in
-    let if2 = c .before .before .before .before .before .if2 in
-    let kinds = c .before .before .before .before .kinds in (
-      kinds .ensures,
-      (
-        omega (arith, if1 .left),
-        (
-          first-none (c .before .first-run .result) 4294967296 (c .before .first-run .ensures),
-          stands-begun (a .n) (a .s .now) (a .t .now) (c .before .first-run .result) (c .first-opens .result) (omega (arith, if2 .left)) (c .before .first-run .ensures) (c .first-opens .ensures),
-        ),
-      ),
-    )
+    let kinds = c .before .before .before .before .kinds in
+    (kinds .ensures, (omega (arith, if1 .left), (first-shallow (c .first-opens .result) (c .first-opens .ensures), omega arith)))
 
 clear-requires : tie.Need-clear-requires
 clear-requires c κs = search needs
@@ -66,9 +57,12 @@ returns-3 c =
     let if2 = c .before .before .before .before .before .before .before .before .before .before .before .if2 in
     let x0 = c .before .before .before .before .before .run-on in
     let t0 = c .before .before .before .before .t in
+    let run = c .before .before .before .before .before .before .before .first-run in
+    let opens = c .before .before .before .before .before .before .first-opens in
     let few = if1 .left in
-    check-made (a .n) (a .s .now) (a .t .now) _ _ (x0 .result) _ (omega (arith, few)) (omega (arith, if2 .left)) (all-reads (a .n) (a .s .now) (x0 .result) _ (omega (arith, few)) (x0 .ensures)) (c .checked-at .ensures)
-    (cleared-after _ _ _ _ _ (x0 .ensures) (a .t .now) (t0 .given) _ (c .before .before .clear .ensures))
+    let reached = read-begun (a .n) (a .s .now) (omega (arith, few)) 4294967296 (run .result) (opens .result) (a .t .now) (omega (arith, if2 .left)) (run .ensures) (opens .ensures) (x0 .result) _ (x0 .ensures) in
+    check-made (a .n) (a .s .now) (a .t .now) _ _ (x0 .result) _ (omega (arith, few)) (omega (arith, if2 .left)) (all-reads (a .n) (a .s .now) (x0 .result) _ (omega (arith, few)) reached) (c .checked-at .ensures)
+    (cleared-after _ _ _ _ _ reached (a .t .now) (t0 .given) _ (c .before .before .clear .ensures))
 
 pub check-spec : {M : Type 1} → statement M
 check-spec =

@@ -7,6 +7,7 @@ use native.Mathlib.Omega.{arith}
 use lib.ListN.{length}
 use Rattle.reading.specs.Reading.{reading}
 use Rattle.reader.specs.Cite.{kindTable}
+use Rattle.reader.specs.Loop.{stands-covered}
 use Rattle.reader.specs.FillMade.{FilledTo, filled-begun, words-whole, words-fit, words-shallow, words-turn, words-less}
 use borrow.Author.Needs.{needs}
 use Rattle.reader.proofs.fill_words.Statement.{statement}
@@ -50,7 +51,11 @@ loop-holds c =
     )
 
 run-on-requires : tie.Need-run-on-requires Inv-loop μ-loop
-run-on-requires c κs = let i = c .before .loop .inv in (i .0, (omega (arith, i .1 .1 .0), (omega arith, i .1 .1 .1 .1 .1 .1 .stands)))
+run-on-requires c κs =
+    let l = c .before .loop in
+    let a = c .before .before .before .before .before .before .args in
+    let i = l .inv in let few : a .n ≤ 32 = omega (arith, i .1 .1 .0) in
+    (i .0, (few, (i .1 .1 .1 .1 .1 .1 .stands .kept .deep, stands-covered (a .n) (a .s .now) few (l .run) (l .opens) (l .t) (i .1 .1 .1 .1 .1 .1 .stands))))
 
 same-length : tie.Need-same-length Inv-loop μ-loop
 same-length c = search needs
@@ -63,21 +68,21 @@ returns c =
     let a = c .before .before .before .before .before .before .before .before .before .args in
     let l = c .before .before .before .before .loop in
     let i = l .inv in let f = i .1 .1 .1 .1 .1 .1 in
-    (words-whole (a .n) (a .s .now) (l .run) (l .opens) (l .t) (l .v) f (c .before .before .run-on .result) _ (c .before .before .run-on .ensures) (c .if1 .taken) (i .1 .1 .1 .0), record { same = c .before .t .given ∙ i .1 .1 .1 .1 .1 .0 })
+    (words-whole (a .n) (a .s .now) (l .run) (l .opens) (l .t) (l .v) f (omega (arith, i .1 .1 .0)) (c .before .before .run-on .result) _ (c .before .before .run-on .ensures) (c .if1 .taken) (i .1 .1 .1 .0), record { same = c .before .t .given ∙ i .1 .1 .1 .1 .1 .0 })
 
 cast-i : tie.Need-cast-i Inv-loop μ-loop
 cast-i c =
     let a = c .before .before .before .before .before .before .before .before .before .before .args in
     let l = c .before .before .before .before .before .loop in
     let x0 = c .before .before .before .run-on in
-    let f = l .inv .1 .1 .1 .1 .1 .1 in omega (arith, words-shallow (a .n) (a .s .now) (l .run) (l .opens) (l .t) (l .v) f (x0 .result) _ (x0 .ensures) (c .before .if1 .left))
+    let f = l .inv .1 .1 .1 .1 .1 .1 in omega (arith, words-shallow (a .n) (a .s .now) (l .run) (l .opens) (l .t) (l .v) f (omega (arith, l .inv .1 .1 .0)) (x0 .result) _ (x0 .ensures) (c .before .if1 .left))
 
 add-i : tie.Need-add-i Inv-loop μ-loop
 add-i c =
     let a = c .before .before .before .before .before .before .before .before .before .before .args in
     let l = c .before .before .before .before .before .loop in
     let x0 = c .before .before .before .run-on in
-    let f = l .inv .1 .1 .1 .1 .1 .1 in omega (arith, words-shallow (a .n) (a .s .now) (l .run) (l .opens) (l .t) (l .v) f (x0 .result) _ (x0 .ensures) (c .before .if1 .left))
+    let f = l .inv .1 .1 .1 .1 .1 .1 in omega (arith, words-shallow (a .n) (a .s .now) (l .run) (l .opens) (l .t) (l .v) f (omega (arith, l .inv .1 .1 .0)) (x0 .result) _ (x0 .ensures) (c .before .if1 .left))
 
 below-requires : tie.Need-below-requires Inv-loop μ-loop
 below-requires c κs =
@@ -85,7 +90,7 @@ below-requires c κs =
     let l = c .before .before .before .before .before .before .before .loop in
     let x0 = c .before .before .before .before .before .run-on in
     let if1 = c .before .before .before .if1 in
-    let f = l .inv .1 .1 .1 .1 .1 .1 in words-shallow (a .n) (a .s .now) (l .run) (l .opens) (l .t) (l .v) f (x0 .result) _ (x0 .ensures) (if1 .left)
+    let f = l .inv .1 .1 .1 .1 .1 .1 in words-shallow (a .n) (a .s .now) (l .run) (l .opens) (l .t) (l .v) f (omega (arith, l .inv .1 .1 .0)) (x0 .result) _ (x0 .ensures) (if1 .left)
 
 edge-of-requires : tie.Need-edge-of-requires Inv-loop μ-loop
 edge-of-requires c κs = search needs
@@ -97,7 +102,7 @@ fill-node-requires c κs =
     let x0 = c .before .before .before .before .before .before .before .run-on in
     let if1 = c .before .before .before .before .before .if1 in
     let i = l .inv in let f = i .1 .1 .1 .1 .1 .1 in
-    words-fit (a .n) (a .s .now) (l .run) (l .opens) (l .t) (l .v) f (x0 .result) _ (x0 .ensures) (if1 .left) (c .before .below .result) (i .1 .1 .0) (c .before .below .ensures)
+    words-fit (a .n) (a .s .now) (l .run) (l .opens) (l .t) (l .v) f (omega (arith, l .inv .1 .1 .0)) (x0 .result) _ (x0 .ensures) (if1 .left) (c .before .below .result) (i .1 .1 .0) (c .before .below .ensures)
 
 loop-less : tie.Need-loop-less Inv-loop μ-loop
 loop-less c =
@@ -105,7 +110,7 @@ loop-less c =
     let l = c .before .before .before .before .before .before .before .before .before .before .before .before .before .before .loop in
     let x0 = c .before .before .before .before .before .before .before .before .before .before .before .before .run-on in
     let if1 = c .before .before .before .before .before .before .before .before .before .before .if1 in
-    let f = l .inv .1 .1 .1 .1 .1 .1 in words-less (a .n) (a .s .now) (l .run) (l .opens) (l .t) (l .v) f (x0 .result) _ (x0 .ensures) (if1 .left)
+    let f = l .inv .1 .1 .1 .1 .1 .1 in words-less (a .n) (a .s .now) (l .run) (l .opens) (l .t) (l .v) f (omega (arith, l .inv .1 .1 .0)) (x0 .result) _ (x0 .ensures) (if1 .left)
 
 loop-again : tie.Need-loop-again Inv-loop μ-loop
 loop-again c =
@@ -130,7 +135,7 @@ loop-again c =
               c .before .before .v .given ∙ i .1 .1 .1 .1 .0,
               (
                 t2 .given ∙ t0 .given ∙ i .1 .1 .1 .1 .1 .0,
-                words-turn (a .n) (a .s .now) (l .run) (l .opens) (l .t) (l .v) f (x0 .result) _ (x0 .ensures) (if1 .left) (below .result) (edgeof .result) _ _ (i .1 .0) (below .ensures) (edgeof .ensures) (fillnode .ensures .0) (fillnode .ensures .1),
+                words-turn (a .n) (a .s .now) (l .run) (l .opens) (l .t) (l .v) f (omega (arith, l .inv .1 .1 .0)) (x0 .result) _ (x0 .ensures) (if1 .left) (below .result) (edgeof .result) _ _ (i .1 .0) (below .ensures) (edgeof .ensures) (fillnode .ensures .0) (fillnode .ensures .1),
               ),
             ),
           ),

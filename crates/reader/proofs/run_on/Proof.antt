@@ -1,25 +1,25 @@
--- Each turn is a step more of reading (`loop-goes`) or a halt (`loop-halts`), and moves on in the bytes; past the stop the last step passed it.
+-- Each turn leads on to what the function comes to (`leads-goes`), and moves on in the bytes; it halts, or is past its stop, where the function does.
 -- Assumes nothing.
 use mathlib.Core.Path.{refl, _∙_, _≡_}
-use mathlib.Core.Logic.{inl}
 use Prim.Native.Nat.{_-_, _≤_}
 use native.Mathlib.Omega.{arith}
 use lib.ListN.{length}
 use borrow.Author.Tests.{not-true, not-false}
-use Rattle.reader.specs.Loop.{stands-covered, loop-halts, loop-goes, loop-moves, loop-past, turn-length, Running}
+use Rattle.reader.specs.Loop.{turn-length}
+use Rattle.reader.specs.ReadOn.{readAll, Leads, leads-first, leads-past, leads-halts, leads-moves, leads-goes}
 use Rattle.reader.specs.Cite.{kindTable}
 use borrow.Author.Needs.{needs}
 use Rattle.reader.proofs.run_on.Statement.{statement}
 use Rattle.reader.proofs.run_on.Tie as tie
 
 abbrev Inv-loop : tie.InvT-loop
-Inv-loop k n s t₀ stop run₀ opens₀ from₀ deep₀ t run opens from deep = (k ≡ kindTable) × ((n ≤ 32) × ((length t ≡ length t₀) × Running n s stop run opens from deep t))
+Inv-loop k n s t₀ stop run₀ opens₀ from₀ deep₀ t run opens from deep = (k ≡ kindTable) × ((n ≤ 32) × ((length t ≡ length t₀) × ((stop ≤ 4294967296) × Leads (readAll n s stop run₀ opens₀ t₀) n s stop run opens from deep t)))
 
 abbrev μ-loop : tie.MeasureT-loop
 μ-loop k n s t₀ stop run₀ opens₀ from₀ deep₀ t run opens from deep = length s - run .at
 
 loop-holds : tie.Need-loop-holds Inv-loop μ-loop
-loop-holds c = (c .before .pre .0, (c .before .pre .1 .0, (refl, record { stands = c .before .pre .1 .1 .1; past = inl (c .before .pre .1 .1 .0) })))
+loop-holds c = (c .before .pre .0, (c .before .pre .1 .0, (refl, (c .before .pre .1 .1 .1, leads-first _ _ _ _ _ _ (c .before .pre .1 .1 .0)))))
 
 spots-of-requires : tie.Need-spots-of-requires Inv-loop μ-loop
 spots-of-requires c κs = search needs
@@ -31,7 +31,9 @@ element-copy-out-low : tie.Need-element-copy-out-low Inv-loop μ-loop
 element-copy-out-low c = search needs
 
 take-turn-requires : tie.Need-take-turn-requires Inv-loop μ-loop
-take-turn-requires c κs = let i = c .before .before .before .before .before .loop .inv in (i .0, (i .1 .0, (stands-covered _ _ (i .1 .0) _ _ _ (i .1 .1 .1 .stands), i .1 .1 .1 .stands .kept .deep)))
+take-turn-requires c κs =
+    let if1 = c .before .before .before .if1 in
+    let i = c .before .before .before .before .before .loop .inv in (i .0, (i .1 .0, (omega (arith, i .1 .1 .1 .0, if1 .taken), i .1 .1 .1 .1 .shallow)))
 
 same-length : tie.Need-same-length Inv-loop μ-loop
 same-length c = search needs
@@ -42,7 +44,7 @@ returns c =
     let l = c .before .before .before .before .before .before .before .before .loop in
     let if1 = c .before .before .before .before .before .before .if1 in
     let sp = c .before .before .before .before .before .spots-of in
-    let i = l .inv in loop-halts (a .n) (a .s .now) (i .1 .0) (a .stop) (l .run) (l .opens) (l .t) (i .1 .1 .1 .stands) (sp .result) (sp .ensures .0) (c .before .before .take-turn .result) _ (c .before .before .take-turn .ensures) (not-true _ (c .if2 .taken)) (if1 .taken) (l .from) (l .deep)
+    leads-halts _ (a .n) (a .s .now) (a .stop) (l .run) (l .opens) (l .from) (l .deep) (l .t) (l .inv .1 .1 .1 .1) (if1 .taken) (sp .result) (sp .ensures .0) (c .before .before .take-turn .result) _ (c .before .before .take-turn .ensures) (not-true _ (c .if2 .taken))
 
 inside-requires : tie.Need-inside-requires Inv-loop μ-loop
 inside-requires c κs = search needs
@@ -66,7 +68,8 @@ loop-less c =
     let sp = c .before .before .before .before .before .before .before .before .spots-of in
     let y = c .before .before .before .before .before .take-turn in
     let if2 = c .before .before .before .if2 in
-    let i = l .inv in loop-moves (a .n) (a .s .now) (i .1 .0) (a .stop) (l .run) (l .opens) (l .t) (i .1 .1 .1 .stands) (sp .result) (sp .ensures .0) (y .result) _ (y .ensures) (not-false _ (if2 .left))
+    let if1 = c .before .before .before .before .before .before .before .before .before .if1 in
+    leads-moves _ (a .n) (a .s .now) (a .stop) (l .run) (l .opens) (l .from) (l .deep) (l .t) (l .inv .1 .1 .1 .1) (if1 .taken) (sp .result) (sp .ensures .0) (y .result) _ (y .ensures) (not-false _ (if2 .left))
 
 loop-again : tie.Need-loop-again Inv-loop μ-loop
 loop-again c =
@@ -82,7 +85,10 @@ loop-again c =
         i .1 .0,
         (
           turn-length _ _ _ _ _ _ _ _ (y .ensures) ∙ i .1 .1 .0,
-          loop-goes (a .n) (a .s .now) (i .1 .0) (a .stop) (l .run) (l .opens) (l .t) (i .1 .1 .1 .stands) (sp .result) (sp .ensures .0) (y .result) _ (y .ensures) (not-false _ (if2 .left)) (if1 .taken) (c .inside .result) (c .inside .ensures),
+          (
+            i .1 .1 .1 .0,
+            leads-goes _ (a .n) (a .s .now) (a .stop) (l .run) (l .opens) (l .from) (l .deep) (l .t) (i .1 .1 .1 .1) (if1 .taken) (sp .result) (sp .ensures .0) (y .result) _ (y .ensures) (not-false _ (if2 .left)) (c .inside .result) (c .inside .ensures),
+          ),
         ),
       ),
     )
@@ -93,7 +99,8 @@ same-length-2 c = search needs
 returns-2 : tie.Need-returns-2 Inv-loop μ-loop
 returns-2 c =
     let a = c .before .before .before .before .args in
-    let i = c .before .before .loop .inv in loop-past (a .n) (a .s .now) (a .stop) (c .before .before .loop .run) (c .before .before .loop .opens) (c .before .before .loop .from) (c .before .before .loop .deep) (c .before .before .loop .t) (i .1 .1 .1) (omega (arith, c .if1 .left))
+    let l = c .before .before .loop in
+    leads-past _ (a .n) (a .s .now) (a .stop) (l .run) (l .opens) (l .from) (l .deep) (l .t) (l .inv .1 .1 .1 .1) (omega (arith, c .if1 .left))
 
 pub run-on-spec : {M : Type 1} → statement M
 run-on-spec =

@@ -1,0 +1,252 @@
+-- The code's loop as a function, with fuel for its turns, and the reading of one block. Where code stands as reading does, what the
+-- function comes to is what the loop reaches. Assumes nothing.
+use mathlib.Core.Path.{_≡_, refl, sym, ap, _∙_, subst}
+use mathlib.Core.Logic.{inl, ⊎-elim}
+use mathlib.Core.Bool.{Bool, true, false, cond, _||_, false≢true}
+use mathlib.Core.List.{List}
+use Prim.Native.Nat.{ℕ, zero, suc, _-_, _<_, _≤_}
+use native.Mathlib.Omega.{arith}
+use lib.Dec.{ltb}
+use lib.ListN.{length, getD, set}
+use borrow.Author.Tests.{lt-ltb, le-ltb, ltb-false}
+use Rattle.lists.specs.Lists.{decide-le}
+use Rattle.reader.specs.Cite.{insideOpen, spotsOf}
+use Rattle.reader.specs.declared.Block.{Block}
+use Rattle.reader.specs.declared.Cause.{Cause}
+use Rattle.reader.specs.declared.Cause.the-variants.{WrongByte}
+use Rattle.reader.specs.declared.Cursor.{Cursor}
+use Rattle.reader.specs.declared.Open.{Open}
+use Rattle.reader.specs.declared.Opens.{Opens}
+use Rattle.reader.specs.declared.Run.{Run}
+use Rattle.reader.specs.declared.Spots.{Spots}
+use Rattle.reader.specs.declared.Turn.{Turn}
+use Rattle.reader.specs.declared.Reached.{Reached}
+use Rattle.reader.specs.Advance.{lowOf, opensTo, TurnMade}
+use Rattle.reader.specs.Turning.{Turned, turnIn, turn-in, turn-made, turn-ahead}
+use Rattle.reader.specs.Loop.{firstRun, firstOpens, Stands, stands-begun, first-none, ReachedBy, Running, goes-here, halts-here, ahead-here, loop-past}
+use Rattle.reader.specs.CallsMade.{edgeAt}
+
+-- ---- The loop --------------------------------------------------------------------------------
+
+-- what the loop reaches, and the lent table after it
+pub record ReadTo : Type 0 where
+  pub reached : Reached
+  pub table : List (List ℕ)
+
+-- it halts at r, with a fault if f
+abbrev pub haltedAt : Run → Opens → ℕ → ℕ → Bool → Cause → ℕ → Reached
+haltedAt r o from deep f c b = record { run = r; opens = o; from = from; deep = deep; halted = true; faulty = f; cause = c; byte = b }
+
+-- it is past its stop
+abbrev pub passedAt : Run → Opens → ℕ → ℕ → Reached
+passedAt r o from deep = record { run = r; opens = o; from = from; deep = deep; halted = false; faulty = false; cause = WrongByte; byte = 0 }
+
+-- "Reads on while no more than `stop` words are covered", at most so many turns
+unfoldable pub readOn : ℕ → ℕ → List ℕ → ℕ → Run → Opens → ℕ → ℕ → List (List ℕ) → ReadTo
+unfolding turnIn
+readOn zero n bytes stop r o from deep t = record { reached = haltedAt r o from deep false WrongByte 0; table = t }
+readOn (suc f) n bytes stop r o from deep t =
+    let x = turnIn n bytes r (o .depth) (lowOf o) t in
+    cond (ltb stop (r .covered)) (record { reached = passedAt r o from deep; table = t })
+    (cond (x .turn .went) (readOn f n bytes stop (x .turn .run) (opensTo o (x .turn .depth) (x .turn .low)) (r .covered) (o .depth) (x .table))
+    (record { reached = haltedAt r o from deep (x .turn .faulty) (x .turn .cause) (x .turn .byte); table = x .table }))
+
+-- every turn that goes on takes a byte, so there are no more turns than bytes, but for the last
+abbrev pub readAll : ℕ → List ℕ → ℕ → Run → Opens → List (List ℕ) → ReadTo
+readAll n bytes stop r o t = readOn (suc (length bytes)) n bytes stop r o 0 0 t
+
+module _ (f n : ℕ) (bytes : List ℕ) (stop : ℕ) (r : Run) (o : Opens) (from deep : ℕ) (t : List (List ℕ)) where
+  -- past the stop it is done
+  read-past : stop < r .covered → readOn (suc f) n bytes stop r o from deep t ≡ record { reached = passedAt r o from deep; table = t }
+  unfolding readOn
+  read-past h = rw (lt-ltb stop (r .covered) h) refl
+
+  -- a turn more, of the result y and the table u
+  abbrev turned : Turned → ReadTo
+  turned x =
+      cond (x .turn .went) (readOn f n bytes stop (x .turn .run) (opensTo o (x .turn .depth) (x .turn .low)) (r .covered) (o .depth) (x .table))
+      (record { reached = haltedAt r o from deep (x .turn .faulty) (x .turn .cause) (x .turn .byte); table = x .table })
+
+  read-turn : r .covered ≤ stop → readOn (suc f) n bytes stop r o from deep t ≡ turned (turnIn n bytes r (o .depth) (lowOf o) t)
+  unfolding readOn
+  read-turn h = ap (λ (b : Bool). cond b (record { reached = passedAt r o from deep; table = t }) (turned (turnIn n bytes r (o .depth) (lowOf o) t))) (le-ltb stop (r .covered) h)
+
+  module _ (y : Turn) (u : List (List ℕ)) (made : TurnMade n bytes r (o .depth) (lowOf o) t y u) (l : r .covered ≤ stop) where
+    read-made : readOn (suc f) n bytes stop r o from deep t ≡ turned (record { turn = y; table = u })
+    read-made = read-turn l ∙ ap turned (sym (turn-in n bytes r (o .depth) (lowOf o) t y u made))
+
+    -- a turn that goes on
+    read-goes : y .went ≡ true → readOn (suc f) n bytes stop r o from deep t ≡ readOn f n bytes stop (y .run) (opensTo o (y .depth) (y .low)) (r .covered) (o .depth) u
+    read-goes e =
+        read-made
+        ∙ ap (λ (b : Bool). cond b (readOn f n bytes stop (y .run) (opensTo o (y .depth) (y .low)) (r .covered) (o .depth) u) (record { reached = haltedAt r o from deep (y .faulty) (y .cause) (y .byte); table = u })) e
+
+    -- another halts
+    read-halts : y .went ≡ false → readOn (suc f) n bytes stop r o from deep t ≡ record { reached = haltedAt r o from deep (y .faulty) (y .cause) (y .byte); table = u }
+    read-halts e =
+        read-made
+        ∙ ap (λ (b : Bool). cond b (readOn f n bytes stop (y .run) (opensTo o (y .depth) (y .low)) (r .covered) (o .depth) u) (record { reached = haltedAt r o from deep (y .faulty) (y .cause) (y .byte); table = u })) e
+
+-- ---- It is what the loop reaches -------------------------------------------------------------
+
+abbrev Reaches : ℕ → List ℕ → ℕ → ReadTo → Type 0
+Reaches n bytes stop z = ReachedBy n bytes stop (z .reached) (z .table)
+
+-- with fuel for every byte that is left
+read-running : (f n : ℕ) (bytes : List ℕ) → n ≤ 32 → (stop : ℕ) (r : Run) (o : Opens) (from deep : ℕ) (t : List (List ℕ)) → Running n bytes stop r o from deep t → length bytes - r .at < f
+    → Reaches n bytes stop (readOn f n bytes stop r o from deep t)
+read-running zero n bytes few stop r o from deep t h l = absurd (omega (arith, l))
+read-running (suc f) n bytes few stop r o from deep t h l = ⊎-elim (on (λ a b c d e. read-running f n bytes few stop a b c d e)) over (decide-le (r .covered) stop)
+  where
+    Again : Type 0
+    Again = (r : Run) (o : Opens) (from deep : ℕ) (t : List (List ℕ)) → Running n bytes stop r o from deep t → length bytes - r .at < f → Reaches n bytes stop (readOn f n bytes stop r o from deep t)
+
+    y : Turn
+    y = turnIn n bytes r (o .depth) (lowOf o) t .turn
+
+    u : List (List ℕ)
+    u = turnIn n bytes r (o .depth) (lowOf o) t .table
+
+    made : TurnMade n bytes r (o .depth) (lowOf o) t y u
+    made = turn-made n bytes r (o .depth) (lowOf o) t
+
+    go : Again → r .covered ≤ stop → (b : Bool) → y .went ≡ b → Reaches n bytes stop (readOn (suc f) n bytes stop r o from deep t)
+    go again k true e =
+        subst (Reaches n bytes stop) (sym (read-goes f n bytes stop r o from deep t y u made k e))
+        (again (y .run) (opensTo o (y .depth) (y .low)) (r .covered) (o .depth) u (goes-here n bytes few r o t (h .stands) y u made e stop k)
+        (omega (arith, l, ahead-here n bytes few r o t (h .stands) y u made e)))
+    go again k false e =
+        let i = halts-here n bytes few r o t (h .stands) y u made e in
+        subst (Reaches n bytes stop) (sym (read-halts f n bytes stop r o from deep t y u made k e))
+        (subst (ReachedBy n bytes stop (haltedAt r o from deep (y .faulty) (y .cause) (y .byte))) (sym (i .0)) (record { stands = h .stands; ends = (k, i .1) }))
+
+    on : Again → r .covered ≤ stop → Reaches n bytes stop (readOn (suc f) n bytes stop r o from deep t)
+    on again k = go again k (y .went) refl
+
+    over : stop < r .covered → Reaches n bytes stop (readOn (suc f) n bytes stop r o from deep t)
+    over k = subst (Reaches n bytes stop) (sym (read-past f n bytes stop r o from deep t k)) (loop-past n bytes stop r o from deep t h k)
+
+-- WHERE CODE STANDS as reading does, what the function comes to is what the loop reaches.
+pub read-reaches : (n : ℕ) (bytes : List ℕ) → n ≤ 32 → (stop : ℕ) (r : Run) (o : Opens) (t : List (List ℕ)) → Stands n bytes r o t → r .covered ≤ stop
+    → let z = readAll n bytes stop r o t in ReachedBy n bytes stop (z .reached) (z .table)
+read-reaches n bytes few stop r o t h l = read-running (suc (length bytes)) n bytes few stop r o 0 0 t (record { stands = h; past = inl l }) (omega arith)
+
+-- So for a call of the loop: y is what it reaches, u the table after it.
+pub read-called : (n : ℕ) (bytes : List ℕ) → n ≤ 32 → (stop : ℕ) (r : Run) (o : Opens) (t : List (List ℕ)) → Stands n bytes r o t → r .covered ≤ stop
+    → (y : Reached) (u : List (List ℕ)) → record { reached = y; table = u } ≡ readAll n bytes stop r o t → ReachedBy n bytes stop y u
+read-called n bytes few stop r o t h l y u e = subst (Reaches n bytes stop) (sym e) (read-reaches n bytes few stop r o t h l)
+
+-- So for a call from the start.
+pub read-begun : (n : ℕ) (bytes : List ℕ) → n ≤ 32 → (stop : ℕ) (r : Run) (o : Opens) (t : List (List ℕ)) → 1024 ≤ length t → r ≡ firstRun → o ≡ firstOpens
+    → (y : Reached) (u : List (List ℕ)) → record { reached = y; table = u } ≡ readAll n bytes stop r o t → ReachedBy n bytes stop y u
+read-begun n bytes few stop r o t room re oe = read-called n bytes few stop r o t (stands-begun n bytes t r o room re oe) (first-none r stop re)
+
+-- ---- The code's loop -------------------------------------------------------------------------
+
+-- What the loop keeps, whatever the state: it leads to what the function comes to.
+pub record Leads (z : ReadTo) (n : ℕ) (bytes : List ℕ) (stop : ℕ) (r : Run) (o : Opens) (from deep : ℕ) (t : List (List ℕ)) : Type 0 where
+  pub fuel : ℕ
+  pub enough : length bytes - r .at < suc fuel
+  pub same : readOn (suc fuel) n bytes stop r o from deep t ≡ z
+  pub shallow : o .depth ≤ 32
+
+-- So at the start.
+pub leads-first : (n : ℕ) (bytes : List ℕ) (stop : ℕ) (r : Run) (o : Opens) (t : List (List ℕ)) → o .depth ≤ 32 → Leads (readAll n bytes stop r o t) n bytes stop r o 0 0 t
+leads-first n bytes stop r o t h = record { fuel = length bytes; enough = omega arith; same = refl; shallow = h }
+
+-- p: the places of the innermost entry and of the one after it
+module _ (z : ReadTo) (n : ℕ) (bytes : List ℕ) (stop : ℕ) (r : Run) (o : Opens) (from deep : ℕ) (t : List (List ℕ)) (h : Leads z n bytes stop r o from deep t) where
+  -- Past its stop the loop is done.
+  pub leads-past : stop < r .covered → record { reached = passedAt r o from deep; table = t } ≡ z
+  leads-past l = sym (read-past (h .fuel) n bytes stop r o from deep t l) ∙ h .same
+
+  module _ (l : r .covered ≤ stop) (p : Spots) (spots : p ≡ spotsOf (o .depth)) (y : Turn) (u : List (List ℕ)) (made : TurnMade n bytes r (o .depth) (getD (o .nodes) (p .low) insideOpen) t y u) where
+    made-low : TurnMade n bytes r (o .depth) (lowOf o) t y u
+    made-low = subst (λ (q : Spots). TurnMade n bytes r (o .depth) (getD (o .nodes) (q .low) insideOpen) t y u) spots made
+
+    -- It halts at a turn that does not go on.
+    pub leads-halts : y .went ≡ false → record { reached = haltedAt r o from deep (y .faulty) (y .cause) (y .byte); table = u } ≡ z
+    leads-halts e = sym (read-halts (h .fuel) n bytes stop r o from deep t y u made-low l e) ∙ h .same
+
+    module _ (e : y .went ≡ true) where
+      ahead : (r .at < length bytes) × ((r .at < y .run .at) × (y .depth ≤ 32))
+      ahead = turn-ahead n bytes r (o .depth) (lowOf o) t y u made-low e
+
+      -- Another moves on in the bytes,
+      pub leads-moves : length bytes - y .run .at < length bytes - r .at
+      leads-moves = omega (arith, ahead .0, ahead .1 .0)
+
+      leads-on : (f : ℕ) → length bytes - r .at < suc f → readOn (suc f) n bytes stop r o from deep t ≡ z → Leads z n bytes stop (y .run) (opensTo o (y .depth) (y .low)) (r .covered) (o .depth) u
+      leads-on zero m k = absurd (omega (arith, m, ahead .0))
+      leads-on (suc f) m k = record { fuel = f; enough = omega (arith, m, leads-moves); same = sym (read-goes (suc f) n bytes stop r o from deep t y u made-low l e) ∙ k; shallow = ahead .1 .1 }
+
+      -- and leads on.
+      pub leads-goes : (w : Open) → w ≡ insideOpen → Leads z n bytes stop (y .run) (record { nodes = set (set (o .nodes) (p .high) w) (p .low) (y .low); depth = y .depth }) (r .covered) (o .depth) u
+      leads-goes w we =
+          subst (λ (x : Open). Leads z n bytes stop (y .run) (record { nodes = set (set (o .nodes) (p .high) x) (p .low) (y .low); depth = y .depth }) (r .covered) (o .depth) u) (sym we)
+          (subst (λ (q : Spots). Leads z n bytes stop (y .run) (record { nodes = set (set (o .nodes) (q .high) insideOpen) (q .low) (y .low); depth = y .depth }) (r .covered) (o .depth) u) (sym spots)
+          (leads-on (h .fuel) (h .enough) (h .same)))
+
+-- ---- Blocks ----------------------------------------------------------------------------------
+
+-- where reading begins
+abbrev pub firstCursor : Cursor
+firstCursor = record { run = firstRun; opens = firstOpens }
+
+-- more options, open nodes or words than any reading has
+abbrev pub offBy : ℕ → Cursor → Bool
+offBy n c = ltb 32 n || (ltb 32 (c .opens .depth) || ltb 4294967296 (c .run .covered))
+
+-- nothing is read
+abbrev pub restingAt : Cursor → Reached
+restingAt c = haltedAt (c .run) (c .opens) 0 0 false WrongByte 0
+
+-- the block that the loop's last element passed
+abbrev pub blockOf : Reached → Block
+blockOf y = record { cursor = record { run = y .run; opens = y .opens }; from = y .from; deep = y .deep; number = edgeAt y .number; turned = edgeAt y .turned; halted = y .halted }
+
+-- a block, and the lent table after it
+pub record Next : Type 0 where
+  pub block : Block
+  pub table : List (List ℕ)
+
+abbrev pub nextOf : ReadTo → Next
+nextOf z = record { block = blockOf (z .reached); table = z .table }
+
+-- THE NEXT BLOCK: reads on until more words are covered
+unfoldable pub nextBlock : ℕ → List ℕ → Cursor → List (List ℕ) → Next
+unfolding readOn
+nextBlock n bytes c t = nextOf (cond (offBy n c) (record { reached = restingAt c; table = t }) (readAll n bytes (c .run .covered) (c .run) (c .opens) t))
+
+module _ (n : ℕ) (bytes : List ℕ) (c : Cursor) (t : List (List ℕ)) where
+  -- the block where nothing is read
+  next-off : offBy n c ≡ true → nextBlock n bytes c t ≡ record { block = blockOf (restingAt c); table = t }
+  unfolding nextBlock
+  next-off h = ap (λ (b : Bool). nextOf (cond b (record { reached = restingAt c; table = t }) (readAll n bytes (c .run .covered) (c .run) (c .opens) t))) h
+
+  -- The block where the loop reads.
+  pub next-on : offBy n c ≡ false → nextBlock n bytes c t ≡ nextOf (readAll n bytes (c .run .covered) (c .run) (c .opens) t)
+  unfolding nextBlock
+  next-on h = ap (λ (b : Bool). nextOf (cond b (record { reached = restingAt c; table = t }) (readAll n bytes (c .run .covered) (c .run) (c .opens) t))) h
+
+  -- So for calls: b is the block that is made of what is reached.
+  pub next-rests : (b : Block) → offBy n c ≡ true → b ≡ blockOf (restingAt c) → record { block = b; table = t } ≡ nextBlock n bytes c t
+  next-rests b h e = ap (λ (x : Block). record { block = x; table = t }) e ∙ sym (next-off h)
+
+  pub next-called : (b : Block) → offBy n c ≡ false → (y : Reached) (u : List (List ℕ)) → record { reached = y; table = u } ≡ readAll n bytes (c .run .covered) (c .run) (c .opens) t
+      → b ≡ blockOf y → record { block = b; table = u } ≡ nextBlock n bytes c t
+  next-called b h y u k e = ap (λ (x : Block). record { block = x; table = u }) e ∙ ap nextOf k ∙ sym (next-on h)
+
+-- a cursor that is not past the limits keeps to them
+pub within : (n : ℕ) (c : Cursor) → offBy n c ≡ false → (n ≤ 32) × ((c .opens .depth ≤ 32) × (c .run .covered ≤ 4294967296))
+within n c = go (ltb 32 n) refl (ltb 32 (c .opens .depth)) refl (ltb 4294967296 (c .run .covered)) refl
+  where
+    go : (p : Bool) → ltb 32 n ≡ p → (q : Bool) → ltb 32 (c .opens .depth) ≡ q → (r : Bool) → ltb 4294967296 (c .run .covered) ≡ r → (p || (q || r)) ≡ false → (n ≤ 32) × ((c .opens .depth ≤ 32) × (c .run .covered ≤ 4294967296))
+    go true e q f r g h = absurd (false≢true (sym h))
+    go false e true f r g h = absurd (false≢true (sym h))
+    go false e false f true g h = absurd (false≢true (sym h))
+    go false e false f false g h = (ltb-false 32 n e, (ltb-false 32 (c .opens .depth) f, ltb-false 4294967296 (c .run .covered) g))
+
+-- and one that keeps to them is not past them
+pub not-off : (n : ℕ) (c : Cursor) → n ≤ 32 → c .opens .depth ≤ 32 → c .run .covered ≤ 4294967296 → offBy n c ≡ false
+not-off n c h k l = rw (le-ltb 32 n h, le-ltb 32 (c .opens .depth) k, le-ltb 4294967296 (c .run .covered) l) refl
