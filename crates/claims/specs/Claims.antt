@@ -80,17 +80,17 @@ pub refused-write : {R : Type 0} (z : R) (n size : ℕ) (truths out : List ℕ) 
     → write z n size truths out t .answer ≡ refused f → write z n size truths out t .output ≡ out
 refused-write = M.write-refused
 
-pub refused-combine : {R : Type 0} (z : R) (n op size : ℕ) (x y out : List ℕ) (t u v : List R) (f : Refusal)
-    → combine z n op size x y out t u v .answer ≡ refused f → combine z n op size x y out t u v .output ≡ out
+pub refused-combine : {R S : Type 0} (z : R) (o : S) (n op size : ℕ) (x y out : List ℕ) (t u : List R) (v : List S) (f : Refusal)
+    → combine z o n op size x y out t u v .answer ≡ refused f → combine z o n op size x y out t u v .output ≡ out
 refused-combine = M.combine-refused
 
 -- The work tables are as they were after a refusal that names the call (causes 1 to 6), and zero in every record after any other return.
-pub combine-tables : {R : Type 0} (z : R) (n op size : ℕ) (x y out : List ℕ) (t u v : List R)
-    → let a = combine z n op size x y out t u v .answer in let Tables = M.Tables z n op size x y out t u v in
+pub combine-tables : {R S : Type 0} (z : R) (o : S) (n op size : ℕ) (x y out : List ℕ) (t u : List R) (v : List S)
+    → let a = combine z o n op size x y out t u v .answer in let Tables = M.Tables z o n op size x y out t u v in
     ((f : Refusal) → a ≡ refused f → causeRow (f .cause) .names ≡ call → Tables t u v)
-    × ((f : Refusal) → a ≡ refused f → causeRow (f .cause) .names ≡ place → Tables (cleared z t) (cleared z u) (cleared z v))
-    × ((r : Answer) → a ≡ done r → Tables (cleared z t) (cleared z u) (cleared z v))
-combine-tables z n op size x y out t u v = (M.combine-untouched z n op size x y out t u v, M.combine-zeroed z n op size x y out t u v, M.combine-done z n op size x y out t u v)
+    × ((f : Refusal) → a ≡ refused f → causeRow (f .cause) .names ≡ place → Tables (cleared z t) (cleared z u) (cleared o v))
+    × ((r : Answer) → a ≡ done r → Tables (cleared z t) (cleared z u) (cleared o v))
+combine-tables z o n op size x y out t u v = (M.combine-untouched z o n op size x y out t u v, M.combine-zeroed z o n op size x y out t u v, M.combine-done z o n op size x y out t u v)
 
 -- ---- Demand 2: reading -----------------------------------------------------------------------
 
@@ -153,11 +153,11 @@ pub writing-beginning : {R : Type 0} (z : R) (n size : ℕ) (truths out : List �
 writing-beginning z n size truths out t r e = wrote-read n size truths out r _ (wrote z n size truths out t r e)
 
 -- The stream that combining gives decides every word as the operator does, taken word by word, if the run ends "whole".
-pub combining-read-back : {R : Type 0} (z : R) (n op size : ℕ) (x y out : List ℕ) (t u v : List R) (r : Answer) → combine z n op size x y out t u v .answer ≡ done r → r .ending ≡ whole
-    → let bytes = take (r .written) (combine z n op size x y out t u v .output) in
+pub combining-read-back : {R S : Type 0} (z : R) (o : S) (n op size : ℕ) (x y out : List ℕ) (t u : List R) (v : List S) (r : Answer) → combine z o n op size x y out t u v .answer ≡ done r → r .ending ≡ whole
+    → let bytes = take (r .written) (combine z o n op size x y out t u v .output) in
     (covered n bytes ≡ 2 ^ n) × (reading n bytes .state .place .mark ≡ over) × ((w : ℕ) → w < 2 ^ n → (d : Bool) × (decision n bytes w ≡ decided d) × Operated n op x y w d)
-combining-read-back z n op size x y out t u v r e h =
-    let s = ran z n op size x y out t u v r e in
+combining-read-back z o n op size x y out t u v r e h =
+    let s = ran z o n op size x y out t u v r e in
     let b = run-whole-read n op size x y out r _ s h in
     (b .covers, b .complete, λ w k. run-operated n op size x y out r _ s w (subst⁻¹ (λ (c : ℕ). w < c) (b .covers) k))
 
@@ -179,14 +179,14 @@ pub record Demand3 (n op : ℕ) (x y x′ y′ : List ℕ) (r r′ : Answer) (by
       → (d : Bool) × (decision n bytes w ≡ decided d) × (decision n bytes′ w ≡ decided d) × Operated n op x y w d × Operated n op x′ y′ w d
 
 -- DEMAND 3, whole: of any two such runs, neither refused.
-pub demand-3 : {R : Type 0} (z : R) (n op size : ℕ) (x y x₊ y₊ out out′ : List ℕ) (t u v t′ u′ v′ : List R) (r r′ : Answer) → length out ≤ length out′
-    → let run = combine z n op size x y out t u v in
-    let run′ = combine z n op size (x ++ x₊) (y ++ y₊) out′ t′ u′ v′ in
+pub demand-3 : {R S : Type 0} (z : R) (o : S) (n op size : ℕ) (x y x₊ y₊ out out′ : List ℕ) (t u t′ u′ : List R) (v v′ : List S) (r r′ : Answer) → length out ≤ length out′
+    → let run = combine z o n op size x y out t u v in
+    let run′ = combine z o n op size (x ++ x₊) (y ++ y₊) out′ t′ u′ v′ in
     run .answer ≡ done r → run′ .answer ≡ done r′
     → Demand3 n op x y (x ++ x₊) (y ++ y₊) r r′ (take (r .written) (run .output)) (take (r′ .written) (run′ .output))
-demand-3 z n op size x y x₊ y₊ out out′ t u v t′ u′ v′ r r′ l e e′ =
-    let s = ran z n op size x y out t u v r e in
-    let s′ = ran z n op size (x ++ x₊) (y ++ y₊) out′ t′ u′ v′ r′ e′ in
+demand-3 z o n op size x y x₊ y₊ out out′ t u t′ u′ v v′ r r′ l e e′ =
+    let s = ran z o n op size x y out t u v r e in
+    let s′ = ran z o n op size (x ++ x₊) (y ++ y₊) out′ t′ u′ v′ r′ e′ in
     record {
       begins = runs-begin n op size x y x₊ y₊ out out′ r r′ _ _ s s′ l;
       covers = runs-covered n op size x y x₊ y₊ out out′ r r′ _ _ s s′ l;

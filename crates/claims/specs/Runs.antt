@@ -91,10 +91,10 @@ pub record Ran (n op size : ℕ) (x y out : List ℕ) (r : Answer) (t : List ℕ
   pub answer : r ≡ answerOf n (runCovered n (inputs n x y)) (combineText n op size (Streams x y)) out
   pub bytes : take (r .written) t ≡ writtenBytes (combineText n op size (Streams x y)) out
 
-pub ran : {R : Type 0} (z : R) (n op size : ℕ) (x y out : List ℕ) (t u v : List R) (r : Answer) → combine z n op size x y out t u v .answer ≡ done r
-    → Ran n op size x y out r (combine z n op size x y out t u v .output)
+pub ran : {R S : Type 0} (z : R) (o : S) (n op size : ℕ) (x y out : List ℕ) (t u : List R) (v : List S) (r : Answer) → combine z o n op size x y out t u v .answer ≡ done r
+    → Ran n op size x y out r (combine z o n op size x y out t u v .output)
 unfolding combine combineAnswer unlessRefused
-ran z n op size x y out t u v r e =
+ran z o n op size x y out t u v r e =
     let text = combineText n op size (Streams x y) in
     let a = answerOf n (runCovered n (inputs n x y)) text out in
     let g = gate-done (manyOptions n ∷ largeOperator 2 op ∷ largeSize size ∷ shortTables (length t ∷ length u ∷ length v ∷ [])) (unlessFaults n 1 (Streams x y) (done a)) r e in

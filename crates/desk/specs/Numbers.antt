@@ -1,4 +1,4 @@
--- The answer of writing as C has it: numbers, each cause with the paper's number. What does not apply is 0. Assumes nothing.
+-- The answer of writing and of combining as C has it: numbers, each cause with the paper's number. What does not apply is 0. Assumes nothing.
 use mathlib.Core.Path.{_≡_, ap, _∙_}
 use mathlib.Core.List.{List}
 use Prim.Native.Nat.{ℕ}
@@ -37,3 +37,31 @@ pub write-numbers : (r : RuleWritten) (a : Result R.Answer) (z : List (List ℕ)
 write-numbers r a z o n size truths out t e h =
     ap (λ (x : RuleWritten). record { answer = x; table = z; output = o }) e
     ∙ ap (λ (x : W.Write (List ℕ)). record { answer = writtenNumbers (x .answer); table = x .table; output = x .output }) h
+
+-- likewise of combining, with its three work tables
+pub record GivenBoth : Type 0 where
+  pub answer : RuleWritten
+  pub first : List (List ℕ)
+  pub second : List (List ℕ)
+  pub third : List (List ℕ)
+  pub output : List ℕ
+
+abbrev pub combineGiven : ℕ → ℕ → ℕ → List ℕ → List ℕ → List ℕ → List (List ℕ) → List (List ℕ) → List (List ℕ) → GivenBoth
+combineGiven n op size x y out t u v =
+    let c = W.combine (replicate 6 0) (replicate 12 0) n op size x y out t u v in
+    record { answer = writtenNumbers (c .answer); first = c .first; second = c .second; third = c .third; output = c .output }
+
+pub combine-numbers : (r : RuleWritten) (a : Result R.Answer) (p q z : List (List ℕ)) (o : List ℕ) (n op size : ℕ) (x y out : List ℕ)
+    (t u v : List (List ℕ)) → r ≡ writtenNumbers a
+    → record { answer = a; first = p; second = q; third = z; output = o }
+    ≡ W.combine (replicate 6 0) (replicate 12 0) n op size x y out t u v
+    → record { answer = r; first = p; second = q; third = z; output = o } ≡ combineGiven n op size x y out t u v
+combine-numbers r a p q z o n op size x y out t u v e h =
+    ap (λ (b : RuleWritten). record { answer = b; first = p; second = q; third = z; output = o }) e
+    ∙ ap (λ (c : W.Combine (List ℕ) (List ℕ)). record {
+      answer = writtenNumbers (c .answer);
+      first = c .first;
+      second = c .second;
+      third = c .third;
+      output = c .output;
+    }) h

@@ -1,8 +1,8 @@
-// Writing for C, as `include/rule.h` declares it.
+// Writing and combining for C, as `include/rule.h` declares it.
 ghost use mathlib.Core.Path.{_≡_};
 ghost use Prim.Native.Nat.{ℕ};
 ghost use Rattle.writer.specs.Cite.{endingsOf, writingOf};
-ghost use Rattle.desk.specs.Numbers.{endingNumber, writtenNumbers, writeGiven};
+ghost use Rattle.desk.specs.Numbers.{endingNumber, writtenNumbers, writeGiven, combineGiven};
 use writer::Ending;
 use writer::Writing;
 
@@ -70,4 +70,32 @@ pub extern "C" fn rule_write(
     ensures { λ r. ⌜ record { answer = r; table = now (table .exit); output = now (output .exit) } ≡ writeGiven n size (now (truths .entry)) (now (output .entry)) (now (table .entry)) ⌝ }
 {
     written_numbers(writer::write(n, size, truths, output, table))
+}
+
+// COMBINING two streams by an operator
+#[no_mangle]
+pub extern "C" fn rule_combine(
+    n: u32,
+    op: u32,
+    size: u32,
+    stream1: &[u8],
+    stream2: &[u8],
+    output: &mut [u8],
+    table1: &mut [[u32; 6]],
+    table2: &mut [[u32; 6]],
+    table3: &mut [[u32; 12]],
+) -> RuleWritten
+    ensures { λ r. ⌜ record { answer = r; first = now (table1 .exit); second = now (table2 .exit); third = now (table3 .exit); output = now (output .exit) } ≡ combineGiven n op size (now (stream1 .entry)) (now (stream2 .entry)) (now (output .entry)) (now (table1 .entry)) (now (table2 .entry)) (now (table3 .entry)) ⌝ }
+{
+    written_numbers(writer::combine(
+        n,
+        op,
+        size,
+        stream1,
+        stream2,
+        output,
+        table1,
+        table2,
+        table3,
+    ))
 }

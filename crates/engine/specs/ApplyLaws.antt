@@ -1,7 +1,8 @@
 -- The walk over stored nodes leads, part by part, to what the walk of Online knows of the words that the inputs' decisions make;
 -- and one law for each way through code that walks so. Assumes nothing.
 use mathlib.Core.Path.{_≡_, refl, sym, ap, ap₂, _∙_, subst, subst⁻¹}
-use mathlib.Core.Bool.{Bool, true, false, cond, _||_, true≢false}
+use mathlib.Core.Bool.{Bool, true, false, cond, not, _&&_, _||_, true≢false}
+use mathlib.Core.Logic.{_⊎_, inl, inr, ⊎-elim}
 use mathlib.Core.List.{List, [], _∷_, _++_}
 use Prim.Native.Nat.{ℕ, zero, suc, _+_, _-_, _*_, _≤_, _<_, _^_}
 use native.Mathlib.Omega.{arith}
@@ -22,7 +23,7 @@ use Rattle.engine.specs.Pending.{Waiting, pushAll, waitIn}
 use Rattle.engine.specs.Engine.{Half, Pen, Walked, constantHalf, kept, secondIn}
 use Rattle.engine.specs.Leading.{Stands, Leads}
 use Rattle.engine.specs.Walking.{online-stamp, Ready, partIn, push-ready, second-ready, halves-lead, constant-leads, block-leads}
-use Rattle.engine.specs.Applying.{Source, passes, firstSource, secondSource, firstSources, secondSources, allConstant, turns, applyIn}
+use Rattle.engine.specs.Applying.{Source, passes, firstSource, secondSource, firstSources, secondSources, turns, fixed, applyIn}
 
 -- ---- What an input shows ---------------------------------------------------------------------
 
@@ -190,16 +191,68 @@ all-start [] m i (g ∷ gs) h = absurd h
 all-start (x ∷ xs) m i [] h = absurd h
 all-start (x ∷ xs) m i (g ∷ gs) h = ap₂ _∷_ (shows-start x m i g (h .0)) (all-start xs m i gs (h .1))
 
--- at the constant
-pub all-constant : (xs : List Source) (m i : ℕ) (gs : List (ℕ → Bool)) → allConstant xs ≡ true → ShowsAll xs m i gs
-    → (w : ℕ) → w < 2 ^ m → decisionsAt gs w ≡ turns xs
-all-constant [] m i [] e h w l = refl
-all-constant [] m i (g ∷ gs) e h w l = absurd h
-all-constant (x ∷ xs) m i [] e h w l = absurd h
-all-constant (x ∷ xs) m i (g ∷ gs) e h w l =
-    let z = eqb (x .number) 0 in
-    ap₂ _∷_ (shows-constant x m i g (eqb-true (x .number) 0 (and-l z (allConstant xs) e)) (h .0) w l)
-    (all-constant xs m i gs (and-r z (allConstant xs) e) (h .1) w l)
+-- ---- What the constants fix ------------------------------------------------------------------
+
+-- both decisions are alike
+same-both : (a b : Bool) → not (differ a b) ≡ true → a ≡ b
+same-both true true e = refl
+same-both true false e = absurd (true≢false (sym e))
+same-both false true e = absurd (true≢false (sym e))
+same-both false false e = refl
+
+-- a decision is one or the other
+one-of : (d v : Bool) → (d ≡ v) ⊎ (d ≡ not v)
+one-of true true = inl refl
+one-of true false = inr refl
+one-of false true = inr refl
+one-of false false = inl refl
+
+-- not both
+not-same : (v : Bool) → v ≡ not v → ⊥
+not-same true e = true≢false e
+not-same false e = true≢false (sym e)
+
+-- where the constants fix it, op comes to what it comes to at the first word
+pub all-fixed : (op : List Bool → Bool) (xs : List Source) (m i : ℕ) (gs : List (ℕ → Bool)) → fixed op xs ≡ true → ShowsAll xs m i gs
+    → (w : ℕ) → w < 2 ^ m → op (decisionsAt gs w) ≡ op (turns xs)
+unfolding fixed
+all-fixed op [] m i [] e h w l = refl
+all-fixed op [] m i (g ∷ gs) e h w l = absurd h
+all-fixed op (x ∷ xs) m i [] e h w l = absurd h
+all-fixed op (x ∷ xs) m i (g ∷ gs) e h w l =
+    let again : (v : Bool) → fixed (λ ds. op (v ∷ ds)) xs ≡ true → op (v ∷ decisionsAt gs w) ≡ op (v ∷ turns xs) =
+    λ v k. all-fixed (λ ds. op (v ∷ ds)) xs m i gs k (h .1) w l in
+    ⊎-elim (plain again) (turned again) (one-of (g w) (x .turned))
+  where
+    -- with the first input's decision v
+    with : Bool → List Bool → Bool
+    with v ds = op (v ∷ ds)
+
+    -- what is asked of the first input
+    rest : Bool
+    rest = fixed (with (not (x .turned))) xs && not (differ (op (x .turned ∷ turns xs)) (op (not (x .turned) ∷ turns xs)))
+
+    Again : Type 0
+    Again = (v : Bool) → fixed (with v) xs ≡ true → op (v ∷ decisionsAt gs w) ≡ op (v ∷ turns xs)
+
+    plain : Again → g w ≡ x .turned → op (g w ∷ decisionsAt gs w) ≡ op (x .turned ∷ turns xs)
+    plain again z =
+        ap (λ (v : Bool). op (v ∷ decisionsAt gs w)) z
+        ∙ again (x .turned) (and-l (fixed (with (x .turned)) xs) (eqb (x .number) 0 || rest) e)
+
+    other : (u : Bool) → eqb (x .number) 0 ≡ u → (u || rest) ≡ true → g w ≡ not (x .turned) → rest ≡ true
+    other true z r o =
+        absurd (not-same (x .turned) (sym (shows-constant x m i g (eqb-true (x .number) 0 z) (h .0) w l) ∙ o))
+    other false z r o = r
+
+    turned : Again → g w ≡ not (x .turned) → op (g w ∷ decisionsAt gs w) ≡ op (x .turned ∷ turns xs)
+    turned again z =
+        let r = other (eqb (x .number) 0) refl (and-r (fixed (with (x .turned)) xs) (eqb (x .number) 0 || rest) e) z in
+        let u = fixed (with (not (x .turned))) xs in
+        let v = not (differ (op (x .turned ∷ turns xs)) (op (not (x .turned) ∷ turns xs))) in
+        ap (λ (v : Bool). op (v ∷ decisionsAt gs w)) z
+        ∙ again (not (x .turned)) (and-l u v r)
+        ∙ sym (same-both (op (x .turned ∷ turns xs)) (op (not (x .turned) ∷ turns xs)) (and-r u v r))
 
 -- ---- The walk over stored nodes --------------------------------------------------------------
 
@@ -233,7 +286,7 @@ apply-step : (op : List Bool → Bool) (n size d i : ℕ) (o : List ℕ) → 0 <
     → Applies op n size d (suc i) o → Applies op n size (suc d) i o
 unfolding applyIn
 apply-step op n size d i o real deep small few half at m T p w xs gs f t out pen s st here room young sh mk =
-    go (allConstant xs) refl
+    go (fixed op xs) refl
   where
     next : i + 1 ≡ suc i
     next = omega arith
@@ -328,7 +381,7 @@ apply-step op n size d i o real deep small few half at m T p w xs gs f t out pen
     second : a .pen .full ≡ false → Second turned (b turned (i + 1))
     second g = subst⁻¹ (λ (u : Bool). Second u (b u (i + 1))) (same g) (walked g)
 
-    go : (c : Bool) → allConstant xs ≡ c
+    go : (c : Bool) → fixed op xs ≡ c
         → Leads n size i m o T p w (cond c (kept (constantHalf (op (turns xs))) t out w pen)
         (cond (a .pen .full) a (secondIn size i (mid turned .count) turned (a .half) (b turned (i + 1)))))
         (online size (suc d) i at p f s)
@@ -337,7 +390,7 @@ apply-step op n size d i o real deep small few half at m T p w xs gs f t out pen
         (λ j l k.
         let z : at + (j - at) ≡ j = omega (arith, l) in
         let h : j - at < 2 ^ suc d = omega (arith, l, k) in
-        ap f (sym z) ∙ mk (j - at) h ∙ ap op (all-constant xs (suc d) i gs e sh (j - at) h))
+        ap f (sym z) ∙ mk (j - at) h ∙ all-fixed op xs (suc d) i gs e sh (j - at) h)
     go false e =
         halves-lead n size d i at m o T p w f s (st .sound) (st .normal) real deep small here long few young a (b turned (i + 1))
         turned first same second
@@ -404,23 +457,23 @@ module _ (op : List Bool → Bool) (size d i m : ℕ) (xs : List Source) (t : Li
   abbrev afterFirst : Waiting → Walked → Walked
   afterFirst p a = cond (a .pen .full) a (started (secondSources i xs) p a (a .half))
 
-  -- d + 1 options: all inputs at the constant
-  constant-suc : allConstant xs ≡ true → kept (constantHalf (op (turns xs))) t out w pen ≡ whole (suc d)
+  -- d + 1 options: what op comes to is fixed
+  constant-suc : fixed op xs ≡ true → kept (constantHalf (op (turns xs))) t out w pen ≡ whole (suc d)
   unfolding applyIn
   constant-suc h = rw h refl
 
   -- by the halves
-  halves-suc : allConstant xs ≡ false →
+  halves-suc : fixed op xs ≡ false →
       let p = pushAll w m (opener ∷ []) in afterFirst p (firstFrom (firstSources i xs) p) ≡ whole (suc d)
   unfolding applyIn
   halves-suc h = rw h refl
 
-  -- e options, all inputs at the constant; c: what they come to
-  pub apply-constant : (e : ℕ) (c : Bool) → e ≡ suc d → allConstant xs ≡ true → c ≡ op (turns xs)
+  -- e options, what op comes to is fixed; c: what they come to
+  pub apply-constant : (e : ℕ) (c : Bool) → e ≡ suc d → fixed op xs ≡ true → c ≡ op (turns xs)
       → kept (constantHalf c) t out w pen ≡ whole e
   apply-constant e c n h v = ap (λ (c : Bool). kept (constantHalf c) t out w pen) v ∙ constant-suc h ∙ ap whole (sym n)
 
-  module _ (e : ℕ) (n : e ≡ suc d) (h : allConstant xs ≡ false) (ys : List Source) (p : Waiting) (a : Walked)
+  module _ (e : ℕ) (n : e ≡ suc d) (h : fixed op xs ≡ false) (ys : List Source) (p : Waiting) (a : Walked)
       (went : ys ≡ firstSources i xs) (pushed : p ≡ pushAll w m (opener ∷ [])) (walked : a ≡ firstFrom ys p) where
     -- with the first half walked
     onward : afterFirst p a ≡ whole e

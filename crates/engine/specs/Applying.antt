@@ -1,6 +1,6 @@
 -- The part of a combiner that walks stored nodes only: inputs at edges of their own tables, and an operator on their decisions.
 -- Definitions only; code mirrors them, and ApplyLaws ties them to the walk of Online. Assumes nothing.
-use mathlib.Core.Bool.{Bool, true, cond, _&&_, _||_}
+use mathlib.Core.Bool.{Bool, true, cond, not, _&&_, _||_}
 use mathlib.Core.List.{List, [], _∷_}
 use Prim.Native.Nat.{ℕ, zero, suc, _+_}
 use lib.Dec.{eqb, ltb}
@@ -47,20 +47,23 @@ abbrev pub secondSources : ℕ → List Source → List Source
 secondSources i [] = []
 secondSources i (x ∷ xs) = secondSource i x ∷ secondSources i xs
 
--- all are the constant, turned about or not
-abbrev pub allConstant : List Source → Bool
-allConstant [] = true
-allConstant (x ∷ xs) = eqb (x .number) 0 && allConstant xs
-
 -- which of them are turned about: what they decide at the first word of a block
 abbrev pub turns : List Source → List Bool
 turns [] = []
 turns (x ∷ xs) = x .turned ∷ turns xs
 
+-- The constants among them fix what op comes to: whatever the others decide, it is the same
+unfoldable pub fixed : (List Bool → Bool) → List Source → Bool
+fixed op [] = true
+fixed op (x ∷ xs) =
+    fixed (λ ds. op (x .turned ∷ ds)) xs && (eqb (x .number) 0 || (fixed (λ ds. op (not (x .turned) ∷ ds)) xs
+    && not (differ (op (x .turned ∷ turns xs)) (op (not (x .turned) ∷ turns xs)))))
+
 -- ---- The walk over stored nodes --------------------------------------------------------------
 
 -- The part of level i with d options left, after m bytes that wait; op: what the inputs' decisions come to
 unfoldable pub applyIn : (List Bool → Bool) → ℕ → ℕ → ℕ → ℕ → List Source → List (List ℕ) → List ℕ → List ℕ → Pen → Walked
+unfolding fixed
 applyIn op size zero i m xs t out w pen = kept (constantHalf (op (turns xs))) t out w pen
 applyIn op size (suc d) i m xs t out w pen =
     let p = pushAll w m (opener ∷ []) in
@@ -69,5 +72,5 @@ applyIn op size (suc d) i m xs t out w pen =
     let q = waitIn (a .waits) (p .count) (a .half .wrote) (a .half .skipped) (a .half .number) in
     let r = pushAll (q .bytes) (q .count) (tildeIf turned) in
     let b = applyIn op size d (i + 1) (r .count) (secondSources i xs) (a .table) (a .output) (r .bytes) (a .pen) in
-    cond (allConstant xs) (kept (constantHalf (op (turns xs))) t out w pen)
+    cond (fixed op xs) (kept (constantHalf (op (turns xs))) t out w pen)
     (cond (a .pen .full) a (secondIn size i (r .count) turned (a .half) b))

@@ -33,3 +33,7 @@ pub mod ApplyLaws
 -- Combining: the walk over texts
 pub mod Taping
 pub mod TapeLaws
+-- Combining: the whole run
+pub mod Joining
+pub mod JoinLaws
+pub mod TextMade

@@ -159,9 +159,13 @@ truth-past v at h =
     let e : 0 / 2 ^ (at % 8) ≡ 0 = omega (arith, shr-le 0 (at % 8)) in
     sym (ap (λ (x : ℕ). eqb (x / 2 ^ (at % 8) % 2) 1) (List·getD-eq-default v 0 h) ∙ ap (λ (x : ℕ). eqb (x % 2) 1) e)
 
--- 2 ^ d words, for at most 16 options: a shift in 64 bits gives their count, and their bytes are few
+-- 2 ^ d words: a shift in 64 bits gives their count
+pub shift-words : (d : ℕ) → d ≤ 32 → 1 * 2 ^ d % 18446744073709551616 ≡ 2 ^ d
+shift-words d h = shl-exact {a = 1} 1 d 64 (omega arith) (omega (arith, h)) ∙ one-mul (2 ^ d)
+
+-- for at most 16 options, and their bytes are few
 pub few-words : (d : ℕ) → d ≤ 16 → 1 * 2 ^ d % 18446744073709551616 ≡ 2 ^ d
-few-words d h = shl-exact {a = 1} 1 d 64 (omega arith) (omega (arith, h)) ∙ one-mul (2 ^ d)
+few-words d h = shift-words d (omega (arith, h))
 
 pub few-bytes : (d : ℕ) → d ≤ 16 → 1 * 2 ^ d % 18446744073709551616 / 8 ≤ 65536
 few-bytes d h = let e : 2 ^ d ≤ 65536 = pow-mono h in omega (arith, few-words d h, e)

@@ -70,7 +70,7 @@ full-wrote o x y r b f h =
     }
 
 -- nothing has gone out yet
-none-output : (o : List ℕ) → o ≡ outputAfter [] o
+pub none-output : (o : List ℕ) → o ≡ outputAfter [] o
 unfolding outputAfter writtenBytes
 none-output o = ap (λ (l : List ℕ). l ++ drop (length l) o) (sym (take-nil (length o)))
 
@@ -108,7 +108,7 @@ done-wrote n size m o T p w y r x small fits room e h = go (r .pen .full) refl
         (a .stands .output) (a .stands .written) (a .stands .holds) (ready .text))
 
 -- the size and its LF are five bytes at most
-head-length : (size : ℕ) → size ≤ tableLimit → length (head size) ≤ 5
+pub head-length : (size : ℕ) → size ≤ tableLimit → length (head size) ≤ 5
 head-length size few =
     omega (arith, few, length-append (decimal size) (lineFeed ∷ []), decimal-length size (omega (arith, few)))
 
@@ -131,7 +131,7 @@ start-stands n size o t x wide long zeros h f =
     }
 
 -- no number has a stamp at the start
-start-stamp : (k : ℕ) → stamp (start .table) k ≡ 0
+pub start-stamp : (k : ℕ) → stamp (start .table) k ≡ 0
 start-stamp zero = refl
 start-stamp (suc k) = refl
 

@@ -14,7 +14,7 @@ use borrow.Author.Tests.{eqb-true, eqb-false, leb-true, leb-false, ltb-true, lt-
 use Rattle.lists.specs.Lists.{differ, or-l, or-r, or-false, or-left, or-right, decide-le, pow-pos}
 use Rattle.lists.specs.Prefixes.{Begins, begins-left}
 use Rattle.reading.specs.Bytes.{opener}
-use Rattle.reading.specs.Nodes.{stamp}
+use Rattle.reading.specs.Nodes.{node, stamp}
 use Rattle.reading.specs.Limits.{tableLimit}
 use Rattle.reading.specs.Deciding.{decided}
 use Rattle.writing.specs.UniqueTable.{State}
@@ -27,21 +27,21 @@ use Rattle.engine.specs.Pending.{Waiting, pushAll}
 use Rattle.engine.specs.Engine.{Pen, Walked, meetIn, secondIn}
 use Rattle.engine.specs.Leading.{Stands, Leads}
 use Rattle.engine.specs.Walking.{online-stamp, Ready, partIn, push-ready, second-ready, halves-lead, first-at, second-at}
-use Rattle.engine.specs.Applying.{Source, applyIn}
+use Rattle.engine.specs.Applying.{Source, passes, firstSource, secondSource, applyIn}
 use Rattle.engine.specs.ApplyLaws.{Shows, ShowsAll, decisionsAt, shows-first, shows-second, shows-start, apply-leads}
-use Rattle.engine.specs.Taping.{Feed, Applied, onTape, atEdge, anyText, sources, tapesOf, resume, halted, endedAt, wentOn, settle, firstFeed, secondFeed, firstFeeds, secondFeeds, turnsOf, textIn}
+use Rattle.engine.specs.Taping.{Feed, Applied, onTape, atEdge, anyText, tapesOf, resume, halted, endedAt, wentOn, edgeOf, edgesOf, settle, firstFeed, secondFeed, firstFeeds, secondFeeds, turnsOf, textIn}
 
 -- ---- Where the inputs stand ------------------------------------------------------------------
 
 -- Reads τ at x: the tape τ, of the input x, stands at the block that begins with word `at`, of 2 ^ (n - deepOf τ) words
-module _ {Tape : Type 0} (deepOf : Tape → ℕ) (n : ℕ) (Reads : Tape → ℕ → Input → Type 0) where
+module _ {Tape : Type 0} (deepOf : Tape → ℕ) (sourceOf : Tape → Source) (next : Tape → Tape) (n : ℕ) (Reads : Tape → ℕ → Input → Type 0) where
   -- an input at the part of level i with d options and first word `at`: in its text at a smaller block, or at an edge for it
   abbrev pub FedBy : Bool → Tape → Source → ℕ → ℕ → ℕ → Input → Type 0
   FedBy true τ y i d at x = Reads τ at x × (i ≤ deepOf τ)
   FedBy false τ y i d at x = Shows y d i (λ w. x .decides (at + w)) × (at + 2 ^ d ≤ x .covered)
 
   abbrev pub Fed : ℕ → ℕ → ℕ → Feed Tape → Input → Type 0
-  Fed i d at f x = FedBy (f .inText) (f .tape) (f .source) i d at x
+  Fed i d at f x = FedBy (f .inText) (f .tape) (edgeOf deepOf sourceOf next f) i d at x
 
   -- all inputs
   abbrev pub AllFed : ℕ → ℕ → ℕ → List (Feed Tape) → List Input → Type 0
@@ -102,11 +102,11 @@ joins-latter op c d at xs f mk w l r = mk w (omega (arith, l)) (omega (arith, r)
 -- ---- What a part leads to --------------------------------------------------------------------
 
 -- The part of level i that ends before word e, all covered, leads to r; x: what the walk of Online knows of it
-pub record Wholly {Tape : Type 0} (deepOf : Tape → ℕ) (n : ℕ) (Reads : Tape → ℕ → Input → Type 0) (size i m e : ℕ)
+pub record Wholly {Tape : Type 0} (deepOf : Tape → ℕ) (sourceOf : Tape → Source) (next : Tape → Tape) (n : ℕ) (Reads : Tape → ℕ → Input → Type 0) (size i m e : ℕ)
     (o T p w : List ℕ) (fs : List (Feed Tape)) (xs : List Input) (r : Applied Tape) (x : Went) : Type 0 where
   pub goes-on : r .ended ≡ false
   pub leads : Leads n size i m o T p w (r .walked) x
-  pub passed : r .walked .pen .full ≡ false → AllPassed deepOf n Reads e fs xs (r .tapes)
+  pub passed : r .walked .pen .full ≡ false → AllPassed deepOf sourceOf next n Reads e fs xs (r .tapes)
 
 -- the part within which the covered words end leads to r; x: what a cut run sends of it
 pub record Cutly {Tape : Type 0} (o T x : List ℕ) (r : Applied Tape) : Type 0 where
@@ -117,21 +117,21 @@ pub record Cutly {Tape : Type 0} (o T x : List ℕ) (r : Applied Tape) : Type 0 
 
 -- ---- All inputs at edges ---------------------------------------------------------------------
 
-module _ {Tape : Type 0} (deepOf : Tape → ℕ) (n : ℕ) (Reads : Tape → ℕ → Input → Type 0) where
+module _ {Tape : Type 0} (deepOf : Tape → ℕ) (sourceOf : Tape → Source) (next : Tape → Tape) (n : ℕ) (Reads : Tape → ℕ → Input → Type 0) where
   -- they show what they decide
-  edges-show : (i d at : ℕ) (fs : List (Feed Tape)) (xs : List Input) → anyText fs ≡ false → AllFed deepOf n Reads i d at fs xs
-      → ShowsAll (sources fs) d i (decidersFrom at xs)
+  edges-show : (i d at : ℕ) (fs : List (Feed Tape)) (xs : List Input) → anyText fs ≡ false → AllFed deepOf sourceOf next n Reads i d at fs xs
+      → ShowsAll (edgesOf deepOf sourceOf next fs) d i (decidersFrom at xs)
   edges-show i d at [] [] e h = tt
   edges-show i d at [] (x ∷ xs) e h = h
   edges-show i d at (f ∷ fs) [] e h = h
   edges-show i d at (f ∷ fs) (x ∷ xs) e h =
       let u = or-l (f .inText) (anyText fs) e in (
-        subst (λ (u : Bool). FedBy deepOf n Reads u (f .tape) (f .source) i d at x) u (h .0) .0,
+        subst (λ (u : Bool). FedBy deepOf sourceOf next n Reads u (f .tape) (edgeOf deepOf sourceOf next f) i d at x) u (h .0) .0,
         edges-show i d at fs xs (or-r (f .inText) (anyText fs) e) (h .1),
       )
 
   -- all words of the part are covered
-  edges-within : (i d at : ℕ) (fs : List (Feed Tape)) (xs : List Input) → anyText fs ≡ false → AllFed deepOf n Reads i d at fs xs
+  edges-within : (i d at : ℕ) (fs : List (Feed Tape)) (xs : List Input) → anyText fs ≡ false → AllFed deepOf sourceOf next n Reads i d at fs xs
       → at + 2 ^ d ≤ 2 ^ n → at + 2 ^ d ≤ runCovered n xs
   unfolding runCovered
   edges-within i d at [] [] e h l = l
@@ -139,18 +139,18 @@ module _ {Tape : Type 0} (deepOf : Tape → ℕ) (n : ℕ) (Reads : Tape → ℕ
   edges-within i d at (f ∷ fs) [] e h l = absurd h
   edges-within i d at (f ∷ fs) (x ∷ xs) e h l =
       let u = or-l (f .inText) (anyText fs) e in
-      let g = subst (λ (u : Bool). FedBy deepOf n Reads u (f .tape) (f .source) i d at x) u (h .0) .1 in
+      let g = subst (λ (u : Bool). FedBy deepOf sourceOf next n Reads u (f .tape) (edgeOf deepOf sourceOf next f) i d at x) u (h .0) .1 in
       omega (arith, g, edges-within i d at fs xs (or-r (f .inText) (anyText fs) e) (h .1) l)
 
   -- their tapes stay
   edges-passed : (i d at e : ℕ) (fs : List (Feed Tape)) (xs : List Input) → anyText fs ≡ false
-      → AllFed deepOf n Reads i d at fs xs → AllPassed deepOf n Reads e fs xs (tapesOf fs)
+      → AllFed deepOf sourceOf next n Reads i d at fs xs → AllPassed deepOf sourceOf next n Reads e fs xs (tapesOf fs)
   edges-passed i d at e [] [] z h = tt
   edges-passed i d at e [] (x ∷ xs) z h = h
   edges-passed i d at e (f ∷ fs) [] z h = h
   edges-passed i d at e (f ∷ fs) (x ∷ xs) z h =
       let u = or-l (f .inText) (anyText fs) z in (
-        subst⁻¹ (λ (u : Bool). PassedBy deepOf n Reads u (f .tape) e x (f .tape)) u refl,
+        subst⁻¹ (λ (u : Bool). PassedBy deepOf sourceOf next n Reads u (f .tape) e x (f .tape)) u refl,
         edges-passed i d at e fs xs (or-r (f .inText) (anyText fs) z) (h .1),
       )
 
@@ -247,9 +247,44 @@ middle-odd d r k j at e h = ⊎-elim below above (decide-le (j * 2 ^ r) k)
 
 -- ---- An input at the halves ------------------------------------------------------------------
 
+module _ {Tape : Type 0} (deepOf : Tape → ℕ) (sourceOf : Tape → Source) (next : Tape → Tape) (i : ℕ) (f : Feed Tape) where
+  -- an edge's halves are edges in the same table
+  edge-first : edgeOf deepOf sourceOf next (atEdge f (firstSource i (edgeOf deepOf sourceOf next f)))
+      ≡ firstSource i (edgeOf deepOf sourceOf next f)
+  edge-first = go (passes i x)
+    where
+      x : Source
+      x = edgeOf deepOf sourceOf next f
+
+      y : Source
+      y = record { table = x .table; number = node (x .table) (x .number) .first; turned = x .turned }
+
+      go : (u : Bool) → edgeOf deepOf sourceOf next (atEdge f (cond u x y)) ≡ cond u x y
+      go true = refl
+      go false = refl
+
+  edge-second : edgeOf deepOf sourceOf next (atEdge f (secondSource i (edgeOf deepOf sourceOf next f)))
+      ≡ secondSource i (edgeOf deepOf sourceOf next f)
+  edge-second = go (passes i x)
+    where
+      x : Source
+      x = edgeOf deepOf sourceOf next f
+
+      y : Source
+      y =
+          record {
+            table = x .table;
+            number = node (x .table) (x .number) .second;
+            turned = differ (node (x .table) (x .number) .complement) (x .turned);
+          }
+
+      go : (u : Bool) → edgeOf deepOf sourceOf next (atEdge f (cond u x y)) ≡ cond u x y
+      go true = refl
+      go false = refl
+
 -- an input in its text
 abbrev pub texted : {Tape : Type 0} → Tape → Source → Feed Tape
-texted τ y = record { tape = τ; inText = true; source = y }
+texted τ y = record { tape = τ; inText = true; number = y .number; turned = y .turned }
 
 module _ {Tape : Type 0} (deepOf : Tape → ℕ) (sourceOf : Tape → Source) (next : Tape → Tape) (n c : ℕ)
     (Reads : Tape → ℕ → Input → Type 0)
@@ -263,11 +298,11 @@ module _ {Tape : Type 0} (deepOf : Tape → ℕ) (sourceOf : Tape → Source) (n
   module _ (i d : ℕ) (deep : i + suc d ≡ suc n) where
     -- at a part of the next level that begins with its block, which is no greater
     pub settled : (at : ℕ) (τ : Tape) (y : Source) (x : Input) → Reads τ at x → i ≤ deepOf τ
-        → Fed deepOf n Reads (i + 1) d at (settle deepOf sourceOf next (i + 1) (texted τ y)) x
+        → Fed deepOf sourceOf next n Reads (i + 1) d at (settle deepOf sourceOf next (i + 1) (texted τ y)) x
     settled at τ y x h l = go (eqb (deepOf τ + 1) (i + 1)) refl
       where
         go : (u : Bool) → eqb (deepOf τ + 1) (i + 1) ≡ u
-            → Fed deepOf n Reads (i + 1) d at (cond u (atEdge (texted τ y) (sourceOf τ)) (texted τ y)) x
+            → Fed deepOf sourceOf next n Reads (i + 1) d at (cond u (atEdge (texted τ y) (sourceOf τ)) (texted τ y)) x
         go true e =
             let j = eqb-true (deepOf τ + 1) (i + 1) e in
             let k : n - deepOf τ ≡ d = omega (arith, j, deep) in (
@@ -283,28 +318,32 @@ module _ {Tape : Type 0} (deepOf : Tape → ℕ) (sourceOf : Tape → Source) (n
 
     -- after that half its tape is at a block that ends with it
     settled-passed : (at : ℕ) (τ υ : Tape) (y : Source) (x : Input) → Reads τ at x
-        → Passed deepOf n Reads (at + 2 ^ d) (settle deepOf sourceOf next (i + 1) (texted τ y)) x υ
-        → ReadTo deepOf n Reads υ (at + 2 ^ d) x
+        → Passed deepOf sourceOf next n Reads (at + 2 ^ d) (settle deepOf sourceOf next (i + 1) (texted τ y)) x υ
+        → ReadTo deepOf sourceOf next n Reads υ (at + 2 ^ d) x
     settled-passed at τ υ y x h = go (eqb (deepOf τ + 1) (i + 1)) refl
       where
         go : (u : Bool) → eqb (deepOf τ + 1) (i + 1) ≡ u
-            → Passed deepOf n Reads (at + 2 ^ d) (cond u (atEdge (texted τ y) (sourceOf τ)) (texted τ y)) x υ
-            → ReadTo deepOf n Reads υ (at + 2 ^ d) x
+            → Passed deepOf sourceOf next n Reads (at + 2 ^ d) (cond u (atEdge (texted τ y) (sourceOf τ)) (texted τ y)) x υ
+            → ReadTo deepOf sourceOf next n Reads υ (at + 2 ^ d) x
         go true e q =
             let k : n - deepOf τ ≡ d = omega (arith, eqb-true (deepOf τ + 1) (i + 1) e, deep) in
-            subst⁻¹ (λ (υ : Tape). ReadTo deepOf n Reads υ (at + 2 ^ d) x) q (at, (h, ap (λ (m : ℕ). at + 2 ^ m) k))
+            subst⁻¹ (λ (υ : Tape). ReadTo deepOf sourceOf next n Reads υ (at + 2 ^ d) x) q (at, (h, ap (λ (m : ℕ). at + 2 ^ m) k))
         go false e q = q
 
     -- at the first half
-    fed-first : (at : ℕ) (f : Feed Tape) (x : Input) → Fed deepOf n Reads i (suc d) at f x
-        → Fed deepOf n Reads (i + 1) d at (firstFeed deepOf sourceOf next i f) x
+    fed-first : (at : ℕ) (f : Feed Tape) (x : Input) → Fed deepOf sourceOf next n Reads i (suc d) at f x
+        → Fed deepOf sourceOf next n Reads (i + 1) d at (firstFeed deepOf sourceOf next i f) x
     fed-first at f x = go (f .inText)
       where
-        go : (u : Bool) → FedBy deepOf n Reads u (f .tape) (f .source) i (suc d) at x
-            → Fed deepOf n Reads (i + 1) d at
-            (firstFeed deepOf sourceOf next i (record { tape = f .tape; inText = u; source = f .source })) x
-        go true h = settled at (f .tape) (f .source) x (h .0) (h .1)
-        go false h = (shows-first (f .source) d i (λ w. x .decides (at + w)) (h .0), omega (arith, h .1))
+        go : (u : Bool) → FedBy deepOf sourceOf next n Reads u (f .tape) (edgeOf deepOf sourceOf next f) i (suc d) at x
+            → Fed deepOf sourceOf next n Reads (i + 1) d at
+            (firstFeed deepOf sourceOf next i (record { tape = f .tape; inText = u; number = f .number; turned = f .turned })) x
+        go true h = settled at (f .tape) (edgeOf deepOf sourceOf next f) x (h .0) (h .1)
+        go false h = (
+          subst⁻¹ (λ (y : Source). Shows y d (i + 1) (λ w. x .decides (at + w))) (edge-first deepOf sourceOf next i f)
+              (shows-first (edgeOf deepOf sourceOf next f) d i (λ w. x .decides (at + w)) (h .0)),
+          omega (arith, h .1),
+        )
 
     module _ (k at : ℕ) (z : at ≡ k * 2 ^ suc d) where
       -- a block that begins in the middle of the part is no greater than a half
@@ -319,57 +358,61 @@ module _ {Tape : Type 0} (deepOf : Tape → ℕ) (sourceOf : Tape → Source) (n
 
       -- in its text, from the tape it has after the first half
       text-next : (τ υ : Tape) (y : Source) (x : Input) → at + 2 ^ d < c → Reads τ at x
-          → Passed deepOf n Reads (at + 2 ^ d) (settle deepOf sourceOf next (i + 1) (texted τ y)) x υ
+          → Passed deepOf sourceOf next n Reads (at + 2 ^ d) (settle deepOf sourceOf next (i + 1) (texted τ y)) x υ
           → Reads (next υ) (at + 2 ^ d) x
       text-next τ υ y x l h q =
           let r = settled-passed at τ υ y x h q in
           subst (λ (e : ℕ). e < c → Reads (next υ) e x) (r .1 .1) (reads-next υ (r .0) x (r .1 .0)) l
 
       -- at the second half
-      fed-second : (f : Feed Tape) (x : Input) (υ : Tape) → at + 2 ^ d < c → Fed deepOf n Reads i (suc d) at f x
-          → Passed deepOf n Reads (at + 2 ^ d) (firstFeed deepOf sourceOf next i f) x υ
-          → Fed deepOf n Reads (i + 1) d (at + 2 ^ d) (secondFeed deepOf sourceOf next i (onTape f υ)) x
+      fed-second : (f : Feed Tape) (x : Input) (υ : Tape) → at + 2 ^ d < c → Fed deepOf sourceOf next n Reads i (suc d) at f x
+          → Passed deepOf sourceOf next n Reads (at + 2 ^ d) (firstFeed deepOf sourceOf next i f) x υ
+          → Fed deepOf sourceOf next n Reads (i + 1) d (at + 2 ^ d) (secondFeed deepOf sourceOf next i (onTape f υ)) x
       fed-second f x υ l = go (f .inText)
         where
-          go : (u : Bool) → FedBy deepOf n Reads u (f .tape) (f .source) i (suc d) at x
-              → Passed deepOf n Reads (at + 2 ^ d)
-              (firstFeed deepOf sourceOf next i (record { tape = f .tape; inText = u; source = f .source })) x υ
-              → Fed deepOf n Reads (i + 1) d (at + 2 ^ d)
-              (secondFeed deepOf sourceOf next i (record { tape = υ; inText = u; source = f .source })) x
+          go : (u : Bool) → FedBy deepOf sourceOf next n Reads u (f .tape) (edgeOf deepOf sourceOf next f) i (suc d) at x
+              → Passed deepOf sourceOf next n Reads (at + 2 ^ d)
+              (firstFeed deepOf sourceOf next i (record { tape = f .tape; inText = u; number = f .number; turned = f .turned })) x υ
+              → Fed deepOf sourceOf next n Reads (i + 1) d (at + 2 ^ d)
+              (secondFeed deepOf sourceOf next i (record { tape = υ; inText = u; number = f .number; turned = f .turned })) x
           go true h q =
-              let r = text-next (f .tape) υ (f .source) x l (h .0) q in
-              settled (at + 2 ^ d) (next υ) (f .source) x r (middle-deep (next υ) x r)
-          go false h q = (
-            λ w g.
-                let e : at + (2 ^ d + w) ≡ at + 2 ^ d + w = omega arith in
-                shows-second (f .source) d i (λ w. x .decides (at + w)) (h .0) w g ∙ ap (λ (j : ℕ). decided (x .decides j)) e,
-            omega (arith, h .1),
-          )
+              let r = text-next (f .tape) υ (edgeOf deepOf sourceOf next f) x l (h .0) q in
+              settled (at + 2 ^ d) (next υ) (edgeOf deepOf sourceOf next f) x r (middle-deep (next υ) x r)
+          go false h q =
+              subst⁻¹ (λ (υ : Tape). Fed deepOf sourceOf next n Reads (i + 1) d (at + 2 ^ d)
+              (secondFeed deepOf sourceOf next i (record { tape = υ; inText = false; number = f .number; turned = f .turned })) x) q (
+                subst⁻¹ (λ (y : Source). Shows y d (i + 1) (λ w. x .decides (at + 2 ^ d + w))) (edge-second deepOf sourceOf next i f)
+                    (λ w g.
+                    let e : at + (2 ^ d + w) ≡ at + 2 ^ d + w = omega arith in
+                    shows-second (edgeOf deepOf sourceOf next f) d i (λ w. x .decides (at + w)) (h .0) w g
+                    ∙ ap (λ (j : ℕ). decided (x .decides j)) e),
+                omega (arith, h .1),
+              )
 
       -- after it
-      passed-second : (f : Feed Tape) (x : Input) (υ φ : Tape) → at + 2 ^ d < c → Fed deepOf n Reads i (suc d) at f x
-          → Passed deepOf n Reads (at + 2 ^ d) (firstFeed deepOf sourceOf next i f) x υ
-          → Passed deepOf n Reads (at + 2 ^ d + 2 ^ d) (secondFeed deepOf sourceOf next i (onTape f υ)) x φ
-          → Passed deepOf n Reads (at + 2 ^ suc d) f x φ
+      passed-second : (f : Feed Tape) (x : Input) (υ φ : Tape) → at + 2 ^ d < c → Fed deepOf sourceOf next n Reads i (suc d) at f x
+          → Passed deepOf sourceOf next n Reads (at + 2 ^ d) (firstFeed deepOf sourceOf next i f) x υ
+          → Passed deepOf sourceOf next n Reads (at + 2 ^ d + 2 ^ d) (secondFeed deepOf sourceOf next i (onTape f υ)) x φ
+          → Passed deepOf sourceOf next n Reads (at + 2 ^ suc d) f x φ
       passed-second f x υ φ l = go (f .inText)
         where
-          go : (u : Bool) → FedBy deepOf n Reads u (f .tape) (f .source) i (suc d) at x
-              → Passed deepOf n Reads (at + 2 ^ d)
-              (firstFeed deepOf sourceOf next i (record { tape = f .tape; inText = u; source = f .source })) x υ
-              → Passed deepOf n Reads (at + 2 ^ d + 2 ^ d)
-              (secondFeed deepOf sourceOf next i (record { tape = υ; inText = u; source = f .source })) x φ
-              → PassedBy deepOf n Reads u (f .tape) (at + 2 ^ suc d) x φ
+          go : (u : Bool) → FedBy deepOf sourceOf next n Reads u (f .tape) (edgeOf deepOf sourceOf next f) i (suc d) at x
+              → Passed deepOf sourceOf next n Reads (at + 2 ^ d)
+              (firstFeed deepOf sourceOf next i (record { tape = f .tape; inText = u; number = f .number; turned = f .turned })) x υ
+              → Passed deepOf sourceOf next n Reads (at + 2 ^ d + 2 ^ d)
+              (secondFeed deepOf sourceOf next i (record { tape = υ; inText = u; number = f .number; turned = f .turned })) x φ
+              → PassedBy deepOf sourceOf next n Reads u (f .tape) (at + 2 ^ suc d) x φ
           go true h q r =
               let e : at + 2 ^ d + 2 ^ d ≡ at + 2 ^ suc d = omega arith in
-              subst (λ (e : ℕ). ReadTo deepOf n Reads φ e x) e
-              (settled-passed (at + 2 ^ d) (next υ) φ (f .source) x (text-next (f .tape) υ (f .source) x l (h .0) q) r)
+              subst (λ (e : ℕ). ReadTo deepOf sourceOf next n Reads φ e x) e
+              (settled-passed (at + 2 ^ d) (next υ) φ (edgeOf deepOf sourceOf next f) x (text-next (f .tape) υ (edgeOf deepOf sourceOf next f) x l (h .0) q) r)
           go false h q r = r ∙ q
 
     -- ---- All inputs at the halves ---------------------------------------------------------------
 
     -- at the first half
-    all-first : (at : ℕ) (fs : List (Feed Tape)) (xs : List Input) → AllFed deepOf n Reads i (suc d) at fs xs
-        → AllFed deepOf n Reads (i + 1) d at (firstFeeds deepOf sourceOf next i fs) xs
+    all-first : (at : ℕ) (fs : List (Feed Tape)) (xs : List Input) → AllFed deepOf sourceOf next n Reads i (suc d) at fs xs
+        → AllFed deepOf sourceOf next n Reads (i + 1) d at (firstFeeds deepOf sourceOf next i fs) xs
     all-first at [] [] h = tt
     all-first at [] (x ∷ xs) h = h
     all-first at (f ∷ fs) [] h = h
@@ -377,9 +420,9 @@ module _ {Tape : Type 0} (deepOf : Tape → ℕ) (sourceOf : Tape → Source) (n
 
     module _ (k at : ℕ) (z : at ≡ k * 2 ^ suc d) (l : at + 2 ^ d < c) where
       -- at the second half, with the tapes they have after the first
-      all-second : (fs : List (Feed Tape)) (xs : List Input) (υs : List Tape) → AllFed deepOf n Reads i (suc d) at fs xs
-          → AllPassed deepOf n Reads (at + 2 ^ d) (firstFeeds deepOf sourceOf next i fs) xs υs
-          → AllFed deepOf n Reads (i + 1) d (at + 2 ^ d) (secondFeeds deepOf sourceOf next i (resume fs υs)) xs
+      all-second : (fs : List (Feed Tape)) (xs : List Input) (υs : List Tape) → AllFed deepOf sourceOf next n Reads i (suc d) at fs xs
+          → AllPassed deepOf sourceOf next n Reads (at + 2 ^ d) (firstFeeds deepOf sourceOf next i fs) xs υs
+          → AllFed deepOf sourceOf next n Reads (i + 1) d (at + 2 ^ d) (secondFeeds deepOf sourceOf next i (resume fs υs)) xs
       all-second [] [] υs h q = tt
       all-second [] (x ∷ xs) υs h q = h
       all-second (f ∷ fs) [] υs h q = absurd h
@@ -388,10 +431,10 @@ module _ {Tape : Type 0} (deepOf : Tape → ℕ) (sourceOf : Tape → Source) (n
           (fed-second k at z f x υ l (h .0) (q .0), all-second fs xs υs (h .1) (q .1))
 
       -- after it
-      all-passed : (fs : List (Feed Tape)) (xs : List Input) (υs φs : List Tape) → AllFed deepOf n Reads i (suc d) at fs xs
-          → AllPassed deepOf n Reads (at + 2 ^ d) (firstFeeds deepOf sourceOf next i fs) xs υs
-          → AllPassed deepOf n Reads (at + 2 ^ d + 2 ^ d) (secondFeeds deepOf sourceOf next i (resume fs υs)) xs φs
-          → AllPassed deepOf n Reads (at + 2 ^ suc d) fs xs φs
+      all-passed : (fs : List (Feed Tape)) (xs : List Input) (υs φs : List Tape) → AllFed deepOf sourceOf next n Reads i (suc d) at fs xs
+          → AllPassed deepOf sourceOf next n Reads (at + 2 ^ d) (firstFeeds deepOf sourceOf next i fs) xs υs
+          → AllPassed deepOf sourceOf next n Reads (at + 2 ^ d + 2 ^ d) (secondFeeds deepOf sourceOf next i (resume fs υs)) xs φs
+          → AllPassed deepOf sourceOf next n Reads (at + 2 ^ suc d) fs xs φs
       all-passed [] [] υs [] h q r = tt
       all-passed [] [] υs (φ ∷ φs) h q r = r
       all-passed [] (x ∷ xs) υs φs h q r = h
@@ -402,19 +445,19 @@ module _ {Tape : Type 0} (deepOf : Tape → ℕ) (sourceOf : Tape → Source) (n
           (passed-second k at z f x υ φ l (h .0) (q .0) (r .0), all-passed fs xs υs φs (h .1) (q .1) (r .1))
 
   -- with no option left none is in its text
-  all-none : (i at : ℕ) (fs : List (Feed Tape)) (xs : List Input) → n < i → AllFed deepOf n Reads i 0 at fs xs
+  all-none : (i at : ℕ) (fs : List (Feed Tape)) (xs : List Input) → n < i → AllFed deepOf sourceOf next n Reads i 0 at fs xs
       → anyText fs ≡ false
   all-none i at [] [] l h = refl
   all-none i at [] (x ∷ xs) l h = refl
   all-none i at (f ∷ fs) [] l h = absurd h
   all-none i at (f ∷ fs) (x ∷ xs) l h = or-false (go (f .inText) (h .0)) (all-none i at fs xs l (h .1))
     where
-      go : (u : Bool) → FedBy deepOf n Reads u (f .tape) (f .source) i 0 at x → u ≡ false
+      go : (u : Bool) → FedBy deepOf sourceOf next n Reads u (f .tape) (edgeOf deepOf sourceOf next f) i 0 at x → u ≡ false
       go true g = absurd (omega (arith, g .1, reads-deep (f .tape) at x (g .0), l))
       go false g = refl
 
   -- what they decide at the first word of a part
-  all-start : (i d at : ℕ) (fs : List (Feed Tape)) (xs : List Input) → AllFed deepOf n Reads i d at fs xs
+  pub all-start : (i d at : ℕ) (fs : List (Feed Tape)) (xs : List Input) → AllFed deepOf sourceOf next n Reads i d at fs xs
       → decisions xs at ≡ turnsOf deepOf sourceOf next fs
   all-start i d at [] [] h = refl
   all-start i d at [] (x ∷ xs) h = absurd h
@@ -427,11 +470,11 @@ module _ {Tape : Type 0} (deepOf : Tape → ℕ) (sourceOf : Tape → Source) (n
       g : ℕ → Bool
       g w = x .decides (at + w)
 
-      go : (u : Bool) → FedBy deepOf n Reads u (f .tape) (f .source) i d at x
-          → g 0 ≡ cond u (sourceOf (f .tape) .turned) (f .source .turned)
+      go : (u : Bool) → FedBy deepOf sourceOf next n Reads u (f .tape) (edgeOf deepOf sourceOf next f) i d at x
+          → g 0 ≡ cond u (sourceOf (f .tape) .turned) (f .turned)
       go true q =
           shows-start (sourceOf (f .tape)) (n - deepOf (f .tape)) (deepOf (f .tape) + 1) g (reads-shows (f .tape) at x (q .0))
-      go false q = shows-start (f .source) d i g (q .0)
+      go false q = shows-start (edgeOf deepOf sourceOf next f) d i g (q .0)
 
   -- ---- A part that is covered -----------------------------------------------------------------
 
@@ -441,8 +484,8 @@ module _ {Tape : Type 0} (deepOf : Tape → ℕ) (sourceOf : Tape → Source) (n
       (k at m : ℕ) (T p w : List ℕ) (fs : List (Feed Tape)) (xs : List Input) (f : ℕ → Bool) (t : List (List ℕ)) (out : List ℕ)
       (pen : Pen) (s : State) → at ≡ k * 2 ^ d → at + 2 ^ d ≤ c → Stands n size o T t out pen s → take m w ≡ p
       → m + 70 * d + 144 ≤ length w → ((j : ℕ) → stamp (s .table) j + 2 ^ d ≤ 4294967296)
-      → AllFed deepOf n Reads i d at fs xs → Joins op c d at xs f
-      → Wholly deepOf n Reads size i m (at + 2 ^ d) o T p w fs xs
+      → AllFed deepOf sourceOf next n Reads i d at fs xs → Joins op c d at xs f
+      → Wholly deepOf sourceOf next n Reads size i m (at + 2 ^ d) o T p w fs xs
       (textIn deepOf sourceOf next op c size d i at m fs t out w pen) (online size d i at p f s)
 
   -- all inputs at edges
@@ -450,17 +493,17 @@ module _ {Tape : Type 0} (deepOf : Tape → ℕ) (sourceOf : Tape → Source) (n
       → (at m : ℕ) (T p w : List ℕ) (fs : List (Feed Tape)) (xs : List Input) (f : ℕ → Bool) (t : List (List ℕ))
       (out : List ℕ) (pen : Pen) (s : State) → anyText fs ≡ false → at + 2 ^ d ≤ c → Stands n size o T t out pen s
       → take m w ≡ p → m + 70 * d + 144 ≤ length w → ((j : ℕ) → stamp (s .table) j + 2 ^ d ≤ 4294967296)
-      → AllFed deepOf n Reads i d at fs xs → Joins op c d at xs f
-      → Wholly deepOf n Reads size i m (at + 2 ^ d) o T p w fs xs
-      (wentOn (applyIn op size d i m (sources fs) t out w pen) (tapesOf fs)) (online size d i at p f s)
+      → AllFed deepOf sourceOf next n Reads i d at fs xs → Joins op c d at xs f
+      → Wholly deepOf sourceOf next n Reads size i m (at + 2 ^ d) o T p w fs xs
+      (wentOn (applyIn op size d i m (edgesOf deepOf sourceOf next fs) t out w pen) (tapesOf fs)) (online size d i at p f s)
   edges-lead op size d i o real deep small few at m T p w fs xs f t out pen s none cov st here room young fed mk =
       record {
         goes-on = refl;
         leads =
-            apply-leads op n size d i at m o T p w (sources fs) (decidersFrom at xs) f t out pen s real deep small few st here room
-            young (edges-show deepOf n Reads i d at fs xs none fed)
+            apply-leads op n size d i at m o T p w (edgesOf deepOf sourceOf next fs) (decidersFrom at xs) f t out pen s real deep small few st here room
+            young (edges-show deepOf sourceOf next n Reads i d at fs xs none fed)
             (λ w l. mk (at + w) (omega arith) (omega (arith, l)) (omega (arith, l, cov)) ∙ ap op (sym (deciders-at at xs w)));
-        passed = λ g. edges-passed deepOf n Reads i d at (at + 2 ^ d) fs xs none fed;
+        passed = λ g. edges-passed deepOf sourceOf next n Reads i d at (at + 2 ^ d) fs xs none fed;
       }
 
   -- ---- The halves of a part -------------------------------------------------------------------
@@ -471,7 +514,7 @@ module _ {Tape : Type 0} (deepOf : Tape → ℕ) (sourceOf : Tape → Source) (n
       (k at m : ℕ) (T p w : List ℕ) (fs : List (Feed Tape)) (xs : List Input) (f : ℕ → Bool) (t : List (List ℕ)) (out : List ℕ)
       (pen : Pen) (s : State) → at ≡ k * 2 ^ d → at < c → c < at + 2 ^ d → at + 2 ^ d ≤ 2 ^ n → runCovered n xs ≤ c
       → Stands n size o T t out pen s → take m w ≡ p → m + 70 * d + 144 ≤ length w
-      → ((j : ℕ) → stamp (s .table) j + 2 ^ d ≤ 4294967296) → AllFed deepOf n Reads i d at fs xs → Joins op c d at xs f
+      → ((j : ℕ) → stamp (s .table) j + 2 ^ d ≤ 4294967296) → AllFed deepOf sourceOf next n Reads i d at fs xs → Joins op c d at xs f
       → Cutly o T (cut c size d i at p f s) (textIn deepOf sourceOf next op c size d i at m fs t out w pen)
 
   -- half: the walk over a covered half
@@ -479,7 +522,7 @@ module _ {Tape : Type 0} (deepOf : Tape → ℕ) (sourceOf : Tape → Source) (n
       (few : size ≤ tableLimit) (half : Wholes op size d (suc i) o) (k at m : ℕ) (T p w : List ℕ) (fs : List (Feed Tape))
       (xs : List Input) (f : ℕ → Bool) (t : List (List ℕ)) (out : List ℕ) (pen : Pen) (s : State) (z : at ≡ k * 2 ^ suc d)
       (st : Stands n size o T t out pen s) (here : take m w ≡ p) (room : m + 70 * suc d + 144 ≤ length w)
-      (young : (j : ℕ) → stamp (s .table) j + 2 ^ suc d ≤ 4294967296) (fed : AllFed deepOf n Reads i (suc d) at fs xs)
+      (young : (j : ℕ) → stamp (s .table) j + 2 ^ suc d ≤ 4294967296) (fed : AllFed deepOf sourceOf next n Reads i (suc d) at fs xs)
       (mk : Joins op c (suc d) at xs f) where
     -- the next level
     up : i + 1 ≡ suc i
@@ -548,12 +591,12 @@ module _ {Tape : Type 0} (deepOf : Tape → ℕ) (sourceOf : Tape → Source) (n
 
     -- what the first half leads to
     abbrev First : Type 0
-    First = Wholly deepOf n Reads size (suc i) (opened .count) (at + 2 ^ d) o T p₁ (opened .bytes) ys xs a x
+    First = Wholly deepOf sourceOf next n Reads size (suc i) (opened .count) (at + 2 ^ d) o T p₁ (opened .bytes) ys xs a x
 
     first : at + 2 ^ d ≤ c → First
     first cov =
-        subst⁻¹ (λ (j : ℕ). AllFed deepOf n Reads j d at ys xs
-        → Wholly deepOf n Reads size (suc i) (opened .count) (at + 2 ^ d) o T p₁ (opened .bytes) ys xs
+        subst⁻¹ (λ (j : ℕ). AllFed deepOf sourceOf next n Reads j d at ys xs
+        → Wholly deepOf sourceOf next n Reads size (suc i) (opened .count) (at + 2 ^ d) o T p₁ (opened .bytes) ys xs
         (textIn deepOf sourceOf next op c size d j at (opened .count) ys t out (opened .bytes) pen) x) up
         (λ h. half (k * 2) at (opened .count) T p₁ (opened .bytes) ys xs f t out pen s (first-at k d at z) cov st (ready .text)
         (omega (arith, ready .count, ready .room, room)) (λ j. omega (arith, young j)) h (joins-former op c d at xs f mk))
@@ -562,7 +605,7 @@ module _ {Tape : Type 0} (deepOf : Tape → ℕ) (sourceOf : Tape → Source) (n
     -- after it, where not more was sent than the output holds, and the next word is covered
     module _ (h : First) (g : a .walked .pen .full ≡ false) (goes : at + 2 ^ d < c) where
       -- where the inputs stand
-      fed₂ : AllFed deepOf n Reads (i + 1) d (at + 2 ^ d) zs xs
+      fed₂ : AllFed deepOf sourceOf next n Reads (i + 1) d (at + 2 ^ d) zs xs
       fed₂ = all-second i d deep k at z goes fs xs (a .tapes) fed (h .passed g)
 
       -- what waits
@@ -589,21 +632,21 @@ module _ {Tape : Type 0} (deepOf : Tape → ℕ) (sourceOf : Tape → Source) (n
     -- what the second half leads to if it is covered; u: the edge
     abbrev Second : Bool → Applied Tape → Type 0
     Second u r =
-        Wholly deepOf n Reads size (suc i) (mid u .count) (at + 2 ^ d + 2 ^ d) o (T ++ x .sent) p₂ (mid u .bytes) zs xs r y
+        Wholly deepOf sourceOf next n Reads size (suc i) (mid u .count) (at + 2 ^ d + 2 ^ d) o (T ++ x .sent) p₂ (mid u .bytes) zs xs r y
 
     second-leads : First → a .walked .pen .full ≡ false → at + 2 ^ suc d ≤ c → Second turned b
     second-leads h g cov =
         let goes : at + 2 ^ d < c = omega (arith, cov, pow-pos d) in
         let r = before h g goes in
         subst⁻¹ (λ (u : Bool). Second u (second u (i + 1))) (same h g goes)
-        (subst⁻¹ (λ (j : ℕ). AllFed deepOf n Reads j d (at + 2 ^ d) zs xs → Second turn (second turn j)) up
+        (subst⁻¹ (λ (j : ℕ). AllFed deepOf sourceOf next n Reads j d (at + 2 ^ d) zs xs → Second turn (second turn j)) up
         (λ q. half (k * 2 + 1) (at + 2 ^ d) (mid turn .count) (T ++ x .sent) p₂ (mid turn .bytes) zs xs f (a .walked .table)
         (a .walked .output) (a .walked .pen) (x .state) (second-at k d at z) (omega (arith, cov)) (h .leads .after g .stands)
         (r .text) (omega (arith, r .count, r .room, room)) (young₂ h g goes) q (joins-latter op c d at xs f mk)) (fed₂ h g goes))
 
     -- what the part leads to if it is covered
     abbrev Whole : Applied Tape → Type 0
-    Whole r = Wholly deepOf n Reads size i m (at + 2 ^ suc d) o T p w fs xs r (online size (suc d) i at p f s)
+    Whole r = Wholly deepOf sourceOf next n Reads size i m (at + 2 ^ suc d) o T p w fs xs r (online size (suc d) i at p f s)
 
     -- some input in its text
     halves-whole : at + 2 ^ suc d ≤ c → (h l r : Bool) → halted a ≡ h → leb c (at + 2 ^ d) ≡ l → halted b ≡ r
@@ -660,7 +703,7 @@ module _ {Tape : Type 0} (deepOf : Tape → ℕ) (sourceOf : Tape → Source) (n
       where
         go : (u : Bool) → anyText fs ≡ u
             → Whole (cond u (joined (halted a) (leb c (at + 2 ^ d)) (halted b))
-            (wentOn (applyIn op size (suc d) i m (sources fs) t out w pen) (tapesOf fs)))
+            (wentOn (applyIn op size (suc d) i m (edgesOf deepOf sourceOf next fs) t out w pen) (tapesOf fs)))
         go true e = halves-whole cov (halted a) (leb c (at + 2 ^ d)) (halted b) refl refl refl
         go false e =
             edges-lead op size (suc d) i o real deep small few at m T p w fs xs f t out pen s e cov st here room young fed mk
@@ -675,7 +718,7 @@ module _ {Tape : Type 0} (deepOf : Tape → ℕ) (sourceOf : Tape → Source) (n
       -- they end in the first half
       first-cut : c < at + 2 ^ d → Cutly o T (cut c size d (suc i) at p₁ f s) a
       first-cut l =
-          subst⁻¹ (λ (j : ℕ). AllFed deepOf n Reads j d at ys xs → Cutly o T (cut c size d (suc i) at p₁ f s)
+          subst⁻¹ (λ (j : ℕ). AllFed deepOf sourceOf next n Reads j d at ys xs → Cutly o T (cut c size d (suc i) at p₁ f s)
           (textIn deepOf sourceOf next op c size d j at (opened .count) ys t out (opened .bytes) pen)) up
           (λ h. cutHalf (k * 2) at (opened .count) T p₁ (opened .bytes) ys xs f t out pen s (first-at k d at z) start l
           (omega (arith, fits)) least st (ready .text) (omega (arith, ready .count, ready .room, room))
@@ -688,7 +731,7 @@ module _ {Tape : Type 0} (deepOf : Tape → ℕ) (sourceOf : Tape → Source) (n
           let r = before h g goes in
           subst⁻¹ (λ (u : Bool). Cutly o (T ++ x .sent) (cut c size d (suc i) (at + 2 ^ d) p₂ f (x .state)) (second u (i + 1)))
           (same h g goes)
-          (subst⁻¹ (λ (j : ℕ). AllFed deepOf n Reads j d (at + 2 ^ d) zs xs
+          (subst⁻¹ (λ (j : ℕ). AllFed deepOf sourceOf next n Reads j d (at + 2 ^ d) zs xs
           → Cutly o (T ++ x .sent) (cut c size d (suc i) (at + 2 ^ d) p₂ f (x .state)) (second turn j)) up
           (λ q. cutHalf (k * 2 + 1) (at + 2 ^ d) (mid turn .count) (T ++ x .sent) p₂ (mid turn .bytes) zs xs f (a .walked .table)
           (a .walked .output) (a .walked .pen) (x .state) (second-at k d at z) goes (omega (arith, over)) (omega (arith, fits))
@@ -737,10 +780,10 @@ module _ {Tape : Type 0} (deepOf : Tape → ℕ) (sourceOf : Tape → Source) (n
 
           go : (u : Bool) → anyText fs ≡ u
               → Cut (cond u (joined (halted a) (leb c (at + 2 ^ d)) (halted b))
-              (wentOn (applyIn op size (suc d) i m (sources fs) t out w pen) (tapesOf fs)))
+              (wentOn (applyIn op size (suc d) i m (edgesOf deepOf sourceOf next fs) t out w pen) (tapesOf fs)))
           go true e = ⊎-elim late early (decide-le (at + 2 ^ d) c)
           go false e =
-              absurd (omega (arith, edges-within deepOf n Reads i (suc d) at fs xs e fed fits, least, over))
+              absurd (omega (arith, edges-within deepOf sourceOf next n Reads i (suc d) at fs xs e fed fits, least, over))
 
   -- ---- Each part that is covered --------------------------------------------------------------
 
@@ -761,9 +804,9 @@ module _ {Tape : Type 0} (deepOf : Tape → ℕ) (sourceOf : Tape → Source) (n
       (f : ℕ → Bool) (t : List (List ℕ)) (out : List ℕ) (pen : Pen) (s : State)
       → 0 < i → i + d ≡ suc n → n ≤ 32 → size ≤ tableLimit → at ≡ k * 2 ^ d → at + 2 ^ d ≤ c → Stands n size o T t out pen s
       → take m w ≡ p → m + 70 * d + 144 ≤ length w → ((j : ℕ) → stamp (s .table) j + 2 ^ d ≤ 4294967296)
-      → AllFed deepOf n Reads i d at fs xs
+      → AllFed deepOf sourceOf next n Reads i d at fs xs
       → ((w : ℕ) → at ≤ w → w < at + 2 ^ d → w < c → f w ≡ op (decisions xs w))
-      → Wholly deepOf n Reads size i m (at + 2 ^ d) o T p w fs xs
+      → Wholly deepOf sourceOf next n Reads size i m (at + 2 ^ d) o T p w fs xs
       (textIn deepOf sourceOf next op c size d i at m fs t out w pen) (online size d i at p f s)
   text-leads op size d i at k m o T p w fs xs f t out pen s real deep small few =
       wholes op size d i o real deep small few k at m T p w fs xs f t out pen s
@@ -787,7 +830,7 @@ module _ {Tape : Type 0} (deepOf : Tape → ℕ) (sourceOf : Tape → Source) (n
       (f : ℕ → Bool) (t : List (List ℕ)) (out : List ℕ) (pen : Pen) (s : State)
       → 0 < i → i + d ≡ suc n → n ≤ 32 → size ≤ tableLimit → at ≡ k * 2 ^ d → at < c → c < at + 2 ^ d → at + 2 ^ d ≤ 2 ^ n
       → runCovered n xs ≤ c → Stands n size o T t out pen s → take m w ≡ p → m + 70 * d + 144 ≤ length w
-      → ((j : ℕ) → stamp (s .table) j + 2 ^ d ≤ 4294967296) → AllFed deepOf n Reads i d at fs xs
+      → ((j : ℕ) → stamp (s .table) j + 2 ^ d ≤ 4294967296) → AllFed deepOf sourceOf next n Reads i d at fs xs
       → ((w : ℕ) → at ≤ w → w < at + 2 ^ d → w < c → f w ≡ op (decisions xs w))
       → Cutly o T (cut c size d i at p f s) (textIn deepOf sourceOf next op c size d i at m fs t out w pen)
   text-cut op size d i at k m o T p w fs xs f t out pen s real deep small few =

@@ -14,11 +14,12 @@ use Rattle.engine.specs.Applying.{Source, firstSource, secondSource, app
 -- ---- What is known ---------------------------------------------------------------------------
 
 -- An input at a part: its tape; whether it is still in its text, the tape at the block that begins with the part and is smaller; else
--- the edge that stands for the whole part
+-- the edge that stands for the whole part: a number of the tape's table (0: the constant), turned about or not
 pub record Feed (Tape : Type 0) : Type 0 where
   pub tape : Tape
   pub inText : Bool
-  pub source : Source
+  pub number : ℕ
+  pub turned : Bool
 
 -- after a part: the engine, the inputs' tapes, and whether the first word that is not covered was met
 pub record Applied (Tape : Type 0) : Type 0 where
@@ -31,21 +32,16 @@ pub record Applied (Tape : Type 0) : Type 0 where
 module _ {Tape : Type 0} where
   -- an input with a tape put in
   abbrev pub onTape : Feed Tape → Tape → Feed Tape
-  onTape f τ = record { tape = τ; inText = f .inText; source = f .source }
+  onTape f τ = record { tape = τ; inText = f .inText; number = f .number; turned = f .turned }
 
   -- at an edge, with its tape kept
   abbrev pub atEdge : Feed Tape → Source → Feed Tape
-  atEdge f x = record { tape = f .tape; inText = false; source = x }
+  atEdge f x = record { tape = f .tape; inText = false; number = x .number; turned = x .turned }
 
   -- one of them is still in its text
   abbrev pub anyText : List (Feed Tape) → Bool
   anyText [] = false
   anyText (f ∷ fs) = f .inText || anyText fs
-
-  -- their edges
-  abbrev pub sources : List (Feed Tape) → List Source
-  sources [] = []
-  sources (f ∷ fs) = f .source ∷ sources fs
 
   -- their tapes
   abbrev pub tapesOf : List (Feed Tape) → List Tape
@@ -74,16 +70,25 @@ module _ {Tape : Type 0} where
 
 -- deepOf: how many nodes are open around a tape's block; sourceOf: the edge that stands for it; next: the tape a block further
 module _ {Tape : Type 0} (deepOf : Tape → ℕ) (sourceOf : Tape → Source) (next : Tape → Tape) where
+  -- the edge of an input in its tape's table
+  abbrev pub edgeOf : Feed Tape → Source
+  edgeOf f = record { table = sourceOf (f .tape) .table; number = f .number; turned = f .turned }
+
+  -- their edges
+  abbrev pub edgesOf : List (Feed Tape) → List Source
+  edgesOf [] = []
+  edgesOf (f ∷ fs) = edgeOf f ∷ edgesOf fs
+
   -- at a part of level i: a block as great as the part is an edge
   abbrev pub settle : ℕ → Feed Tape → Feed Tape
   settle i f = cond (f .inText && eqb (deepOf (f .tape) + 1) i) (atEdge f (sourceOf (f .tape))) f
 
   -- at the two halves of a part of level i
   abbrev pub firstFeed : ℕ → Feed Tape → Feed Tape
-  firstFeed i f = cond (f .inText) (settle (i + 1) f) (atEdge f (firstSource i (f .source)))
+  firstFeed i f = cond (f .inText) (settle (i + 1) f) (atEdge f (firstSource i (edgeOf f)))
 
   abbrev pub secondFeed : ℕ → Feed Tape → Feed Tape
-  secondFeed i f = cond (f .inText) (settle (i + 1) (onTape f (next (f .tape)))) (atEdge f (secondSource i (f .source)))
+  secondFeed i f = cond (f .inText) (settle (i + 1) (onTape f (next (f .tape)))) (atEdge f (secondSource i (edgeOf f)))
 
   -- all of them
   abbrev pub firstFeeds : ℕ → List (Feed Tape) → List (Feed Tape)
@@ -97,7 +102,7 @@ module _ {Tape : Type 0} (deepOf : Tape → ℕ) (sourceOf : Tape → Source) (n
   -- which of them are turned about: what they decide at the first word of the part
   abbrev pub turnsOf : List (Feed Tape) → List Bool
   turnsOf [] = []
-  turnsOf (f ∷ fs) = cond (f .inText) (sourceOf (f .tape) .turned) (f .source .turned) ∷ turnsOf fs
+  turnsOf (f ∷ fs) = cond (f .inText) (sourceOf (f .tape) .turned) (f .turned) ∷ turnsOf fs
 
   -- ---- The walk over texts --------------------------------------------------------------------
 
@@ -105,7 +110,7 @@ module _ {Tape : Type 0} (deepOf : Tape → ℕ) (sourceOf : Tape → Source) (n
   -- `at`; op: what the inputs' decisions come to
   unfoldable pub textIn : (List Bool → Bool) → ℕ → ℕ → ℕ → ℕ → ℕ → ℕ → List (Feed Tape) → List (List ℕ) → List ℕ → List ℕ → Pen
       → Applied Tape
-  textIn op c size zero i at m fs t out w pen = wentOn (applyIn op size 0 i m (sources fs) t out w pen) (tapesOf fs)
+  textIn op c size zero i at m fs t out w pen = wentOn (applyIn op size 0 i m (edgesOf fs) t out w pen) (tapesOf fs)
   textIn op c size (suc d) i at m fs t out w pen =
       let p = pushAll w m (opener ∷ []) in
       let a = textIn op c size d (i + 1) at (p .count) (firstFeeds i fs) t out (p .bytes) pen in
@@ -120,4 +125,4 @@ module _ {Tape : Type 0} (deepOf : Tape → ℕ) (sourceOf : Tape → Source) (n
       (cond (halted a) a
       (cond (leb c (at + 2 ^ d)) (endedAt a)
       (cond (halted b) b (wentOn (secondIn size i (r .count) u h (b .walked)) (b .tapes)))))
-      (wentOn (applyIn op size (suc d) i m (sources fs) t out w pen) (tapesOf fs))
+      (wentOn (applyIn op size (suc d) i m (edgesOf fs) t out w pen) (tapesOf fs))

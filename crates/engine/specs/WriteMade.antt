@@ -6,7 +6,7 @@ use mathlib.Core.Bool.{Bool, true, false, cond, _&&_}
 use mathlib.Core.List.{List, [], _∷_}
 use Prim.Native.Nat.{ℕ, _/_, _≤_, _<_, _^_}
 use native.Mathlib.Omega.{arith}
-use lib.Dec.{ltb, leb}
+use lib.Dec.{ltb, leb, eqb}
 use lib.ListN.{length, replicate, length-replicate}
 use borrow.Author.Tests.{lt-ltb, le-ltb, lt-leb, le-leb, eq-eqb, ne-eqb}
 use Rattle.reading.specs.Causes.{optionCount, sizeToWrite, workTable, truthTable, Result, refused, done, refusal, gate, cleared, tableAfter, unlessRefused}
@@ -32,7 +32,7 @@ options-not n h = ⊎-elim
 -- ---- A cleared table -------------------------------------------------------------------------
 
 -- as many zero records
-cleared-replicate : (z : List ℕ) (t : List (List ℕ)) → replicate (length t) z ≡ cleared z t
+pub cleared-replicate : (z : List ℕ) (t : List (List ℕ)) → replicate (length t) z ≡ cleared z t
 unfolding cleared
 cleared-replicate z [] = refl
 cleared-replicate z (r ∷ t) = ap (λ (l : List (List ℕ)). z ∷ l) (cleared-replicate z t)
@@ -109,6 +109,15 @@ module _ (z : List ℕ) (n size : ℕ) (v out : List ℕ) (t : List (List ℕ)) 
         table = tableAfter z a t;
         output = unlessRefused a out (λ (x : Answer). outputAfter y out);
       }) (write-answer l k few room h))
+
+-- an answer that covers all words, k of them; f: more is to be written than the output holds
+pub whole-answer : (n k w : ℕ) (f : Bool) → k ≡ 2 ^ n →
+    let a : Answer = record { written = w; covered = k; ending = cond f outputFull (cond (eqb k (2 ^ n)) whole inputEnded) } in
+    a ≡ record { written = w; covered = 2 ^ n; ending = cond f outputFull whole }
+whole-answer n k w f e =
+    ap (λ (k : ℕ). record { written = w; covered = k; ending = cond f outputFull (cond (eqb k (2 ^ n)) whole inputEnded) }) e
+    ∙ ap (λ (b : Bool). record { written = w; covered = 2 ^ n; ending = cond f outputFull (cond b whole inputEnded) })
+    (eq-eqb (2 ^ n) (2 ^ n) refl)
 
 -- what the code comes to, past cause 6: records of zeros before the walk and after it
 pub write-finish : (n size : ℕ) (v out w : List ℕ) (t t₀ u : List (List ℕ)) (x : Sent) (r : Answer) → 3 ≤ n → n ≤ 16 → size ≤ 1024

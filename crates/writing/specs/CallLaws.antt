@@ -13,29 +13,29 @@ pub write-refused : {R : Type 0} (z : R) (n size : ℕ) (truths out : List ℕ) 
 unfolding write
 write-refused z n size truths out t f e = keeps-output (writeAnswer n size truths out (length t)) out _ f e
 
-module _ {R : Type 0} (z : R) (n op size : ℕ) (x y out : List ℕ) (t u v : List R) where
-  pub combine-refused : (f : Refusal) → combine z n op size x y out t u v .answer ≡ refused f → combine z n op size x y out t u v .output ≡ out
+module _ {R S : Type 0} (z : R) (o : S) (n op size : ℕ) (x y out : List ℕ) (t u : List R) (v : List S) where
+  pub combine-refused : (f : Refusal) → combine z o n op size x y out t u v .answer ≡ refused f → combine z o n op size x y out t u v .output ≡ out
   unfolding combine
   combine-refused f e = keeps-output (combineAnswer n op size (x ∷ y ∷ []) out (length t ∷ length u ∷ length v ∷ [])) out _ f e
 
   -- the three work tables hold a, b and c
-  abbrev pub Tables : List R → List R → List R → Type 0
-  Tables a b c = let m = combine z n op size x y out t u v in (m .first ≡ a) × (m .second ≡ b) × (m .third ≡ c)
+  abbrev pub Tables : List R → List R → List S → Type 0
+  Tables a b c = let m = combine z o n op size x y out t u v in (m .first ≡ a) × (m .second ≡ b) × (m .third ≡ c)
 
-  pub combine-untouched : (f : Refusal) → combine z n op size x y out t u v .answer ≡ refused f → causeRow (f .cause) .names ≡ call → Tables t u v
+  pub combine-untouched : (f : Refusal) → combine z o n op size x y out t u v .answer ≡ refused f → causeRow (f .cause) .names ≡ call → Tables t u v
   unfolding combine
   combine-untouched f e c =
       let a = combineAnswer n op size (x ∷ y ∷ []) out (length t ∷ length u ∷ length v ∷ []) in
-      (keeps-table a z t f e c, keeps-table a z u f e c, keeps-table a z v f e c)
+      (keeps-table a z t f e c, keeps-table a z u f e c, keeps-table a o v f e c)
 
-  pub combine-zeroed : (f : Refusal) → combine z n op size x y out t u v .answer ≡ refused f → causeRow (f .cause) .names ≡ place → Tables (cleared z t) (cleared z u) (cleared z v)
+  pub combine-zeroed : (f : Refusal) → combine z o n op size x y out t u v .answer ≡ refused f → causeRow (f .cause) .names ≡ place → Tables (cleared z t) (cleared z u) (cleared o v)
   unfolding combine
   combine-zeroed f e c =
       let a = combineAnswer n op size (x ∷ y ∷ []) out (length t ∷ length u ∷ length v ∷ []) in
-      (zeroes-table a z t f e c, zeroes-table a z u f e c, zeroes-table a z v f e c)
+      (zeroes-table a z t f e c, zeroes-table a z u f e c, zeroes-table a o v f e c)
 
-  pub combine-done : (r : Answer) → combine z n op size x y out t u v .answer ≡ done r → Tables (cleared z t) (cleared z u) (cleared z v)
+  pub combine-done : (r : Answer) → combine z o n op size x y out t u v .answer ≡ done r → Tables (cleared z t) (cleared z u) (cleared o v)
   unfolding combine
   combine-done r e =
       let a = combineAnswer n op size (x ∷ y ∷ []) out (length t ∷ length u ∷ length v ∷ []) in
-      (zeroes-done a z t r e, zeroes-done a z u r e, zeroes-done a z v r e)
+      (zeroes-done a z t r e, zeroes-done a z u r e, zeroes-done a o v r e)

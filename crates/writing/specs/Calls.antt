@@ -85,22 +85,23 @@ combineAnswer n op size streams out records =
     gate (manyOptions n ∷ largeOperator (length streams) op ∷ largeSize size ∷ shortTables records)
     (unlessFaults n 1 streams (done (answerOf n (runCovered n (map (inputOf n) streams)) (combineText n op size streams) out)))
 
-pub record Combine (R : Type 0) : Type 0 where
+-- R: a record of the two tables for reading, S: one of the table for writing
+pub record Combine (R S : Type 0) : Type 0 where
   pub answer : Result Answer
   pub first : List R
   pub second : List R
-  pub third : List R
+  pub third : List S
   pub output : List ℕ
 
--- COMBINING two streams; "three work tables are lent for combining"
-unfoldable pub combine : {R : Type 0} → R → ℕ → ℕ → ℕ → List ℕ → List ℕ → List ℕ → List R → List R → List R → Combine R
+-- COMBINING two streams; "three work tables are lent for combining"; z, o: the records that are zero
+unfoldable pub combine : {R S : Type 0} → R → S → ℕ → ℕ → ℕ → List ℕ → List ℕ → List ℕ → List R → List R → List S → Combine R S
 unfolding combineAnswer tableAfter unlessRefused outputAfter
-combine z n op size x y out t u v =
+combine z o n op size x y out t u v =
     let a = combineAnswer n op size (x ∷ y ∷ []) out (length t ∷ length u ∷ length v ∷ []) in
     record {
       answer = a;
       first = tableAfter z a t;
       second = tableAfter z a u;
-      third = tableAfter z a v;
+      third = tableAfter o a v;
       output = unlessRefused a out (λ (r : Answer). outputAfter (combineText n op size (x ∷ y ∷ [])) out);
     }

@@ -125,11 +125,11 @@ unfolding text line
 badJob = line (text "bad job" ∷ [])
 
 -- The call that a job makes: with tables of as many records as the limit, and an output of 65,536 bytes; what they hold before is free.
-unfoldable pub called : Job → Combine ℕ
+unfoldable pub called : Job → Combine ℕ ℕ
 unfolding combine
 called j =
     let table : List ℕ = replicate tableLimit 0 in
-    combine 0 (j .n) (j .op) (j .size) (j .stream₁) (j .stream₂) (replicate jobLimit 0) table table table
+    combine 0 0 (j .n) (j .op) (j .size) (j .stream₁) (j .stream₂) (replicate jobLimit 0) table table table
 
 unfoldable pub answered : Option Job → List ℕ
 unfolding called report badJob

@@ -1,0 +1,157 @@
+-- One law for each way through code that stands at edges: the operator, the edge at a half of a part, what terminals fix, and where an
+-- input settles. Assumes nothing.
+use mathlib.Core.Path.{_≡_, refl, sym, ap, ap₂, _∙_}
+use mathlib.Core.Logic.{⊎-elim}
+use mathlib.Core.Bool.{Bool, true, false, cond, not, _&&_, _||_}
+use mathlib.Core.List.{List, [], _∷_}
+use Prim.Native.Nat.{ℕ, _+_, _-_, _≤_}
+use native.Mathlib.Omega.{arith}
+use lib.Dec.{eqb, ltb}
+use borrow.Author.Tests.{eq-eqb, ne-eqb}
+use Rattle.lists.specs.Lists.{differ, decide-eq}
+use Rattle.reading.specs.Nodes.{Node, node}
+use Rattle.writing.specs.Run.{digitAt, operate}
+use Rattle.engine.specs.Applying.{Source, firstSource, secondSource, fixed}
+use Rattle.engine.specs.Taping.{Feed, onTape, atEdge, edgeOf, settle, firstFeed, secondFeed}
+use Rattle.combining.specs.Tapes.{Tape, tapeAt, deepOf, sourceOf, nextTape, begunFeed}
+use Rattle.reader.specs.ReadOn.{Next, firstCursor, nextBlock}
+use Rattle.reader.specs.declared.Cursor.{Cursor}
+use Rattle.reader.specs.Table.{getIn}
+use Rattle.reader.specs.Simulation.{rowNode}
+use Rattle.reader.specs.TableLaws.{tableOf, table-node}
+use Rattle.reader.specs.declared.Row.{Row}
+
+-- ---- The operator ----------------------------------------------------------------------------
+
+pub digit-two : (a b : Bool) → cond a (cond b 3 2) (cond b 1 0) ≡ digitAt (a ∷ b ∷ [])
+unfolding digitAt
+digit-two true true = refl
+digit-two true false = refl
+digit-two false true = refl
+digit-two false false = refl
+
+pub digit-most : (a b : Bool) → digitAt (a ∷ b ∷ []) ≤ 3
+unfolding digitAt
+digit-most true true = omega arith
+digit-most true false = omega arith
+digit-most false true = omega arith
+digit-most false false = omega arith
+
+-- what is fixed with one input, and with two
+pub fixed-one : (op : List Bool → Bool) (x : Source) → (eqb (x .number) 0 || not (differ (op (x .turned ∷ [])) (op (not (x .turned) ∷ [])))) ≡ fixed op (x ∷ [])
+unfolding fixed
+fixed-one op x = refl
+
+pub fixed-two : (op : List Bool → Bool) (x y : Source)
+    → (fixed (λ ds. op (x .turned ∷ ds)) (y ∷ []) && (eqb (x .number) 0 || (fixed (λ ds. op (not (x .turned) ∷ ds)) (y ∷ [])
+    && not (differ (op (x .turned ∷ y .turned ∷ [])) (op (not (x .turned) ∷ y .turned ∷ [])))))) ≡ fixed op (x ∷ y ∷ [])
+unfolding fixed
+fixed-two op x y = refl
+
+-- ---- An edge at the halves of a part ---------------------------------------------------------
+
+-- k: the number of the edge in a table of z numbers, v: turned about or not, r: the record that code read
+module _ (t : List (List ℕ)) (z i k : ℕ) (v : Bool) (r : Row) (read : r ≡ getIn t z k) where
+  abbrev x : Source
+  x = record { table = tableOf t z; number = k; turned = v }
+
+  same : rowNode r ≡ node (tableOf t z) k
+  same = ap rowNode read ∙ sym (table-node t z k)
+
+  level : (eqb k 0 || ltb i (r .level)) ≡ (eqb k 0 || ltb i (node (tableOf t z) k .level))
+  level = ap (λ (y : Node). eqb k 0 || ltb i (y .level)) same
+
+  -- it is passed over
+  pub first-passed : (eqb k 0 || ltb i (r .level)) ≡ true → x ≡ firstSource i x
+  first-passed e =
+      ap (λ (b : Bool). cond b x (record { table = tableOf t z; number = node (tableOf t z) k .first; turned = v }))
+      (sym (sym level ∙ e))
+
+  pub second-passed : (eqb k 0 || ltb i (r .level)) ≡ true → x ≡ secondSource i x
+  second-passed e =
+      ap (λ (b : Bool). cond b x (record {
+        table = tableOf t z;
+        number = node (tableOf t z) k .second;
+        turned = differ (node (tableOf t z) k .complement) v;
+      })) (sym (sym level ∙ e))
+
+  -- it goes to a child
+  pub first-child : (eqb k 0 || ltb i (r .level)) ≡ false
+      → record { table = tableOf t z; number = r .first; turned = v } ≡ firstSource i x
+  first-child e =
+      ap (λ (y : Node). record { table = tableOf t z; number = y .first; turned = v }) same
+      ∙ ap (λ (b : Bool). cond b x (record { table = tableOf t z; number = node (tableOf t z) k .first; turned = v }))
+      (sym (sym level ∙ e))
+
+  -- u: turned about or not there
+  pub second-child : (u : Bool) → u ≡ differ (r .complement) v → (eqb k 0 || ltb i (r .level)) ≡ false
+      → record { table = tableOf t z; number = r .second; turned = u } ≡ secondSource i x
+  second-child u f e =
+      ap (λ (u : Bool). record { table = tableOf t z; number = r .second; turned = u }) f
+      ∙ ap (λ (y : Node). record { table = tableOf t z; number = y .second; turned = differ (y .complement) v }) same
+      ∙ ap (λ (b : Bool). cond b x (record {
+        table = tableOf t z;
+        number = node (tableOf t z) k .second;
+        turned = differ (node (tableOf t z) k .complement) v;
+      })) (sym (sym level ∙ e))
+
+-- ---- Where an input settles ------------------------------------------------------------------
+
+-- d open nodes around a part of level i
+pub around : (d i : ℕ) → (i ≡ 0 → ⊥) → eqb (i - 1) d ≡ eqb (d + 1) i
+around d i h = ⊎-elim
+    (λ (e : i - 1 ≡ d). eq-eqb (i - 1) d e ∙ sym (eq-eqb (d + 1) i (omega (arith, e, h))))
+    (λ (e : i - 1 ≡ d → ⊥). ne-eqb (i - 1) d e ∙ sym (ne-eqb (d + 1) i (λ k. e (omega (arith, k)))))
+    (decide-eq (i - 1) d)
+
+module _ {Tape : Type 0} (deepOf : Tape → ℕ) (sourceOf : Tape → Source) (next : Tape → Tape) (i : ℕ) (f : Feed Tape) where
+  -- not in its text
+  pub settle-edge : f .inText ≡ false → f ≡ settle deepOf sourceOf next i f
+  settle-edge e = ap (λ (b : Bool). cond (b && eqb (deepOf (f .tape) + 1) i) (atEdge f (sourceOf (f .tape))) f) (sym e)
+
+  -- in its text, at a smaller block
+  pub settle-inside : f .inText ≡ true → eqb (deepOf (f .tape) + 1) i ≡ false → f ≡ settle deepOf sourceOf next i f
+  settle-inside e h = ap₂ (λ (a b : Bool). cond (a && b) (atEdge f (sourceOf (f .tape))) f) (sym e) (sym h)
+
+  -- at one as great as the part
+  pub settle-here : f .inText ≡ true → eqb (deepOf (f .tape) + 1) i ≡ true
+      → atEdge f (sourceOf (f .tape)) ≡ settle deepOf sourceOf next i f
+  settle-here e h = ap₂ (λ (a b : Bool). cond (a && b) (atEdge f (sourceOf (f .tape))) f) (sym e) (sym h)
+
+  -- at the first half of a part of level i: in its text, or at the edge x
+  pub first-inside : f .inText ≡ true → settle deepOf sourceOf next (i + 1) f ≡ firstFeed deepOf sourceOf next i f
+  first-inside e =
+      ap (λ (b : Bool). cond b (settle deepOf sourceOf next (i + 1) f) (atEdge f (firstSource i (edgeOf deepOf sourceOf next f)))) (sym e)
+
+  pub first-edge : (x : Source) → f .inText ≡ false → x ≡ firstSource i (edgeOf deepOf sourceOf next f)
+      → atEdge f x ≡ firstFeed deepOf sourceOf next i f
+  first-edge x e h =
+      ap (atEdge f) h
+      ∙ ap (λ (b : Bool). cond b (settle deepOf sourceOf next (i + 1) f) (atEdge f (firstSource i (edgeOf deepOf sourceOf next f)))) (sym e)
+
+  -- at the second half; τ: the tape a block further
+  pub second-inside : (τ : Tape) → f .inText ≡ true → τ ≡ next (f .tape)
+      → settle deepOf sourceOf next (i + 1) (onTape f τ) ≡ secondFeed deepOf sourceOf next i f
+  second-inside τ e h =
+      ap (λ (τ : Tape). settle deepOf sourceOf next (i + 1) (onTape f τ)) h
+      ∙ ap (λ (b : Bool). cond b (settle deepOf sourceOf next (i + 1) (onTape f (next (f .tape))))
+      (atEdge f (secondSource i (edgeOf deepOf sourceOf next f)))) (sym e)
+
+  pub second-edge : (x : Source) → f .inText ≡ false → x ≡ secondSource i (edgeOf deepOf sourceOf next f)
+      → atEdge f x ≡ secondFeed deepOf sourceOf next i f
+  second-edge x e h =
+      ap (atEdge f) h
+      ∙ ap (λ (b : Bool). cond b (settle deepOf sourceOf next (i + 1) (onTape f (next (f .tape))))
+      (atEdge f (secondSource i (edgeOf deepOf sourceOf next f)))) (sym e)
+
+-- at the outermost node, from the first block
+pub begun-made : (n : ℕ) (s : List ℕ) (t : List (List ℕ)) (c : Cursor) (x : Next) → c ≡ firstCursor → x ≡ nextBlock n s c t
+    → settle deepOf sourceOf (nextTape n) 1 (record { tape = tapeAt s x; inText = true; number = 0; turned = false }) ≡ begunFeed n s t
+begun-made n s t c x e h =
+    ap (λ (x : Next). settle deepOf sourceOf (nextTape n) 1 (record { tape = tapeAt s x; inText = true; number = 0; turned = false }))
+    (h ∙ ap (λ (c : Cursor). nextBlock n s c t) e)
+
+-- of two, the second is not in its text
+pub no-other : (b : Bool) → not b ≡ not (b || false)
+no-other true = refl
+no-other false = refl

@@ -1,0 +1,8 @@
+-- Streams read block by block, for the walk over texts
+pub mod Tapes
+pub mod TapesRead
+-- The ways through code
+pub mod EdgeMade
+-- The call
+pub mod CombineMade
+pub mod Combined

@@ -1,0 +1,172 @@
+-- A tape reads its stream: at every block it shows what the stream decides on the block's words, and the next begins where it
+-- ends. So the walk over texts may have streams as its tapes. Assumes nothing.
+use mathlib.Core.Path.{_≡_, refl, sym, ap, _∙_, subst}
+use mathlib.Core.Bool.{Bool, true, false}
+use mathlib.Core.List.{List}
+use mathlib.Core.Option.{none}
+use Prim.Native.Nat.{ℕ, _+_, _-_, _*_, _<_, _≤_, _^_}
+use native.Mathlib.Omega.{arith}
+use lib.ListN.{length}
+use Rattle.reading.specs.Reading.{reading}
+use Rattle.reading.specs.Deciding.{Decision, decided, options, decision}
+use Rattle.reading.specs.Covered.{covered-decided, covered-most}
+use Rattle.writing.specs.Run.{Input}
+use Rattle.writing.specs.Calls.{orNo, inputOf}
+use Rattle.engine.specs.ApplyLaws.{Shows, sourceWalk}
+use Rattle.reader.specs.ReadOn.{Next, firstCursor, nextBlock}
+use Rattle.reader.specs.BlockLaws.{StandsAt, first-stands, stands-read, next-stands}
+use Rattle.reader.specs.BlockLaws.{block-from, block-covers, block-deep, block-aligned, block-decides, block-last}
+use Rattle.reader.specs.declared.Cursor.{Cursor}
+use Rattle.combining.specs.Tapes.{Tape, tapeAt, deepOf, sourceOf, nextTape, firstTape}
+
+-- ---- Where a tape stands ---------------------------------------------------------------------
+
+-- τ has the stream `bytes`, and stands at a block of it that begins with word `at`
+pub record ReadsOf (n : ℕ) (bytes : List ℕ) (τ : Tape) (at : ℕ) : Type 0 where
+  pub cursor : Cursor
+  pub lent : List (List ℕ)
+  pub stands : StandsAt n bytes cursor lent
+  pub called : record { block = τ .block; table = τ .table } ≡ nextBlock n bytes cursor lent
+  pub goes-on : τ .block .halted ≡ false
+  pub begins : cursor .run .covered ≡ at
+  pub stream : τ .stream ≡ bytes
+
+-- τ, of the input x, a stream without a fault that covers at least c words, stands at a block that begins with word `at`
+pub record Reads (n c : ℕ) (τ : Tape) (at : ℕ) (x : Input) : Type 0 where
+  pub bytes : List ℕ
+  pub input : x ≡ inputOf n bytes
+  pub clean : reading n bytes .fault ≡ none
+  pub enough : c ≤ x .covered
+  pub here : ReadsOf n bytes τ at
+
+-- ---- The input -------------------------------------------------------------------------------
+
+-- its covered count
+input-covered : (n : ℕ) (bytes : List ℕ) → inputOf n bytes .covered ≡ reading n bytes .state .covered
+unfolding inputOf
+input-covered n bytes = refl
+
+-- a word that it covers is decided as it says
+input-decides : (n : ℕ) (bytes : List ℕ) (w : ℕ) → w < reading n bytes .state .covered
+    → decision n bytes w ≡ decided (inputOf n bytes .decides w)
+unfolding inputOf
+input-decides n bytes w h =
+    let e = covered-decided n bytes w (omega (arith, h, covered-most n bytes)) h in
+    e ∙ ap (λ (d : Decision). decided (orNo d)) (sym e)
+
+-- ---- The block -------------------------------------------------------------------------------
+
+module _ (n : ℕ) (few : n ≤ 32) (bytes : List ℕ) (τ : Tape) (at : ℕ) (h : ReadsOf n bytes τ at) where
+  -- the block begins with word `at`
+  of-from : τ .block .from ≡ at
+  of-from = block-from n bytes few (h .cursor) (h .lent) (h .stands) (τ .block) (τ .table) (h .called) (h .goes-on) ∙ h .begins
+
+  -- and ends where the cursor after it stands
+  of-covers : τ .block .cursor .run .covered ≡ at + 2 ^ (n - deepOf τ)
+  of-covers =
+      block-covers n bytes few (h .cursor) (h .lent) (h .stands) (τ .block) (τ .table) (h .called) (h .goes-on)
+      ∙ ap (λ (k : ℕ). k + 2 ^ (n - deepOf τ)) of-from
+
+  of-next : StandsAt n bytes (τ .block .cursor) (τ .table)
+  of-next = next-stands n bytes few (h .cursor) (h .lent) (h .stands) (τ .block) (τ .table) (h .called)
+
+  of-deep : deepOf τ ≤ n
+  of-deep = block-deep n bytes few (h .cursor) (h .lent) (h .stands) (τ .block) (τ .table) (h .called) (h .goes-on)
+
+  of-aligned : (k : ℕ) × (at ≡ k * 2 ^ (n - deepOf τ))
+  of-aligned =
+      let a = block-aligned n bytes few (h .cursor) (h .lent) (h .stands) (τ .block) (τ .table) (h .called) (h .goes-on) in
+      (a .0, sym of-from ∙ a .1)
+
+  -- its words are covered
+  of-within : at + 2 ^ (n - deepOf τ) ≤ reading n bytes .state .covered
+  of-within = omega (arith, of-covers, stands-read n bytes (τ .block .cursor) (τ .table) of-next)
+
+  -- and it shows what the stream decides on them
+  of-shows : Shows (sourceOf τ) (n - deepOf τ) (deepOf τ + 1) (λ w. inputOf n bytes .decides (at + w))
+  of-shows w l =
+      let e : at + w - τ .block .from ≡ w = omega (arith, of-from) in
+      let d = block-decides n bytes few (h .cursor) (h .lent) (h .stands) (τ .block) (τ .table) (h .called) (h .goes-on) (at + w)
+      (omega (arith, of-from)) (omega (arith, of-covers, l)) in
+      sym (subst (λ (j : ℕ). decision n bytes (at + w) ≡ sourceWalk (sourceOf τ) (deepOf τ + 1) (options (n - deepOf τ) j)) e d)
+      ∙ input-decides n bytes (at + w) (omega (arith, of-within, l))
+
+-- ---- The next block --------------------------------------------------------------------------
+
+-- Where more words are covered than a cursor has passed, there is a next block.
+more-blocks : (n : ℕ) → n ≤ 32 → (bytes : List ℕ) → reading n bytes .fault ≡ none → (c : Cursor) (t : List (List ℕ))
+    → StandsAt n bytes c t → c .run .covered < reading n bytes .state .covered → nextBlock n bytes c t .block .halted ≡ false
+more-blocks n few bytes clean c t h l = go (y .block .halted) refl
+  where
+    y : Next
+    y = nextBlock n bytes c t
+
+    go : (u : Bool) → y .block .halted ≡ u → y .block .halted ≡ false
+    go true e = absurd (omega (arith, l, block-last n bytes few c t h (y .block) (y .table) refl e clean))
+    go false e = e
+
+-- the tape at it
+tape-reads : (n c : ℕ) → n ≤ 32 → (bytes : List ℕ) → reading n bytes .fault ≡ none → (x : Input) → x ≡ inputOf n bytes
+    → c ≤ x .covered → (y : Cursor) (t : List (List ℕ)) → StandsAt n bytes y t → (at : ℕ) → y .run .covered ≡ at → at < c
+    → Reads n c (tapeAt bytes (nextBlock n bytes y t)) at x
+tape-reads n c few bytes clean x e k y t h at i l = record {
+  bytes = bytes;
+  input = e;
+  clean = clean;
+  enough = k;
+  here =
+      record {
+        cursor = y;
+        lent = t;
+        stands = h;
+        called = refl;
+        goes-on =
+            more-blocks n few bytes clean y t h
+            (omega (arith, i, l, k, ap (λ (z : Input). z .covered) e, input-covered n bytes));
+        begins = i;
+        stream = refl;
+      };
+}
+
+-- ---- What the walk over texts asks -----------------------------------------------------------
+
+module _ (n : ℕ) (few : n ≤ 32) (c : ℕ) where
+  -- A block's level is no deeper than there are options,
+  pub reads-deep : (τ : Tape) (at : ℕ) (x : Input) → Reads n c τ at x → deepOf τ ≤ n
+  reads-deep τ at x h = of-deep n few (h .bytes) τ at (h .here)
+
+  -- it begins after some blocks of as many words,
+  pub reads-aligned : (τ : Tape) (at : ℕ) (x : Input) → Reads n c τ at x → (k : ℕ) × (at ≡ k * 2 ^ (n - deepOf τ))
+  reads-aligned τ at x h = of-aligned n few (h .bytes) τ at (h .here)
+
+  -- its edge shows what the input decides on its words,
+  pub reads-shows : (τ : Tape) (at : ℕ) (x : Input) → Reads n c τ at x
+      → Shows (sourceOf τ) (n - deepOf τ) (deepOf τ + 1) (λ w. x .decides (at + w))
+  reads-shows τ at x h =
+      subst (λ (y : Input). Shows (sourceOf τ) (n - deepOf τ) (deepOf τ + 1) (λ w. y .decides (at + w))) (sym (h .input))
+      (of-shows n few (h .bytes) τ at (h .here))
+
+  -- these are covered,
+  pub reads-within : (τ : Tape) (at : ℕ) (x : Input) → Reads n c τ at x → at + 2 ^ (n - deepOf τ) ≤ x .covered
+  reads-within τ at x h = omega (
+    arith,
+    of-within n few (h .bytes) τ at (h .here),
+    ap (λ (y : Input). y .covered) (h .input),
+    input-covered n (h .bytes),
+  )
+
+  -- and the next block begins where it ends, if not all words asked for are passed.
+  pub reads-next : (τ : Tape) (at : ℕ) (x : Input) → Reads n c τ at x → at + 2 ^ (n - deepOf τ) < c
+      → Reads n c (nextTape n τ) (at + 2 ^ (n - deepOf τ)) x
+  reads-next τ at x h l =
+      let s = h .bytes in
+      subst (λ (b : List ℕ). Reads n c (tapeAt b (nextBlock n b (τ .block .cursor) (τ .table))) (at + 2 ^ (n - deepOf τ)) x)
+      (sym (h .here .stream))
+      (tape-reads n c few s (h .clean) x (h .input) (h .enough) (τ .block .cursor) (τ .table) (of-next n few s τ at (h .here))
+      (at + 2 ^ (n - deepOf τ)) (of-covers n few s τ at (h .here)) l)
+
+  -- So the first block of a stream without a fault.
+  pub reads-first : (bytes : List ℕ) (t : List (List ℕ)) → reading n bytes .fault ≡ none → c ≤ inputOf n bytes .covered → 0 < c
+      → 1024 ≤ length t → Reads n c (firstTape n bytes t) 0 (inputOf n bytes)
+  reads-first bytes t clean k l room =
+      tape-reads n c few bytes clean (inputOf n bytes) refl k firstCursor t (first-stands n bytes t room) 0 refl l

@@ -1,0 +1,27 @@
+-- The first block of the stream, settled if it is all of it.
+-- Assumes nothing.
+use borrow.Author.Needs.{needs}
+use Rattle.writer.proofs.begun.Statement.{statement}
+use Rattle.writer.proofs.begun.Tie as tie
+use mathlib.Core.Path.{_∙_}
+use Rattle.combining.specs.EdgeMade.{begun-made}
+
+first-cursor-requires : tie.Need-first-cursor-requires
+first-cursor-requires c κs = search needs
+
+next-block-requires : tie.Need-next-block-requires
+next-block-requires c κs = search needs
+
+settle-requires : tie.Need-settle-requires
+settle-requires c κs = search needs
+
+same-length : tie.Need-same-length
+same-length c = search needs
+
+returns : tie.Need-returns
+returns c = c .settle .ensures (c .before .before .before .before .before .before .args .n) (c .before .before .before .before .before .before .args .s .now) _ ∙ begun-made (c .before .before .before .before .before .before .args .n) (c .before .before .before .before .before .before .args .s .now) (c .before .before .before .before .before .before .args .t .now) (c .before .before .before .first-cursor .result) _ (c .before .before .before .first-cursor .ensures) (c .before .before .next-block .ensures)
+
+pub begun-spec : {M : Type 1} → statement M
+begun-spec =
+    tie.close
+    (tie.spec first-cursor-requires next-block-requires settle-requires same-length returns)
