@@ -25,6 +25,8 @@ void lowered_check(rule_checked *, uint32_t, const_slice *, table_slice *);
 void lowered_decide(rule_decided *, uint32_t, const_slice *, uint64_t, table_slice *);
 void lowered_fill(rule_filled *, uint32_t, const_slice *, bytes_slice *, table_slice *);
 void lowered_write(rule_written *, uint32_t, uint32_t, const_slice *, bytes_slice *, nodes_slice *);
+void lowered_combine(rule_written *, uint32_t, uint32_t, uint32_t, const_slice *, const_slice *, bytes_slice *, table_slice *, table_slice *,
+                     nodes_slice *);
 void lowered_begin(rule_place *);
 void lowered_step(rule_stepped *, rule_place *, const_slice *);
 
@@ -64,6 +66,21 @@ rule_written rule_write(uint32_t n, uint32_t size, const uint8_t *truths, size_t
     nodes_slice t = {table, records};
     rule_written r;
     lowered_write(&r, n, size, &v, &o, &t);
+    return r;
+}
+
+rule_written rule_combine(uint32_t n, uint32_t op, uint32_t size, const uint8_t *stream1, size_t stream1_bytes, const uint8_t *stream2,
+                          size_t stream2_bytes, uint8_t *output, size_t output_bytes, rule_record *table1, size_t records1, rule_record *table2,
+                          size_t records2, rule_node *table3, size_t records3)
+{
+    const_slice s1 = {stream1, stream1_bytes};
+    const_slice s2 = {stream2, stream2_bytes};
+    bytes_slice o = {output, output_bytes};
+    table_slice t1 = {table1, records1};
+    table_slice t2 = {table2, records2};
+    nodes_slice t3 = {table3, records3};
+    rule_written r;
+    lowered_combine(&r, n, op, size, &s1, &s2, &o, &t1, &t2, &t3);
     return r;
 }
 

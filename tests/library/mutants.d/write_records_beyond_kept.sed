@@ -1,2 +1,2 @@
 # crates/writer/src/lib.rt
-/^fn clear/,/^}/s/^    while i < t.len() {/    while i < 1024 {/
+/^fn clear(/,/^}/s/^    while i < t.len() {/    while i < 1024 {/

@@ -1,10 +1,10 @@
 //! One case put to the library and to the plain walk.
 
-use crate::case::{Call, Case};
+use crate::case::{Call, Case, Combine};
 use crate::foreign::{self, Checked, Decided, Filled, Place, Stepped, Stream, Written};
 use crate::lent::{Lent, Memory};
 use std::fmt::Debug;
-use walk::calls::{check, decide, fill, write, Decision};
+use walk::calls::{check, combine, decide, fill, write, Decision};
 use walk::reader::{Element, Reader, Step};
 use walk::refusal::Refusal;
 use walk::run::Ending;
@@ -12,21 +12,50 @@ use walk::run::Ending;
 /// What the walk's records hold before a call.
 const GARBAGE: u64 = 7;
 
-/// 0 if the walk takes the case (for the reader: the bytes ran out), else the cause of its refusal; an
-/// error says how the library differs.
-pub fn compare(case: &Case) -> Result<usize, String> {
+/// What the walk says of a case. The cause is 0 if it is taken (for the reader: if the bytes ran out); the
+/// ending is that of a call that writes and is taken.
+#[derive(Clone, Copy, Debug, Default)]
+pub struct Outcome {
+    pub cause: usize,
+    pub stream: usize,
+    pub ending: usize,
+}
+
+impl Outcome {
+    fn of_cause(cause: u32) -> Outcome {
+        let cause = cause as usize;
+        Outcome {
+            cause,
+            ..Outcome::default()
+        }
+    }
+
+    fn of_writing(answer: Written) -> Outcome {
+        let [cause, stream, ending] =
+            [answer.cause, answer.stream, answer.ending].map(|number| number as usize);
+        Outcome {
+            cause,
+            stream,
+            ending,
+        }
+    }
+}
+
+/// What the walk says of the case; an error says how the library differs.
+pub fn compare(case: &Case) -> Result<Outcome, String> {
     let mut memory = Memory::new(case);
-    let outcome = match case.call {
-        Call::Check => compare_check(case, &mut memory)?,
-        Call::Decide { word } => compare_decide(case, word, &mut memory)?,
-        Call::Fill { .. } => compare_fill(case, &mut memory)?,
-        Call::Reader => compare_reader(case, &mut memory)?,
-        Call::Write { size, .. } => compare_write(case, size, &mut memory)?,
+    let outcome = match &case.call {
+        Call::Check => Outcome::of_cause(compare_check(case, &mut memory)?),
+        Call::Decide { word } => Outcome::of_cause(compare_decide(case, *word, &mut memory)?),
+        Call::Fill { .. } => Outcome::of_cause(compare_fill(case, &mut memory)?),
+        Call::Reader => Outcome::of_cause(compare_reader(case, &mut memory)?),
+        Call::Write { size, .. } => Outcome::of_writing(compare_write(case, *size, &mut memory)?),
+        Call::Combine(of) => Outcome::of_writing(compare_combine(case, of, &mut memory)?),
     };
-    if !memory.stream.unchanged() {
+    if !memory.streams.iter().all(Lent::unchanged) {
         return Err("what was lent to be read or what stands beside it was changed".to_string());
     }
-    Ok(outcome as usize)
+    Ok(outcome)
 }
 
 fn compare_check(case: &Case, memory: &mut Memory) -> Result<u32, String> {
@@ -109,7 +138,7 @@ fn compare_fill(case: &Case, memory: &mut Memory) -> Result<u32, String> {
     Ok(expected.cause)
 }
 
-fn compare_write(case: &Case, size: u32, memory: &mut Memory) -> Result<u32, String> {
+fn compare_write(case: &Case, size: u32, memory: &mut Memory) -> Result<Written, String> {
     let mut table = vec![GARBAGE; case.records];
     let mut output = memory.output.was().to_vec();
     let answer = write(
@@ -119,7 +148,46 @@ fn compare_write(case: &Case, size: u32, memory: &mut Memory) -> Result<u32, Str
         &mut output,
         &mut table,
     );
-    let expected = match answer {
+    let expected = written(answer);
+    let (truths, lent) = (memory.stream(), memory.output());
+    // SAFETY: the slices are lent as rule.h asks.
+    let given = unsafe { foreign::rule_write(case.n, size, truths, lent, memory.nodes()) };
+    same(expected, given)?;
+    same_bytes("output", &memory.output, &output)?;
+    same_table("work table", &memory.nodes, is_zero(&table))?;
+    Ok(expected)
+}
+
+fn compare_combine(case: &Case, of: &Combine, memory: &mut Memory) -> Result<Written, String> {
+    let [mut one, mut two, mut three] = case.tables().map(|records| vec![GARBAGE; records]);
+    let mut output = memory.output.was().to_vec();
+    let answer = combine(
+        case.n.into(),
+        of.op.into(),
+        of.size.into(),
+        [&case.stream, &of.second],
+        &mut output,
+        [&mut one, &mut two, &mut three],
+    );
+    let expected = written(answer);
+    same(expected, combined(case, of, memory))?;
+    same_bytes("output", &memory.output, &output)?;
+    same_tables(memory, [one, two, three].map(|table| is_zero(&table)))?;
+    Ok(expected)
+}
+
+/// What the library answers when it combines.
+pub fn combined(case: &Case, of: &Combine, memory: &mut Memory) -> Written {
+    let numbers = [case.n, of.op, of.size];
+    let (streams, output) = (memory.both_streams(), memory.output());
+    let (tables, nodes) = (memory.both_tables(), memory.nodes());
+    // SAFETY: the slices are lent as rule.h asks.
+    unsafe { foreign::rule_combine(numbers, streams, output, tables, nodes) }
+}
+
+/// The walk's answer of a call that writes.
+fn written(answer: Result<walk::run::Written, Refusal>) -> Written {
+    match answer {
         Ok(written) => Written {
             written: written.bytes as u64,
             covered: written.covered,
@@ -139,14 +207,7 @@ fn compare_write(case: &Case, size: u32, memory: &mut Memory) -> Result<u32, Str
                 ..Written::default()
             }
         }
-    };
-    let (truths, lent) = (memory.stream(), memory.output());
-    // SAFETY: the slices are lent as rule.h asks.
-    let given = unsafe { foreign::rule_write(case.n, size, truths, lent, memory.nodes()) };
-    same(expected, given)?;
-    same_bytes("output", &memory.output, &output)?;
-    same_table(&memory.nodes, &table)?;
-    Ok(expected.cause)
+    }
 }
 
 /// The whole stream; then a beginning of it, and from where that ran out the whole stream again.
@@ -228,11 +289,18 @@ fn stepped(step: Step, place: Place) -> Stepped {
 /// What the lent slices of a call that reads must hold.
 fn same_memory(memory: &Memory, table: &[u64], truths: &[u8]) -> Result<(), String> {
     same_bytes("truth table", &memory.truths, truths)?;
-    same_table(&memory.table, table)
+    same_table("work table", &memory.tables[0], is_zero(table))
+}
+
+/// The records of all three work tables are zero, or as they were.
+pub fn same_tables(memory: &Memory, zero: [bool; 3]) -> Result<(), String> {
+    same_table("work table 1", &memory.tables[0], zero[0])?;
+    same_table("work table 2", &memory.tables[1], zero[1])?;
+    same_table("work table 3", &memory.nodes, zero[2])
 }
 
 /// Every byte of a lent slice is as it is due, those around it as they were.
-fn same_bytes(name: &str, lent: &Lent<u8>, due: &[u8]) -> Result<(), String> {
+pub fn same_bytes(name: &str, lent: &Lent<u8>, due: &[u8]) -> Result<(), String> {
     if !lent.guarded() {
         return Err(format!("something beside the {name} was changed"));
     }
@@ -245,27 +313,34 @@ fn same_bytes(name: &str, lent: &Lent<u8>, due: &[u8]) -> Result<(), String> {
     }
 }
 
-/// The records are zero where the walk's are, else as they were.
-fn same_table<const CELLS: usize>(lent: &Lent<[u32; CELLS]>, table: &[u64]) -> Result<(), String> {
-    let say = |text: &str| Err(text.to_string());
+/// All records of the walk's table are zero.
+fn is_zero(table: &[u64]) -> bool {
+    table.iter().all(|&record| record == 0)
+}
+
+/// The records are zero, or as they were.
+fn same_table<const CELLS: usize>(
+    name: &str,
+    lent: &Lent<[u32; CELLS]>,
+    zero: bool,
+) -> Result<(), String> {
     if !lent.guarded() {
-        return say("something beside the work table was changed");
+        return Err(format!("something beside the {name} was changed"));
     }
-    let zero = table.iter().all(|&record| record == 0);
     if !zero && lent.now() != lent.was() {
-        return say("the work table was changed");
+        return Err(format!("the {name} was changed"));
     }
     if zero && lent.now().iter().any(|record| record != &[0; CELLS]) {
-        return say("the work table is not all zero");
+        return Err(format!("the {name} is not all zero"));
     }
     Ok(())
 }
 
-fn same<T: Debug + PartialEq>(expected: T, given: T) -> Result<(), String> {
+pub fn same<T: Debug + PartialEq>(expected: T, given: T) -> Result<(), String> {
     if expected == given {
         return Ok(());
     }
-    Err(format!("the walk: {expected:?}\nthe library: {given:?}"))
+    Err(format!("due: {expected:?}\nthe library: {given:?}"))
 }
 
 fn refused(refusal: Refusal) -> (u32, u32, u64) {

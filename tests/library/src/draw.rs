@@ -1,13 +1,12 @@
 //! The cases for a seed: those of `walk::generate`, every cut of some streams, then random ones until the
 //! count is reached.
 
-use crate::case::{Call, Case};
+use crate::case::{self, Call, Case};
+use crate::streams::{changed, long_stream, stream_of};
 use walk::deciding::truth_digit;
-use walk::functions::random_function;
-use walk::generate::{cases, nested, staircase};
+use walk::generate::cases;
 use walk::random::Random;
 use walk::reading::read;
-use walk::shapes::{cut, damaged, shaped};
 use walk::writing::write_words;
 
 /// Of so many cases, one is of the walk's own.
@@ -28,8 +27,9 @@ pub struct Draw {
     ready: Vec<Case>,
     /// Option count and stream.
     long: Vec<(u32, Vec<u8>)>,
-    /// Cases of writing among the walk's own.
+    /// Cases of writing, and of combining, among the walk's own.
     writes: Vec<Case>,
+    combines: Vec<Case>,
 }
 
 impl Draw {
@@ -39,6 +39,7 @@ impl Draw {
             ready: Vec::new(),
             long: Vec::new(),
             writes: Vec::new(),
+            combines: Vec::new(),
         };
         for case in cases(seed, count / OWN) {
             draw.take(case);
@@ -46,7 +47,9 @@ impl Draw {
         for _ in 0..CUT_STREAMS {
             draw.every_cut();
         }
-        draw.long = (0..LONG_STREAMS).map(|_| draw.long_stream()).collect();
+        draw.long = (0..LONG_STREAMS)
+            .map(|_| long_stream(&mut draw.random))
+            .collect();
         for _ in 0..CROWDS {
             draw.crowd();
         }
@@ -63,6 +66,11 @@ impl Draw {
     /// The cases of writing that the walk has, for `Writes`.
     pub fn writes(&mut self) -> Vec<Case> {
         std::mem::take(&mut self.writes)
+    }
+
+    /// The cases of combining that the walk has, for `Combines`.
+    pub fn combines(&mut self) -> Vec<Case> {
+        std::mem::take(&mut self.combines)
     }
 
     pub fn case(&mut self) -> Case {
@@ -85,12 +93,13 @@ impl Draw {
     }
 
     /// A case of the walk. Of the calls that write, the streams are checked, and what is written from a
-    /// truth table is filled back; the writing itself is kept for `Writes`.
+    /// truth table is filled back; the calls themselves are kept for `Writes` and
+    /// `Combines`.
     fn take(&mut self, case: walk::case::Case) {
         use walk::case::Case::*;
-        let options = |n: u64| u32::try_from(n).expect("the walk's option counts are small");
+        let small = |number: u64| u32::try_from(number).expect("the walk's numbers are small");
         let mut push = |call: Call, n: u64, records: usize, stream: Vec<u8>| {
-            let n = options(n);
+            let n = small(n);
             self.ready.push(Case {
                 call,
                 n,
@@ -125,10 +134,10 @@ impl Draw {
             } => {
                 self.writes.push(Case {
                     call: Call::Write {
-                        size: u32::try_from(size).expect("the walk's sizes are small"),
+                        size: small(size),
                         output: output.len(),
                     },
-                    n: options(n),
+                    n: small(n),
                     records,
                     stream: truth.clone(),
                 });
@@ -141,12 +150,27 @@ impl Draw {
             }
             Combine {
                 n,
-                records,
+                operator,
+                size,
+                records: [one, two, three],
                 streams,
-                ..
+                output,
             } => {
+                let [stream, second] = streams.clone();
+                self.combines.push(Case {
+                    call: Call::Combine(case::Combine {
+                        op: small(operator),
+                        size: small(size),
+                        output: output.len(),
+                        others: [two, three],
+                        second,
+                    }),
+                    n: small(n),
+                    records: one,
+                    stream,
+                });
                 for stream in streams {
-                    push(Call::Check, n, records[0], stream);
+                    push(Call::Check, n, one, stream);
                 }
             }
             Join { .. } => {}
@@ -160,7 +184,7 @@ impl Draw {
             _ => 3 + self.random.below(3) as u32,
         };
         let stream = loop {
-            let stream = self.stream_of(n);
+            let stream = stream_of(&mut self.random, n);
             if stream.len() <= 150 {
                 break stream;
             }
@@ -175,17 +199,6 @@ impl Draw {
                 self.ready.push(fill);
             }
         }
-    }
-
-    /// A stream of some thousand bytes.
-    fn long_stream(&mut self) -> (u32, Vec<u8>) {
-        let n = 8 + self.random.below(5) as u32;
-        let function: Vec<bool> = match self.random.below(2) {
-            0 => (0..1 << n).map(|_| self.random.chance(1, 2)).collect(),
-            _ => random_function(&mut self.random, n),
-        };
-        let size = self.random.pick(&[1024, 1024, 1023, 500, 100]);
-        (n, write_words(n, size, |word| function[word as usize]).text)
     }
 
     /// Number 1 becomes a child of many stored nodes; the numbers of these are given out again, but for some
@@ -339,129 +352,15 @@ impl Draw {
 
     // ---- Streams
 
-    /// A stream meant for an option count, or a long one with its own option count; left as it is, cut,
-    /// damaged, or with a number replaced.
+    /// A stream meant for an option count, or a long one with its own option count; left as it is or changed.
     fn stream(&mut self, n: u32) -> (u32, Vec<u8>) {
-        let (n, mut stream) = if self.random.chance(1, 50) {
+        let (n, stream) = if self.random.chance(1, 50) {
             let chosen = self.random.index(self.long.len());
             self.long[chosen].clone()
         } else {
-            (n, self.stream_of(n))
+            (n, stream_of(&mut self.random, n))
         };
-        let changes = match self.random.below(20) {
-            0..=7 => 0,
-            8..=17 => 1,
-            _ => 2,
-        };
-        for _ in 0..changes {
-            stream = match self.random.below(10) {
-                0..=3 => cut(&mut self.random, stream),
-                4..=7 => damaged(&mut self.random, stream),
-                _ => self.renumbered(stream),
-            };
-        }
-        (n, stream)
-    }
-
-    /// A stream meant for an option count: valid, or with one fault, or as far as a fault.
-    fn stream_of(&mut self, n: u32) -> Vec<u8> {
-        match self.random.below(20) {
-            0..=5 if n <= 8 => self.written(n),
-            0..=9 => shaped(&mut self.random, n, None),
-            10..=15 => {
-                let cause = self
-                    .random
-                    .pick(&[7, 8, 9, 10, 11, 11, 11, 12, 12, 12, 13, 13]);
-                shaped(&mut self.random, n, Some(cause))
-            }
-            16..=18 => self.wandering(n),
-            _ => self.deep(n),
-        }
-    }
-
-    /// As it is written for a random function.
-    fn written(&mut self, n: u32) -> Vec<u8> {
-        let function = random_function(&mut self.random, n);
-        let size = match self.random.below(4) {
-            0 => self.random.below(1025),
-            1 => self.random.below(40),
-            _ => self.random.below(7),
-        };
-        write_words(n, size, |word| function[word as usize]).text
-    }
-
-    /// Bytes that go on without a fault as long as chance has it.
-    fn wandering(&mut self, n: u32) -> Vec<u8> {
-        let size = self.random.below(5);
-        let mut bytes = format!("{size}\n").into_bytes();
-        let most = 4 + self.random.index(60);
-        while bytes.len() < most {
-            bytes.push(self.random.pick(b"((((000~~))):::1112234 ."));
-            if read(n, &bytes).is_ok() {
-                continue;
-            }
-            if self.random.chance(1, 30) {
-                break;
-            }
-            bytes.pop();
-        }
-        bytes
-    }
-
-    /// About as many brackets as there are options.
-    fn deep(&mut self, n: u32) -> Vec<u8> {
-        let count = (n + 1).saturating_sub(self.random.below(3) as u32).max(1);
-        let count = if self.random.chance(1, 4) {
-            30 + self.random.index(5)
-        } else {
-            count as usize
-        };
-        match self.random.below(2) {
-            0 => nested(count, self.random.pick(&["0", "(0~0):1", "1", "(0 0)"])),
-            _ => staircase(self.random.below(3), count),
-        }
-    }
-
-    /// A number replaced: by one that is alike in its low bits or digits, by one at a limit, or by a row of
-    /// up to some thousand digits.
-    fn renumbered(&mut self, stream: Vec<u8>) -> Vec<u8> {
-        let begins = |at: usize| {
-            stream[at].is_ascii_digit() && (at == 0 || !stream[at - 1].is_ascii_digit())
-        };
-        let places: Vec<usize> = (0..stream.len()).filter(|&at| begins(at)).collect();
-        if places.is_empty() {
-            return stream;
-        }
-        let at = self.random.pick(&places);
-        let digits = stream[at..].iter().take_while(|byte| byte.is_ascii_digit());
-        let end = at + digits.count();
-        let old = String::from_utf8_lossy(&stream[at..end]).into_owned();
-        let number = self.number(&old);
-        [&stream[..at], number.as_bytes(), &stream[end..]].concat()
-    }
-
-    fn number(&mut self, old: &str) -> String {
-        let value: u128 = old.parse().unwrap_or(0);
-        let more = 1 + u128::from(self.random.below(3));
-        match self.random.below(12) {
-            0..=2 => (value + (more << 32)).to_string(),
-            3..=4 => (value + (more << 64)).to_string(),
-            5 => (value + (more << self.random.pick(&[8, 10, 16, 31, 33, 63]))).to_string(),
-            6 => ((1u128 << self.random.pick(&[10, 16, 31, 32, 64])) + more - 2).to_string(),
-            7 => (1022 + more).to_string(),
-            8 => format!("0{old}"),
-            9 => format!("1{}{old}", "0".repeat(self.random.index(60))),
-            10 => self.digits(40),
-            _ => self.digits(3000),
-        }
-    }
-
-    /// Up to so many digits.
-    fn digits(&mut self, most: usize) -> String {
-        let count = self.random.index(most);
-        let mut digit = || char::from(self.random.pick(b"0123456789"));
-        let row: String = (0..count).map(|_| digit()).collect();
-        format!("{}{row}", 1 + self.random.below(9))
+        (n, changed(&mut self.random, stream))
     }
 }
 

@@ -206,6 +206,23 @@ mod calls {
             table: *mut Node,
             records: usize,
         ) -> Written;
+        pub fn rule_combine(
+            n: u32,
+            op: u32,
+            size: u32,
+            stream1: *const u8,
+            stream1_bytes: usize,
+            stream2: *const u8,
+            stream2_bytes: usize,
+            output: *mut u8,
+            output_bytes: usize,
+            table1: *mut Record,
+            records1: usize,
+            table2: *mut Record,
+            records2: usize,
+            table3: *mut Node,
+            records3: usize,
+        ) -> Written;
         pub fn rule_begin() -> Place;
         pub fn rule_step(place: Place, stream: *const u8, stream_bytes: usize) -> Stepped;
     }
@@ -235,6 +252,21 @@ pub unsafe fn rule_write(n: u32, size: u32, v: Stream, o: Bytes, t: Nodes) -> Wr
     let (truths, output) = (v.bytes, o.bytes);
     calls::rule_write(
         n, size, truths, v.length, output, o.length, t.records, t.length,
+    )
+}
+
+/// # Safety
+/// What is lent is there, and nothing else refers to it.
+pub unsafe fn rule_combine(
+    [n, op, size]: [u32; 3],
+    [x, y]: [Stream; 2],
+    o: Bytes,
+    [t1, t2]: [Table; 2],
+    t3: Nodes,
+) -> Written {
+    calls::rule_combine(
+        n, op, size, x.bytes, x.length, y.bytes, y.length, o.bytes, o.length, t1.records,
+        t1.length, t2.records, t2.length, t3.records, t3.length,
     )
 }
 

@@ -54,10 +54,10 @@ impl<T: Copy + PartialEq> Lent<T> {
 
 /// All that a case lends.
 pub struct Memory {
-    pub stream: Lent<u8>,
+    pub streams: [Lent<u8>; 2],
     pub truths: Lent<u8>,
     pub output: Lent<u8>,
-    pub table: Lent<Record>,
+    pub tables: [Lent<Record>; 2],
     pub nodes: Lent<Node>,
 }
 
@@ -65,36 +65,32 @@ impl Memory {
     pub fn new(case: &Case) -> Memory {
         let mut random = Random::new(case.hash());
         let null = random.chance(1, 2);
-        // Bytes that could go on where the stream ends, so that reading past it shows; beside a truth
-        // table that is any byte.
-        let writes = matches!(case.call, Call::Write { .. });
-        let mut around = || match writes {
-            true => random.byte(),
-            false => random.pick(b"0123456789()~:. \n"),
-        };
-        let mut bytes: Vec<u8> = (0..GUARDS).map(|_| around()).collect();
-        bytes.extend(&case.stream);
-        bytes.extend((0..GUARDS).map(|_| around()));
+        let mut lend = |bytes: &[u8]| Lent::new(between(&mut random, case, bytes), null);
+        let streams = [lend(&case.stream), lend(case.second())];
         let truths = random.garbage(case.truths() + 2 * GUARDS);
         let mut cells = Cells::new(&mut random);
-        let [records, nodes] = case.tables();
-        let table = (0..records + 2 * GUARDS).map(|_| cells.record()).collect();
-        let nodes = (0..nodes + 2 * GUARDS).map(|_| cells.record()).collect();
+        let [first, second, nodes] = case.tables().map(|records| records + 2 * GUARDS);
+        let tables = [first, second].map(|count| (0..count).map(|_| cells.record()).collect());
+        let nodes = (0..nodes).map(|_| cells.record()).collect();
         let output = random.garbage(case.output() + 2 * GUARDS);
         Memory {
-            stream: Lent::new(bytes, null),
+            streams,
             truths: Lent::new(truths, null),
             output: Lent::new(output, null),
-            table: Lent::new(table, null),
+            tables: tables.map(|table| Lent::new(table, null)),
             nodes: Lent::new(nodes, null),
         }
     }
 
     pub fn stream(&mut self) -> Stream {
-        Stream {
-            bytes: self.stream.pointer(),
-            length: self.stream.length(),
-        }
+        self.both_streams()[0]
+    }
+
+    pub fn both_streams(&mut self) -> [Stream; 2] {
+        self.streams.each_mut().map(|stream| Stream {
+            bytes: stream.pointer(),
+            length: stream.length(),
+        })
     }
 
     pub fn truths(&mut self) -> Bytes {
@@ -112,10 +108,14 @@ impl Memory {
     }
 
     pub fn table(&mut self) -> Table {
-        Table {
-            records: self.table.pointer(),
-            length: self.table.length(),
-        }
+        self.both_tables()[0]
+    }
+
+    pub fn both_tables(&mut self) -> [Table; 2] {
+        self.tables.each_mut().map(|table| Table {
+            records: table.pointer(),
+            length: table.length(),
+        })
     }
 
     pub fn nodes(&mut self) -> Nodes {
@@ -124,6 +124,20 @@ impl Memory {
             length: self.nodes.length(),
         }
     }
+}
+
+/// Bytes to be read between guards: bytes that could go on where a stream ends, so that reading past it shows;
+/// beside a truth table that is any byte.
+fn between(random: &mut Random, case: &Case, bytes: &[u8]) -> Vec<u8> {
+    let writes = matches!(case.call, Call::Write { .. });
+    let mut around = || match writes {
+        true => random.byte(),
+        false => random.pick(b"0123456789()~:. \n"),
+    };
+    let mut all: Vec<u8> = (0..GUARDS).map(|_| around()).collect();
+    all.extend(bytes);
+    all.extend((0..GUARDS).map(|_| around()));
+    all
 }
 
 /// Garbage for records: anything, or all ones, or numbers that a table in use could have.

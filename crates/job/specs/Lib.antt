@@ -1,8 +1,0 @@
-pub mod Between
-pub mod Cite
-pub mod Cuts
-pub mod Lining
-pub mod Fields
-pub mod Printing
-pub mod Calling
-pub mod Joining

@@ -1,0 +1,80 @@
+-- The call that a job makes. What it answers depends on how long the work tables are, and not on what they hold. Assumes nothing.
+use mathlib.Core.Path.{_≡_, refl, sym, subst, ap, ap₂, _∙_}
+use mathlib.Core.List.{List, [], _∷_}
+use mathlib.Core.Option.{some}
+use Prim.{tt}
+use Prim.Native.Nat.{ℕ, _≤_}
+use native.Mathlib.Omega.{arith}
+use lib.ListN.{length, replicate, length-replicate}
+use Rattle.reading.specs.Limits.{tableLimit}
+use Rattle.reading.specs.Causes.{Result, refused, done, unlessRefused}
+use Rattle.writing.specs.Run.{Answer, answerOf, outputAfter}
+use Rattle.writing.specs.Output.{written-length, output-length}
+use Rattle.writing.specs.Calls.{Combine, combine, combineAnswer, combineText}
+use Rattle.writing.specs.Join.{Job, jobLimit, report, called, answered}
+use Rattle.claims.specs.Runs.{ran}
+use Rattle.join.specs.Printing.{Settled}
+
+module _ {R S : Type 0} (z : R) (o : S) (n op size : ℕ) (x y out : List ℕ) (t u : List R) (v : List S) where
+  abbrev call : Combine R S
+  call = combine z o n op size x y out t u v
+
+  -- as many options as the limit says at most, and no more written than the output holds
+  settled : (a : Result Answer) → a ≡ call .answer → Settled n a (length out)
+  unfolding answerOf
+  settled (refused r) e = tt
+  settled (done a) e =
+      let g = ran z o n op size x y out t u v a (sym e) in
+      (g .options, omega (arith, ap (λ (b : Answer). b .written) (g .answer), written-length (combineText n op size (x ∷ y ∷ [])) out))
+
+  -- the output stays as long
+  after-length : (a : Result Answer) (w : List ℕ) → length (unlessRefused a out (λ (i : Answer). outputAfter w out)) ≡ length out
+  unfolding unlessRefused
+  after-length (refused r) w = refl
+  after-length (done a) w = output-length w out
+
+  call-length : length (call .output) ≡ length out
+  unfolding combine
+  call-length = after-length (call .answer) (combineText n op size (x ∷ y ∷ []))
+
+  -- what the call answers and leaves: a and w
+  module _ (a : Result Answer) (f g : List R) (h : List S) (w : List ℕ) (e : record { answer = a; first = f; second = g; third = h; output = w } ≡ call) where
+    answers : a ≡ call .answer
+    answers = ap (λ (m : Combine R S). m .answer) e
+
+    leaves : w ≡ call .output
+    leaves = ap (λ (m : Combine R S). m .output) e
+
+    length-left : length w ≡ length out
+    length-left = ap length leaves ∙ call-length
+
+    pub call-settled : length out ≡ jobLimit → (length w ≤ jobLimit) × Settled n a (length w)
+    call-settled p =
+        (omega (arith, p, length-left), subst (Settled n a) (sym length-left) (settled a answers))
+
+    -- the report on it is that on the job's
+    module _ (p : out ≡ replicate jobLimit 0) (q : length t ≡ tableLimit) (r : length u ≡ tableLimit) (s : length v ≡ tableLimit) where
+      abbrev job : Job
+      job = record { n = n; op = op; size = size; stream₁ = x; stream₂ = y }
+
+      abbrev records : ℕ
+      records = length {A = ℕ} (replicate tableLimit 0)
+
+      tables : (length t ∷ length u ∷ length v ∷ []) ≡ records ∷ records ∷ records ∷ []
+      tables =
+          let k : records ≡ tableLimit = length-replicate {A = ℕ} tableLimit 0 in
+          ap₂ (λ (i j : ℕ). i ∷ j ∷ length v ∷ []) (q ∙ sym k) (r ∙ sym k)
+          ∙ ap (λ (i : ℕ). records ∷ records ∷ i ∷ []) (s ∙ sym k)
+
+      same-answer : call .answer ≡ called job .answer
+      unfolding combine called
+      same-answer = ap₂ (λ (w k : List ℕ). combineAnswer n op size (x ∷ y ∷ []) w k) p tables
+
+      same-output : call .output ≡ called job .output
+      unfolding combine called
+      same-output =
+          ap₂ (λ (w : List ℕ) (b : Result Answer). unlessRefused b w (λ (i : Answer). outputAfter (combineText n op size (x ∷ y ∷ [])) w)) p same-answer
+
+      pub call-report : report n a w ≡ answered (some job)
+      unfolding answered
+      call-report = ap₂ (report n) (answers ∙ same-answer) (leaves ∙ same-output)

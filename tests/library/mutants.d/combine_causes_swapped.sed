@@ -1,0 +1,2 @@
+# crates/writer/src/lib.rt
+/^pub fn combine/,/^}/s/Cause::OperatorCode/Cause::SizeToWrite/

@@ -1,0 +1,2 @@
+# crates/writer/src/lib.rt
+/^fn is_settled/,/^}/s/^    !differs(.*/    true/

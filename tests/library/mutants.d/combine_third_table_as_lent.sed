@@ -1,0 +1,5 @@
+# crates/writer/src/lib.rt
+/^    let b = check(n, y, t2);/{
+n
+s/^    clear(t);/    \/\/ clear(t);/
+}
