@@ -1,12 +1,12 @@
 /*
- * Option rules as decision streams: checking a stream, deciding one word, filling a truth table, writing the stream of a truth table, and reading a
- * stream element by element.
+ * Option rules as decision streams: checking a stream, deciding one word, filling a truth table, writing the stream of a truth table, combining two
+ * streams by an operator, and reading a stream element by element.
  *
  * A stream is the table size, one LF, an optional `~`, one node, and `.` as last byte. A stream without its point is cut; it is taken like any
  * other and covers fewer words. n is the option count, 0 to 32; words run from 0 to 2^n - 1, and option 1 has weight 2^(n-1).
  *
- * Libraries. libfirmware.a has rule_check, rule_decide and rule_fill; libstepping.a has rule_begin and rule_step; libdesk.a has rule_write. Each
- * stands alone, and all can be linked together. They are proved, and want nothing of the C library but memcpy and memset.
+ * Libraries. libfirmware.a has rule_check, rule_decide and rule_fill; libstepping.a has rule_begin and rule_step; libdesk.a has rule_write and
+ * rule_combine. Each stands alone, and all can be linked together. They are proved, and want nothing of the C library but memcpy and memset.
  *
  * Memory. The caller lends all of it and keeps it: the library allocates nothing, keeps nothing between calls and no pointer after one, and has
  * no state, so calls on different memory may run at the same time. Lent pieces must not overlap. A piece of length 0 may have a null pointer.
@@ -38,12 +38,12 @@ extern "C" {
  * it was. On every other return all its records are zero, those beyond RULE_RECORDS too.
  */
 
-/* A record of a work table; its cells have no meaning to the caller. */
+/* A record of a work table for reading; its cells have no meaning to the caller. */
 typedef struct {
     uint32_t cells[6];
 } rule_record;
 
-/* A record of the work table of rule_write; its cells have no meaning to the caller. */
+/* A record of a work table for writing; its cells have no meaning to the caller. */
 typedef struct {
     uint32_t cells[12];
 } rule_node;
@@ -54,11 +54,9 @@ typedef struct {
 
 /*
  * `cause` is RULE_DONE if the call is not refused. Causes 1 to 6 lie in the call; they are tested first, in this order, as far as the call has
- * them, and name stream 0, byte 0. Causes 7 to 13 lie in the stream; they name stream 1 and the place of the fault, counted from 0. The
- * lowest place counts, and there the lower number. `stream` and `byte` are 0 if the call is not refused; all that follows them in an answer is 0
- * if it is.
- *
- * No call of this header has an operator: cause 2 is named for completeness.
+ * them, and name stream 0, byte 0. Causes 7 to 13 lie in a stream; they name that stream, 1 or 2 (1 if the call has only one), and the place of the
+ * fault in it, counted from 0. A fault in stream 1 counts before one in stream 2; in a stream the lowest place counts, and there the lower number.
+ * `stream` and `byte` are 0 if the call is not refused; all that follows them in an answer is 0 if it is.
  */
 enum {
     RULE_DONE = 0,
@@ -127,12 +125,18 @@ typedef struct {
  */
 rule_filled rule_fill(uint32_t n, const uint8_t *stream, size_t stream_bytes, uint8_t *truths, size_t truth_bytes, rule_record *table, size_t records);
 
-/* ---- Writing the stream of a truth table */
+/* ---- What a call that writes answers */
 
-/* All of the stream is written; the input ended; the output is shorter than the stream. No call of this header ends as the second says. */
+/*
+ * All of the stream is written; the streams to combine don't cover all words, and the beginning that their later bytes can't change is written; the
+ * output is too short for what there is to write. Writing the stream of a truth table never ends as the second says.
+ */
 enum { RULE_WHOLE = 0, RULE_INPUT_ENDED = 1, RULE_OUTPUT_FULL = 2 };
 
-/* How many bytes are written, the covered count (2^n, whatever the ending), and how it ended; `spare` is 0. */
+/*
+ * How many bytes are written, the covered count, and how it ended; `spare` is 0. The covered count does not depend on the output: it is 2^n for a
+ * truth table, and the smaller of the two streams' for combining.
+ */
 typedef struct {
     uint32_t cause, stream;
     uint64_t byte;
@@ -142,6 +146,8 @@ typedef struct {
     uint32_t spare;
 } rule_written;
 
+/* ---- Writing the stream of a truth table */
+
 /*
  * Writes the stream of a truth table of 2^n / 8 bytes, n from 3 to 16, with the table size `size`, 0 to 1,024. Tests causes 1, 3, 4 and 6. If the
  * output is shorter than the stream, it gets the stream's first bytes and the ending is RULE_OUTPUT_FULL; that is no refusal. If the call is refused,
@@ -149,6 +155,8 @@ typedef struct {
  */
 rule_written rule_write(uint32_t n, uint32_t size, const uint8_t *truths, size_t truth_bytes, uint8_t *output, size_t output_bytes, rule_node *table,
                         size_t records);
+
+/* ---- Combining two streams */
 
 /*
  * Combines two streams by an operator, 0 to 15: on a word for which stream 1 decides a and stream 2 decides b, it gives binary digit 2a + b of the

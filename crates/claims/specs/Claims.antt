@@ -1,7 +1,7 @@
 -- WHAT IS CLAIMED of the definitions that document 01 gives for each call. Every statement stands under a line of plain words and is proved by a
 -- citation; the definitions that it names are those of the calls: `check`, `decide` and `fill` in reading's Calls, `write` and `combine` in
 -- writing's Calls. Assumes nothing.
-use mathlib.Core.Path.{_≡_, ap, _∙_, subst⁻¹}
+use mathlib.Core.Path.{_≡_, sym, ap, _∙_, subst⁻¹}
 use mathlib.Core.Logic.{_↔_}
 use mathlib.Core.Bool.{Bool, true, false}
 use mathlib.Core.List.{List, [], _∷_, _++_, List·Memᴰ}
@@ -11,7 +11,7 @@ use lib.ListN.{length, take, drop, getD}
 use Rattle.lists.specs.Lists.{has, Distinct}
 use Rattle.lists.specs.Prefixes.{Begins}
 use Rattle.reading.specs.Limits.{optionLimit, tableLimit}
-use Rattle.reading.specs.Causes.{wrongByte, call, place, causeRow, Refusal, refused, done, cleared}
+use Rattle.reading.specs.Causes.{wrongByte, call, place, causeRow, Refusal, Result, refused, done, cleared}
 use Rattle.reading.specs.Grammar.{IsStream, Viable}
 use Rattle.reading.specs.Nodes.{hasParent}
 use Rattle.reading.specs.Element.{over, fault, ranOut}
@@ -27,7 +27,7 @@ use Rattle.reading.specs.CallLaws as L
 use Rattle.writing.specs.UniqueTable.{start}
 use Rattle.writing.specs.Rules.{part}
 use Rattle.writing.specs.Run.{runCovered, runText, writtenBytes, outputAfter, whole, Answer}
-use Rattle.writing.specs.Calls.{inputOf, truthAt, write, combine}
+use Rattle.writing.specs.Calls.{inputOf, truthAt, write, Combine, combine}
 use Rattle.writing.specs.CallLaws as M
 use Rattle.writing.specs.Queue as Q
 use Rattle.writing.specs.Grows as W
@@ -193,3 +193,31 @@ demand-3 z o n op size x y x₊ y₊ out out′ t u t′ u′ v v′ r r′ l e 
       accepted = (run-read n op size x y out r _ s .accepted, run-read n op size (x ++ x₊) (y ++ y₊) out′ r′ _ s′ .accepted);
       decides = runs-decide n op size x y x₊ y₊ out out′ r r′ _ _ s s′ l;
     }
+
+-- ---- The calls ---------------------------------------------------------------------------------
+
+-- What the contract of `combine` in crate writer says of a call: its answer, the three work tables and the output afterwards. There R is a record
+-- of 6 cells and S one of 12; z and o are all zero.
+abbrev pub Called : {R S : Type 0} → R → S → ℕ → ℕ → ℕ → List ℕ → List ℕ → List ℕ → List R → List R → List S → Result Answer → List R → List R → List S → List ℕ → Type 0
+Called z o n op size x y out t u v a p q w bytes = record { answer = a; first = p; second = q; third = w; output = bytes } ≡ combine z o n op size x y out t u v
+
+-- DEMAND 2 of a call that ends "whole": the bytes that it wrote, read as a stream, decide every word as the operator does, taken word by word.
+pub call-demand-2 : {R S : Type 0} (z : R) (o : S) (n op size : ℕ) (x y out : List ℕ) (t u : List R) (v : List S) (r : Answer) (p q : List R) (w : List S) (after : List ℕ)
+    → Called z o n op size x y out t u v (done r) p q w after → r .ending ≡ whole
+    → let bytes = take (r .written) after in
+    (covered n bytes ≡ 2 ^ n) × (reading n bytes .state .place .mark ≡ over) × ((w : ℕ) → w < 2 ^ n → (d : Bool) × (decision n bytes w ≡ decided d) × Operated n op x y w d)
+call-demand-2 {R} {S} z o n op size x y out t u v r p q w after h e =
+    subst⁻¹ (λ (l : List ℕ). (covered n (take (r .written) l) ≡ 2 ^ n) × (reading n (take (r .written) l) .state .place .mark ≡ over)
+    × ((w : ℕ) → w < 2 ^ n → (d : Bool) × (decision n (take (r .written) l) w ≡ decided d) × Operated n op x y w d)) (ap (λ (c : Combine R S). c .output) h)
+    (combining-read-back z o n op size x y out t u v r (sym (ap (λ (c : Combine R S). c .answer) h)) e)
+
+-- DEMAND 3 of two calls, whatever outputs and work tables held before.
+pub calls-demand-3 : {R S : Type 0} (z : R) (o : S) (n op size : ℕ) (x y x₊ y₊ out out′ : List ℕ) (t u t′ u′ : List R) (v v′ : List S) (r r′ : Answer) (p q p′ q′ : List R) (w w′ : List S)
+    (after after′ : List ℕ) → length out ≤ length out′ → Called z o n op size x y out t u v (done r) p q w after
+    → Called z o n op size (x ++ x₊) (y ++ y₊) out′ t′ u′ v′ (done r′) p′ q′ w′ after′
+    → Demand3 n op x y (x ++ x₊) (y ++ y₊) r r′ (take (r .written) after) (take (r′ .written) after′)
+calls-demand-3 {R} {S} z o n op size x y x₊ y₊ out out′ t u t′ u′ v v′ r r′ p q p′ q′ w w′ after after′ l h h′ =
+    subst⁻¹ (λ (k : List ℕ). Demand3 n op x y (x ++ x₊) (y ++ y₊) r r′ (take (r .written) k) (take (r′ .written) after′)) (ap (λ (c : Combine R S). c .output) h)
+    (subst⁻¹ (λ (k : List ℕ). Demand3 n op x y (x ++ x₊) (y ++ y₊) r r′ (take (r .written) (combine z o n op size x y out t u v .output)) (take (r′ .written) k))
+    (ap (λ (c : Combine R S). c .output) h′)
+    (demand-3 z o n op size x y x₊ y₊ out out′ t u t′ u′ v v′ r r′ l (sym (ap (λ (c : Combine R S). c .answer) h)) (sym (ap (λ (c : Combine R S). c .answer) h′))))

@@ -11,7 +11,7 @@ use borrow.Author.Tests.{eq-eqb, ne-eqb}
 use Rattle.lists.specs.Lists.{differ, decide-eq}
 use Rattle.reading.specs.Nodes.{Node, node}
 use Rattle.writing.specs.Run.{digitAt, operate}
-use Rattle.engine.specs.Applying.{Source, firstSource, secondSource, fixed}
+use Rattle.engine.specs.Applying.{Source, passes, firstSource, secondSource, fixed}
 use Rattle.engine.specs.Taping.{Feed, onTape, atEdge, edgeOf, settle, firstFeed, secondFeed}
 use Rattle.combining.specs.Tapes.{Tape, tapeAt, deepOf, sourceOf, nextTape, begunFeed}
 use Rattle.reader.specs.ReadOn.{Next, firstCursor, nextBlock}
@@ -60,6 +60,10 @@ module _ (t : List (List ℕ)) (z i k : ℕ) (v : Bool) (r : Row) (read : r ≡ 
 
   level : (eqb k 0 || ltb i (r .level)) ≡ (eqb k 0 || ltb i (node (tableOf t z) k .level))
   level = ap (λ (y : Node). eqb k 0 || ltb i (y .level)) same
+
+  -- whether it is passed over
+  pub passes-made : (b : Bool) → b ≡ (eqb k 0 || ltb i (r .level)) → b ≡ passes i x
+  passes-made b e = e ∙ level
 
   -- it is passed over
   pub first-passed : (eqb k 0 || ltb i (r .level)) ≡ true → x ≡ firstSource i x
@@ -150,6 +154,11 @@ pub begun-made : (n : ℕ) (s : List ℕ) (t : List (List ℕ)) (c : Cursor) (x 
 begun-made n s t c x e h =
     ap (λ (x : Next). settle deepOf sourceOf (nextTape n) 1 (record { tape = tapeAt s x; inText = true; number = 0; turned = false }))
     (h ∙ ap (λ (c : Cursor). nextBlock n s c t) e)
+
+-- the second of two, if there is no more
+pub and-none : (b : Bool) → b ≡ (b && true)
+and-none true = refl
+and-none false = refl
 
 -- of two, the second is not in its text
 pub no-other : (b : Bool) → not b ≡ not (b || false)

@@ -8,7 +8,7 @@ use Prim.Native.Nat.{ℕ, zero, suc, _+_, _-_, _*_, _≤_, _<_, _^_}
 use native.Mathlib.Omega.{arith}
 use lib.Dec.{eqb, ltb}
 use lib.ListN.{length, take}
-use borrow.Author.Tests.{eqb-true, eqb-false, ltb-true, ltb-false}
+use borrow.Author.Tests.{eqb-true, eqb-false, ltb-true, ltb-false, not-true}
 use Rattle.lists.specs.Lists.{differ, and-l, and-r, or-l, or-r, pow-pos}
 use Rattle.reading.specs.Bytes.{opener}
 use Rattle.reading.specs.Nodes.{node, stamp}
@@ -18,12 +18,14 @@ use Rattle.reading.specs.Words.{options-low, options-high, complemented-twice}
 use Rattle.reading.specs.TableWalk.{rowWalk, rowWalk-zero, rowWalk-skip, rowWalk-go}
 use Rattle.writing.specs.UniqueTable.{State}
 use Rattle.writing.specs.Texts.{tildeIf}
-use Rattle.writing.specs.Online.{Went, waiting, online}
+use Rattle.writing.specs.ConstantPart.{part-complement}
+use Rattle.writing.specs.Online.{Went, waiting, online, online-went}
 use Rattle.engine.specs.Pending.{Waiting, pushAll, waitIn}
-use Rattle.engine.specs.Engine.{Half, Pen, Walked, constantHalf, kept, secondIn}
+use Rattle.engine.specs.Engine.{Half, Pen, Walked, constantHalf, numberHalf, kept, secondIn}
 use Rattle.engine.specs.Leading.{Stands, Leads}
+use Rattle.engine.specs.Again.{repeat-leads}
 use Rattle.engine.specs.Walking.{online-stamp, Ready, partIn, push-ready, second-ready, halves-lead, constant-leads, block-leads}
-use Rattle.engine.specs.Applying.{Source, passes, firstSource, secondSource, firstSources, secondSources, turns, fixed, applyIn}
+use Rattle.engine.specs.Applying.{Source, passes, firstSource, secondSource, firstSources, secondSources, turns, allPass, againPart, fixed, applyIn}
 
 -- ---- What an input shows ---------------------------------------------------------------------
 
@@ -190,6 +192,52 @@ all-start [] m i [] h = refl
 all-start [] m i (g ∷ gs) h = absurd h
 all-start (x ∷ xs) m i [] h = absurd h
 all-start (x ∷ xs) m i (g ∷ gs) h = ap₂ _∷_ (shows-start x m i g (h .0)) (all-start xs m i gs (h .1))
+
+-- ---- A level that all pass over --------------------------------------------------------------
+
+-- they stay as they are at both halves
+pass-first : (i : ℕ) (xs : List Source) → allPass i xs ≡ true → firstSources i xs ≡ xs
+pass-first i [] e = refl
+pass-first i (x ∷ xs) e =
+    ap₂ _∷_ (ap (λ (b : Bool). cond b x (record { table = x .table; number = node (x .table) (x .number) .first; turned = x .turned }))
+    (and-l (passes i x) (allPass i xs) e)) (pass-first i xs (and-r (passes i x) (allPass i xs) e))
+
+pass-second : (i : ℕ) (xs : List Source) → allPass i xs ≡ true → secondSources i xs ≡ xs
+pass-second i [] e = refl
+pass-second i (x ∷ xs) e =
+    ap₂ _∷_ (ap (λ (b : Bool). cond b x (record {
+      table = x .table;
+      number = node (x .table) (x .number) .second;
+      turned = differ (node (x .table) (x .number) .complement) (x .turned);
+    })) (and-l (passes i x) (allPass i xs) e)) (pass-second i xs (and-r (passes i x) (allPass i xs) e))
+
+-- nothing differs from itself
+differ-same : (b : Bool) → differ b b ≡ false
+differ-same true = refl
+differ-same false = refl
+
+-- inputs decide what they show
+shows-once : (xs : List Source) (m i : ℕ) (gs hs : List (ℕ → Bool)) → ShowsAll xs m i gs → ShowsAll xs m i hs
+    → (w : ℕ) → w < 2 ^ m → decisionsAt gs w ≡ decisionsAt hs w
+shows-once [] m i [] [] h k w l = refl
+shows-once [] m i [] (b ∷ hs) h k w l = absurd k
+shows-once [] m i (a ∷ gs) hs h k w l = absurd h
+shows-once (x ∷ xs) m i [] hs h k w l = absurd h
+shows-once (x ∷ xs) m i (a ∷ gs) [] h k w l = absurd k
+shows-once (x ∷ xs) m i (a ∷ gs) (b ∷ hs) h k w l =
+    ap₂ _∷_ (decided-same (a w) (b w) (sym (h .0 w l) ∙ k .0 w l)) (shows-once xs m i gs hs (h .1) (k .1) w l)
+
+-- so the words of the second half are those of the first
+pass-alike : (op : List Bool → Bool) (d i at : ℕ) (xs : List Source) (gs : List (ℕ → Bool)) (f : ℕ → Bool) → allPass i xs ≡ true
+    → ShowsAll xs (suc d) i gs → ((w : ℕ) → w < 2 ^ suc d → f (at + w) ≡ op (decisionsAt gs w))
+    → (j : ℕ) → j < 2 ^ d → f (at + 2 ^ d + j) ≡ f (at + j)
+pass-alike op d i at xs gs f e sh mk j l =
+    let z : at + 2 ^ d + j ≡ at + (2 ^ d + j) = omega arith in
+    ap f z ∙ mk (2 ^ d + j) (omega (arith, l)) ∙ ap op (from-at (2 ^ d) gs j
+    ∙ shows-once xs d (i + 1) (decisionsFrom (2 ^ d) gs) gs
+    (subst (λ (ys : List Source). ShowsAll ys d (i + 1) (decisionsFrom (2 ^ d) gs)) (pass-second i xs e) (all-second xs d i gs sh))
+    (subst (λ (ys : List Source). ShowsAll ys d (i + 1) gs) (pass-first i xs e) (all-first xs d i gs sh)) j l)
+    ∙ sym (mk j (omega (arith, l)))
 
 -- ---- What the constants fix ------------------------------------------------------------------
 
@@ -378,12 +426,51 @@ apply-step op n size d i o real deep small few half at m T p w xs gs f t out pen
         ap₂ differ (first .after g .came .complement)
         (sym (first-made op d (i + 1) (at + 2 ^ d) zs (decisionsFrom (2 ^ d) gs) f shown₂ made₂))
 
-    second : a .pen .full ≡ false → Second turned (b turned (i + 1))
-    second g = subst⁻¹ (λ (u : Bool). Second u (b u (i + 1))) (same g) (walked g)
+    -- the first half's number again
+    rep : Bool → Walked
+    rep u =
+        kept (numberHalf (a .half .number) (a .half .stamp) (a .half .skipped) (op (turns zs)) false) (a .table) (a .output)
+        (mid u .bytes) (a .pen)
+
+    -- what the second half begins with, and what the first does
+    begins₂ : f (at + 2 ^ d) ≡ op (turns zs)
+    begins₂ = first-made op d (i + 1) (at + 2 ^ d) zs (decisionsFrom (2 ^ d) gs) f shown₂ made₂
+
+    begins₁ : x .complement ≡ f at
+    begins₁ =
+        ap (λ (y : Went). y .complement) (online-went n size d (suc i) at (p ++ (opener ∷ [])) f s (st .sound) (st .normal)
+        (omega arith) (omega (arith, deep))) ∙ part-complement size d (suc i) at f s
+
+    -- if it repeats the first
+    repeated : a .pen .full ≡ false → againPart i xs (a .half) ≡ true → Second turn (rep turn)
+    repeated g e =
+        let some = not (eqb (a .half .number) 0) in
+        let alike = pass-alike op d i at xs gs f (and-r some (allPass i xs) e) sh mk in
+        let z : at + 2 ^ d + 0 ≡ at + 2 ^ d = omega arith in
+        let v : at + 0 ≡ at = omega arith in
+        let plain : turn ≡ false =
+        ap₂ differ begins₁ (ap f (sym z) ∙ alike 0 (pow-pos d) ∙ ap f v) ∙ differ-same (f at) in
+        subst (λ (c : Bool). Second turn (kept (numberHalf (a .half .number) (a .half .stamp) (a .half .skipped) c false) (a .table)
+        (a .output) (mid turn .bytes) (a .pen))) begins₂
+        (repeat-leads n size d (suc i) at (at + 2 ^ d) (mid turn .count) o (T ++ x .sent) (p ++ (opener ∷ [])) p₂ (mid turn .bytes) f
+        (a .table) (a .output) (a .pen) s (a .half) (st .sound) (st .normal) (omega arith) (omega (arith, deep))
+        (first .after g .came) (eqb-false (a .half .number) 0 (not-true (eqb (a .half .number) 0) (and-l some (allPass i xs) e)))
+        (subst⁻¹ (λ (u : Bool). (j : ℕ) → j < 2 ^ d → f (at + 2 ^ d + j) ≡ differ u (f (at + j))) plain alike)
+        (first .after g .stands) (before g .text))
+
+    -- by either way
+    second : (again : Bool) → againPart i xs (a .half) ≡ again → a .pen .full ≡ false
+        → Second turned (cond again (rep turned) (b turned (i + 1)))
+    second true e g = subst⁻¹ (λ (u : Bool). Second u (rep u)) (same g) (repeated g e)
+    second false e g = subst⁻¹ (λ (u : Bool). Second u (b u (i + 1))) (same g) (walked g)
+
+    -- the second half
+    latter : Walked
+    latter = cond (againPart i xs (a .half)) (rep turned) (b turned (i + 1))
 
     go : (c : Bool) → fixed op xs ≡ c
         → Leads n size i m o T p w (cond c (kept (constantHalf (op (turns xs))) t out w pen)
-        (cond (a .pen .full) a (secondIn size i (mid turned .count) turned (a .half) (b turned (i + 1)))))
+        (cond (a .pen .full) a (secondIn size i (mid turned .count) turned (a .half) latter)))
         (online size (suc d) i at p f s)
     go true e =
         block-leads n size (suc d) i at m o T p w f t out pen s (op (turns xs)) real deep st here
@@ -392,8 +479,8 @@ apply-step op n size d i o real deep small few half at m T p w xs gs f t out pen
         let h : j - at < 2 ^ suc d = omega (arith, l, k) in
         ap f (sym z) ∙ mk (j - at) h ∙ all-fixed op xs (suc d) i gs e sh (j - at) h)
     go false e =
-        halves-lead n size d i at m o T p w f s (st .sound) (st .normal) real deep small here long few young a (b turned (i + 1))
-        turned first same second
+        halves-lead n size d i at m o T p w f s (st .sound) (st .normal) real deep small here long few young a latter turned first
+        same (second (againPart i xs (a .half)) refl)
 
 -- each part
 applies : (op : List Bool → Bool) (n size d i : ℕ) (o : List ℕ) → 0 < i → i + d ≡ suc n → n ≤ 32 → size ≤ tableLimit
@@ -434,9 +521,17 @@ module _ (op : List Bool → Bool) (size d i m : ℕ) (xs : List Source) (t : Li
   abbrev firstFrom : List Source → Waiting → Walked
   firstFrom ys p = applyIn op size d (i + 1) (p .count) ys t out (p .bytes) pen
 
-  -- the second half after the first, a, and the bytes r; zs: the inputs there, x: the pen after the first
-  abbrev secondFrom : List Source → Walked → Pen → Waiting → Walked
-  secondFrom zs a x r = applyIn op size d (i + 1) (r .count) zs (a .table) (a .output) (r .bytes) x
+  -- the second half after the first, a, and the bytes r, if it is walked; zs: the inputs there, x: the pen after the first
+  abbrev walkedFrom : List Source → Walked → Pen → Waiting → Walked
+  walkedFrom zs a x r = applyIn op size d (i + 1) (r .count) zs (a .table) (a .output) (r .bytes) x
+
+  -- if it is the number of the first again; c: what its first word comes to
+  abbrev againFrom : Bool → Walked → Half → Pen → Waiting → Walked
+  againFrom c a g x r = kept (numberHalf (g .number) (g .stamp) (g .skipped) c false) (a .table) (a .output) (r .bytes) x
+
+  -- by either way
+  abbrev secondFrom : List Source → Walked → Half → Pen → Waiting → Walked
+  secondFrom zs a g x r = cond (againPart i xs g) (againFrom (op (turns zs)) a g x r) (walkedFrom zs a x r)
 
   -- what waits of the first half, which had p before it and came to g
   abbrev waitOf : Waiting → Walked → Half → Waiting
@@ -444,7 +539,7 @@ module _ (op : List Bool → Bool) (size d i m : ℕ) (xs : List Source) (t : Li
 
   -- both, with the `~` u and the bytes r between them
   abbrev both : List Source → Walked → Half → Pen → Bool → Waiting → Walked
-  both zs a g x u r = secondIn size i (r .count) u g (secondFrom zs a x r)
+  both zs a g x u r = secondIn size i (r .count) u g (secondFrom zs a g x r)
 
   -- from the first half on, with what the second begins with
   abbrev started : List Source → Waiting → Walked → Half → Walked
@@ -489,19 +584,32 @@ module _ (op : List Bool → Bool) (size d i m : ℕ) (xs : List Source) (t : Li
 
     -- g: what the first half came to, x: the pen after it, zs: the inputs at the second half, c: what its first word comes to,
     -- u: the `~` between the halves
-    pub apply-on : (g : Half) (x : Pen) (zs : List Source) (c u : Bool) (q r : Waiting) (b : Walked) → g ≡ a .half → x ≡ a .pen
-        → x .full ≡ false → zs ≡ secondSources i xs → c ≡ op (turns zs) → u ≡ differ (g .complement) c
-        → q ≡ waitIn (a .waits) (p .count) (g .wrote) (g .skipped) (g .number)
-        → r ≡ pushAll (q .bytes) (q .count) (tildeIf u)
-        → b ≡ applyIn op size d (i + 1) (r .count) zs (a .table) (a .output) (r .bytes) x
-        → secondIn size i (r .count) u g b ≡ whole e
-    apply-on g x zs c u q r b came left goes gone first turned waited ready s =
-        ap (secondIn size i (r .count) u g) s
-        ∙ ap (λ (x : Pen). both zs a g x u r) left
-        ∙ ap (both zs a g (a .pen) u) ready
-        ∙ ap₂ (λ (u : Bool) (q : Waiting). both zs a g (a .pen) u (pushAll (q .bytes) (q .count) (tildeIf u)))
-        (turned ∙ ap (differ (g .complement)) first) waited
-        ∙ ap₂ (λ (zs : List Source) (g : Half). started zs p a g) gone came
-        ∙ ap (λ (b : Bool). cond b a (started (secondSources i xs) p a (a .half)))
-        (sym (sym (ap (λ (x : Pen). x .full) left) ∙ goes))
-        ∙ onward
+    module _ (g : Half) (x : Pen) (zs : List Source) (c u : Bool) (q r : Waiting) (b : Walked) (came : g ≡ a .half) (left : x ≡ a .pen)
+        (goes : x .full ≡ false) (gone : zs ≡ secondSources i xs) (first : c ≡ op (turns zs)) (turned : u ≡ differ (g .complement) c)
+        (waited : q ≡ waitIn (a .waits) (p .count) (g .wrote) (g .skipped) (g .number))
+        (ready : r ≡ pushAll (q .bytes) (q .count) (tildeIf u)) where
+      apply-both : b ≡ secondFrom zs a g x r → secondIn size i (r .count) u g b ≡ whole e
+      apply-both s =
+          ap (secondIn size i (r .count) u g) s
+          ∙ ap (λ (x : Pen). both zs a g x u r) left
+          ∙ ap (both zs a g (a .pen) u) ready
+          ∙ ap₂ (λ (u : Bool) (q : Waiting). both zs a g (a .pen) u (pushAll (q .bytes) (q .count) (tildeIf u)))
+          (turned ∙ ap (differ (g .complement)) first) waited
+          ∙ ap₂ (λ (zs : List Source) (g : Half). started zs p a g) gone came
+          ∙ ap (λ (b : Bool). cond b a (started (secondSources i xs) p a (a .half)))
+          (sym (sym (ap (λ (x : Pen). x .full) left) ∙ goes))
+          ∙ onward
+
+      -- the second half is walked
+      pub apply-on : againPart i xs g ≡ false
+          → b ≡ applyIn op size d (i + 1) (r .count) zs (a .table) (a .output) (r .bytes) x
+          → secondIn size i (r .count) u g b ≡ whole e
+      apply-on f s = apply-both (s ∙ ap (λ (t : Bool). cond t (againFrom (op (turns zs)) a g x r) (walkedFrom zs a x r)) (sym f))
+
+      -- it is like the first, which came to a number
+      pub apply-again : againPart i xs g ≡ true
+          → b ≡ kept (numberHalf (g .number) (g .stamp) (g .skipped) c false) (a .table) (a .output) (r .bytes) x
+          → secondIn size i (r .count) u g b ≡ whole e
+      apply-again f s =
+          apply-both (s ∙ ap (λ (c : Bool). againFrom c a g x r) first
+          ∙ ap (λ (t : Bool). cond t (againFrom (op (turns zs)) a g x r) (walkedFrom zs a x r)) (sym f))

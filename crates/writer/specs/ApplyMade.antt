@@ -9,9 +9,9 @@ use Rattle.reading.specs.Bytes.{opener}
 use Rattle.writing.specs.Texts.{tildeIf}
 use Rattle.writing.specs.Run.{operate}
 use Rattle.engine.specs.Pending.{Waiting, pushAll, waitIn}
-use Rattle.engine.specs.Engine.{Half, Pen, Walked, secondIn}
-use Rattle.engine.specs.Applying.{Source, firstSource, secondSource, fixed, applyIn}
-use Rattle.engine.specs.ApplyLaws.{apply-full, apply-on}
+use Rattle.engine.specs.Engine.{Half, Pen, Walked, numberHalf, kept, secondIn}
+use Rattle.engine.specs.Applying.{Source, firstSource, secondSource, againPart, fixed, applyIn}
+use Rattle.engine.specs.ApplyLaws.{apply-full, apply-on, apply-again}
 use Rattle.writer.specs.Cite.{edgeIn}
 use Rattle.writer.specs.declared.Edge.{Edge}
 
@@ -41,26 +41,44 @@ module _ (op size d i m : ℕ) (x y : Edge) (t₁ t₂ t : List (List ℕ)) (out
   pair-full =
       apply-full (operate op) size d i m (pair x t₁ y t₂) t out w pen e n h (pair x₁ u₁ y₁ u₂) p a went pushed walked
 
-  -- v₁, v₂: the tables after the first half, w₁, w₂: after the second half's edges, x₂ and y₂, are found
-  pub pair-on : (g : Half) (z : Pen) (x₂ y₂ : Edge) (v₁ v₂ w₁ w₂ : List (List ℕ)) (c u : Bool) (q r : Waiting) (b : Walked)
-      → g ≡ a .half → z ≡ a .pen → z .full ≡ false → v₁ ≡ u₁ → v₂ ≡ u₂
-      → edgeIn x₂ v₁ ≡ secondSource i (edgeIn x v₁) → w₁ ≡ v₁ → edgeIn y₂ v₂ ≡ secondSource i (edgeIn y v₂) → w₂ ≡ v₂
-      → c ≡ operate op (x₂ .turned ∷ y₂ .turned ∷ []) → u ≡ differ (g .complement) c
-      → q ≡ waitIn (a .waits) (p .count) (g .wrote) (g .skipped) (g .number)
-      → r ≡ pushAll (q .bytes) (q .count) (tildeIf u)
-      → b ≡ applyIn (operate op) size d (i + 1) (r .count) (pair x₂ w₁ y₂ w₂) (a .table) (a .output) (r .bytes) z
-      → secondIn size i (r .count) u g b ≡ applyIn (operate op) size e i m (pair x t₁ y t₂) t out w pen
-  pair-on g z x₂ y₂ v₁ v₂ w₁ w₂ c u q r b came left goes kept₁ kept₂ second₁ still₁ second₂ still₂ first turned waited ready s =
-      apply-on (operate op) size d i m (pair x t₁ y t₂) t out w pen e n h (pair x₁ u₁ y₁ u₂) p a went pushed walked g z
-      (pair x₂ w₁ y₂ w₂) c u q r b came left goes gone first turned waited ready s
-    where
-      -- in the table that the part began with
-      there : (x x₂ : Edge) (t u v w : List (List ℕ)) → u ≡ t → v ≡ u → edgeIn x₂ v ≡ secondSource i (edgeIn x v) → w ≡ v
-          → edgeIn x₂ w ≡ secondSource i (edgeIn x t)
-      there x x₂ t u v w same kept e still =
-          ap (edgeIn x₂) still ∙ e ∙ ap (λ (v : List (List ℕ)). secondSource i (edgeIn x v)) (kept ∙ same)
+  -- g, z: what the first half came to, and the pen after it; s₁, s₂: the tables then; again: as code tests it; v₁, v₂: the tables after
+  -- that, w₁, w₂: after the second half's edges, x₂ and y₂, are found
+  module _ (g : Half) (z : Pen) (s₁ s₂ : List (List ℕ)) (again : Bool) (x₂ y₂ : Edge) (v₁ v₂ w₁ w₂ : List (List ℕ)) (c u : Bool)
+      (q r : Waiting) (b : Walked) (came : g ≡ a .half) (left : z ≡ a .pen) (goes : z .full ≡ false) (still₁ : s₁ ≡ u₁)
+      (still₂ : s₂ ≡ u₂) (tested : again ≡ againPart i (pair x s₁ y s₂) g) (kept₁ : v₁ ≡ s₁) (kept₂ : v₂ ≡ s₂)
+      (second₁ : edgeIn x₂ v₁ ≡ secondSource i (edgeIn x v₁)) (held₁ : w₁ ≡ v₁)
+      (second₂ : edgeIn y₂ v₂ ≡ secondSource i (edgeIn y v₂)) (held₂ : w₂ ≡ v₂)
+      (first : c ≡ operate op (x₂ .turned ∷ y₂ .turned ∷ [])) (turned : u ≡ differ (g .complement) c)
+      (waited : q ≡ waitIn (a .waits) (p .count) (g .wrote) (g .skipped) (g .number))
+      (ready : r ≡ pushAll (q .bytes) (q .count) (tildeIf u)) where
+    -- in the table that the part began with
+    there : (x x₂ : Edge) (t u s v w : List (List ℕ)) → u ≡ t → s ≡ u → v ≡ s → edgeIn x₂ v ≡ secondSource i (edgeIn x v) → w ≡ v
+        → edgeIn x₂ w ≡ secondSource i (edgeIn x t)
+    there x x₂ t u s v w same still kept e held =
+        ap (edgeIn x₂) held ∙ e ∙ ap (λ (v : List (List ℕ)). secondSource i (edgeIn x v)) (kept ∙ still ∙ same)
 
-      gone : pair x₂ w₁ y₂ w₂ ≡ secondSource i (edgeIn x t₁) ∷ secondSource i (edgeIn y t₂) ∷ []
-      gone =
-          ap₂ (λ (a b : Source). a ∷ b ∷ []) (there x x₂ t₁ u₁ v₁ w₁ same₁ kept₁ second₁ still₁)
-          (there y y₂ t₂ u₂ v₂ w₂ same₂ kept₂ second₂ still₂)
+    gone : pair x₂ w₁ y₂ w₂ ≡ secondSource i (edgeIn x t₁) ∷ secondSource i (edgeIn y t₂) ∷ []
+    gone =
+        ap₂ (λ (a b : Source). a ∷ b ∷ []) (there x x₂ t₁ u₁ s₁ v₁ w₁ same₁ still₁ kept₁ second₁ held₁)
+        (there y y₂ t₂ u₂ s₂ v₂ w₂ same₂ still₂ kept₂ second₂ held₂)
+
+    test : again ≡ againPart i (pair x t₁ y t₂) g
+    test =
+        tested
+        ∙ ap₂ (λ (t u : List (List ℕ)). againPart i (pair x t y u) g) (still₁ ∙ same₁) (still₂ ∙ same₂)
+
+    -- the second half is walked
+    pub pair-on : again ≡ false
+        → b ≡ applyIn (operate op) size d (i + 1) (r .count) (pair x₂ w₁ y₂ w₂) (a .table) (a .output) (r .bytes) z
+        → secondIn size i (r .count) u g b ≡ applyIn (operate op) size e i m (pair x t₁ y t₂) t out w pen
+    pair-on f s =
+        apply-on (operate op) size d i m (pair x t₁ y t₂) t out w pen e n h (pair x₁ u₁ y₁ u₂) p a went pushed walked g z
+        (pair x₂ w₁ y₂ w₂) c u q r b came left goes gone first turned waited ready (sym test ∙ f) s
+
+    -- it is the number of the first again
+    pub pair-again : again ≡ true
+        → b ≡ kept (numberHalf (g .number) (g .stamp) (g .skipped) c false) (a .table) (a .output) (r .bytes) z
+        → secondIn size i (r .count) u g b ≡ applyIn (operate op) size e i m (pair x t₁ y t₂) t out w pen
+    pair-again f s =
+        apply-again (operate op) size d i m (pair x t₁ y t₂) t out w pen e n h (pair x₁ u₁ y₁ u₂) p a went pushed walked g z
+        (pair x₂ w₁ y₂ w₂) c u q r b came left goes gone first turned waited ready (sym test ∙ f) s

@@ -17,7 +17,7 @@ ghost use Rattle.engine.specs.Cells.{cell, putCell};
 ghost use Rattle.engine.specs.Recycling.{oneMore, leaveIn, joinIn, freeOf, bucketOf, fitsAt, searchIn, findIn, shelveIn, unshelveIn, moreIn, fewerIn, orphanIn, orphansIn, releaseIn, adoptIn, noteIn, placeIn, storeIn, nextIn};
 ghost use Rattle.engine.specs.Pending.{pushAll, waitIn, closeIn};
 ghost use Rattle.engine.specs.Engine.{isStale, alikeConstant, alikeNumber, barredHalf, spaced, sendNode, writeTemporary, giveIn, knownIn, meetIn, sendText, sameBytes, allBytes, alikeBytes, againHalf, secondIn, walkIn, doneIn, bodyIn, streamIn};
-ghost use Rattle.engine.specs.Applying.{firstSource, secondSource, fixed, applyIn};
+ghost use Rattle.engine.specs.Applying.{passes, firstSource, secondSource, againPart, fixed, applyIn};
 ghost use Rattle.engine.specs.Taping.{settle, firstFeed, secondFeed, textIn};
 ghost use Rattle.engine.specs.Joining.{finishIn, nodesIn, combineIn};
 ghost use Rattle.combining.specs.Tapes.{deepOf, sourceOf, nextTape, begunFeed};
@@ -1105,6 +1105,27 @@ fn is_fixed(op: u32, x: Edge, y: Edge) -> bool
     )
 }
 
+// The edge is the same at both halves of a part of level i.
+fn passes(t: &mut [[u32; 6]], i: u32, x: Edge) -> bool
+    ensures { λ r. ⌜ (r ≡ passes i (edgeIn x (now (t .entry)))) × (now (t .exit) ≡ now (t .entry)) ⌝ }
+{
+    let r = row_at(t, x.size, x.number);
+    is_passed(i, x.number, r)
+}
+
+// The first half came to a number (h), and both edges are the same at the second.
+fn is_same(t1: &mut [[u32; 6]], t2: &mut [[u32; 6]], i: u32, x: Edge, y: Edge, h: Half) -> bool
+    ensures { λ r. ⌜ (r ≡ againPart i (edgeIn x (now (t1 .entry)) ∷ edgeIn y (now (t2 .entry)) ∷ []) (halfOf h)) × ((now (t1 .exit) ≡ now (t1 .entry)) × (now (t2 .exit) ≡ now (t2 .entry))) ⌝ }
+{
+    if h.number == 0 {
+        return false;
+    }
+    if !passes(t1, i, x) {
+        return false;
+    }
+    passes(t2, i, y)
+}
+
 // The part of level i with d options left, m bytes waiting before it; x and y: the inputs there, in the tables t1 and t2.
 fn apply(
     op: u32,
@@ -1141,12 +1162,17 @@ fn apply(
         return a;
     }
     let h = half_of(a);
+    let again = is_same(t1, t2, i, x, y, h);
     let x2 = second_edge(t1, i, x);
     let y2 = second_edge(t2, i, y);
     let s = operate(op, x2.turned, y2.turned);
     let u = differs(h.complement, s);
     let q = wait(w, p, h.wrote, h.skipped, h.number);
     let r = push_turn(w, q, u);
+    if again {
+        let b = kept(numbered(h.number, h.stamp, h.skipped, s, false), z);
+        return second(size, i, r, u, h, b, t, out, w);
+    }
     let b = apply(op, size, e, j, r, x2, y2, t1, t2, t, out, w, z);
     second(size, i, r, u, h, b, t, out, w)
 }

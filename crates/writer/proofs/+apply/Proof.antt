@@ -12,7 +12,9 @@ use Rattle.writer.proofs.differs.Reads as differs-reads
 use Rattle.writer.proofs.first_edge.Reads as first-edge-reads
 use Rattle.writer.proofs.half_of.Reads as half-of-reads
 use Rattle.writer.proofs.is_fixed.Reads as is-fixed-reads
+use Rattle.writer.proofs.is_same.Reads as is-same-reads
 use Rattle.writer.proofs.kept.Reads as kept-reads
+use Rattle.writer.proofs.numbered.Reads as numbered-reads
 use Rattle.writer.proofs.operate.Reads as operate-reads
 use Rattle.writer.proofs.pen_of.Reads as pen-of-reads
 use Rattle.writer.proofs.push.Reads as push-reads
@@ -27,8 +29,8 @@ use native.Mathlib.Omega.{arith}
 use Prim.Native.Nat.{suc, _+_, _-_, _≤_}
 use Rattle.writing.specs.Run.{operate}
 use Rattle.engine.specs.ApplyLaws.{apply-word, apply-constant}
-use Rattle.writer.specs.Cite.{halfOf, penOf, kept-as}
-use Rattle.writer.specs.ApplyMade.{pair, pair-full, pair-on}
+use Rattle.writer.specs.Cite.{halfOf, penOf, kept-as, again-as}
+use Rattle.writer.specs.ApplyMade.{pair, pair-full, pair-on, pair-again}
 use Prim.Native.Nat.{_<_}
 
 abbrev μ-apply : Measures 5 apply-kinds.ps ℕ
@@ -59,6 +61,8 @@ apply-operate-requires : (t : ℕ) → apply-lts.Need-operate-requires (
   pen-of-reads.Learnt,
   half-of-reads.Asked,
   half-of-reads.Learnt,
+  is-same-reads.Asked,
+  is-same-reads.Learnt,
   second-edge-reads.Asked,
   second-edge-reads.Learnt,
   differs-reads.Asked,
@@ -67,6 +71,8 @@ apply-operate-requires : (t : ℕ) → apply-lts.Need-operate-requires (
   wait-reads.Learnt,
   push-turn-reads.Asked,
   push-turn-reads.Learnt,
+  numbered-reads.Asked,
+  numbered-reads.Learnt,
   second-reads.Asked,
   second-reads.Learnt,
 ) (apply-at t) apply.Post
@@ -91,6 +97,8 @@ apply-constant-requires : (t : ℕ) → apply-lts.Need-constant-requires (
   pen-of-reads.Learnt,
   half-of-reads.Asked,
   half-of-reads.Learnt,
+  is-same-reads.Asked,
+  is-same-reads.Learnt,
   second-edge-reads.Asked,
   second-edge-reads.Learnt,
   differs-reads.Asked,
@@ -99,6 +107,8 @@ apply-constant-requires : (t : ℕ) → apply-lts.Need-constant-requires (
   wait-reads.Learnt,
   push-turn-reads.Asked,
   push-turn-reads.Learnt,
+  numbered-reads.Asked,
+  numbered-reads.Learnt,
   second-reads.Asked,
   second-reads.Learnt,
 ) (apply-at t) apply.Post
@@ -123,6 +133,8 @@ apply-kept-requires : (t : ℕ) → apply-lts.Need-kept-requires (
   pen-of-reads.Learnt,
   half-of-reads.Asked,
   half-of-reads.Learnt,
+  is-same-reads.Asked,
+  is-same-reads.Learnt,
   second-edge-reads.Asked,
   second-edge-reads.Learnt,
   differs-reads.Asked,
@@ -131,6 +143,8 @@ apply-kept-requires : (t : ℕ) → apply-lts.Need-kept-requires (
   wait-reads.Learnt,
   push-turn-reads.Asked,
   push-turn-reads.Learnt,
+  numbered-reads.Asked,
+  numbered-reads.Learnt,
   second-reads.Asked,
   second-reads.Learnt,
 ) (apply-at t) apply.Post
@@ -155,6 +169,8 @@ apply-returns : (t : ℕ) → apply-lts.Need-returns (
   pen-of-reads.Learnt,
   half-of-reads.Asked,
   half-of-reads.Learnt,
+  is-same-reads.Asked,
+  is-same-reads.Learnt,
   second-edge-reads.Asked,
   second-edge-reads.Learnt,
   differs-reads.Asked,
@@ -163,6 +179,8 @@ apply-returns : (t : ℕ) → apply-lts.Need-returns (
   wait-reads.Learnt,
   push-turn-reads.Asked,
   push-turn-reads.Learnt,
+  numbered-reads.Asked,
+  numbered-reads.Learnt,
   second-reads.Asked,
   second-reads.Learnt,
 ) (apply-at t) apply.Post
@@ -191,6 +209,8 @@ apply-is-fixed-requires : (t : ℕ) → apply-lts.Need-is-fixed-requires (
   pen-of-reads.Learnt,
   half-of-reads.Asked,
   half-of-reads.Learnt,
+  is-same-reads.Asked,
+  is-same-reads.Learnt,
   second-edge-reads.Asked,
   second-edge-reads.Learnt,
   differs-reads.Asked,
@@ -199,6 +219,8 @@ apply-is-fixed-requires : (t : ℕ) → apply-lts.Need-is-fixed-requires (
   wait-reads.Learnt,
   push-turn-reads.Asked,
   push-turn-reads.Learnt,
+  numbered-reads.Asked,
+  numbered-reads.Learnt,
   second-reads.Asked,
   second-reads.Learnt,
 ) (apply-at t) apply.Post
@@ -223,6 +245,8 @@ apply-operate-requires-2 : (t : ℕ) → apply-lts.Need-operate-requires-2 (
   pen-of-reads.Learnt,
   half-of-reads.Asked,
   half-of-reads.Learnt,
+  is-same-reads.Asked,
+  is-same-reads.Learnt,
   second-edge-reads.Asked,
   second-edge-reads.Learnt,
   differs-reads.Asked,
@@ -231,6 +255,8 @@ apply-operate-requires-2 : (t : ℕ) → apply-lts.Need-operate-requires-2 (
   wait-reads.Learnt,
   push-turn-reads.Asked,
   push-turn-reads.Learnt,
+  numbered-reads.Asked,
+  numbered-reads.Learnt,
   second-reads.Asked,
   second-reads.Learnt,
 ) (apply-at t) apply.Post
@@ -255,6 +281,8 @@ apply-constant-requires-2 : (t : ℕ) → apply-lts.Need-constant-requires-2 (
   pen-of-reads.Learnt,
   half-of-reads.Asked,
   half-of-reads.Learnt,
+  is-same-reads.Asked,
+  is-same-reads.Learnt,
   second-edge-reads.Asked,
   second-edge-reads.Learnt,
   differs-reads.Asked,
@@ -263,6 +291,8 @@ apply-constant-requires-2 : (t : ℕ) → apply-lts.Need-constant-requires-2 (
   wait-reads.Learnt,
   push-turn-reads.Asked,
   push-turn-reads.Learnt,
+  numbered-reads.Asked,
+  numbered-reads.Learnt,
   second-reads.Asked,
   second-reads.Learnt,
 ) (apply-at t) apply.Post
@@ -287,6 +317,8 @@ apply-kept-requires-2 : (t : ℕ) → apply-lts.Need-kept-requires-2 (
   pen-of-reads.Learnt,
   half-of-reads.Asked,
   half-of-reads.Learnt,
+  is-same-reads.Asked,
+  is-same-reads.Learnt,
   second-edge-reads.Asked,
   second-edge-reads.Learnt,
   differs-reads.Asked,
@@ -295,6 +327,8 @@ apply-kept-requires-2 : (t : ℕ) → apply-lts.Need-kept-requires-2 (
   wait-reads.Learnt,
   push-turn-reads.Asked,
   push-turn-reads.Learnt,
+  numbered-reads.Asked,
+  numbered-reads.Learnt,
   second-reads.Asked,
   second-reads.Learnt,
 ) (apply-at t) apply.Post
@@ -319,6 +353,8 @@ apply-returns-2 : (t : ℕ) → apply-lts.Need-returns-2 (
   pen-of-reads.Learnt,
   half-of-reads.Asked,
   half-of-reads.Learnt,
+  is-same-reads.Asked,
+  is-same-reads.Learnt,
   second-edge-reads.Asked,
   second-edge-reads.Learnt,
   differs-reads.Asked,
@@ -327,6 +363,8 @@ apply-returns-2 : (t : ℕ) → apply-lts.Need-returns-2 (
   wait-reads.Learnt,
   push-turn-reads.Asked,
   push-turn-reads.Learnt,
+  numbered-reads.Asked,
+  numbered-reads.Learnt,
   second-reads.Asked,
   second-reads.Learnt,
 ) (apply-at t) apply.Post
@@ -356,6 +394,8 @@ apply-sub-e : (t : ℕ) → apply-lts.Need-sub-e (
   pen-of-reads.Learnt,
   half-of-reads.Asked,
   half-of-reads.Learnt,
+  is-same-reads.Asked,
+  is-same-reads.Learnt,
   second-edge-reads.Asked,
   second-edge-reads.Learnt,
   differs-reads.Asked,
@@ -364,6 +404,8 @@ apply-sub-e : (t : ℕ) → apply-lts.Need-sub-e (
   wait-reads.Learnt,
   push-turn-reads.Asked,
   push-turn-reads.Learnt,
+  numbered-reads.Asked,
+  numbered-reads.Learnt,
   second-reads.Asked,
   second-reads.Learnt,
 ) (apply-at t) apply.Post
@@ -388,6 +430,8 @@ apply-add-j : (t : ℕ) → apply-lts.Need-add-j (
   pen-of-reads.Learnt,
   half-of-reads.Asked,
   half-of-reads.Learnt,
+  is-same-reads.Asked,
+  is-same-reads.Learnt,
   second-edge-reads.Asked,
   second-edge-reads.Learnt,
   differs-reads.Asked,
@@ -396,6 +440,8 @@ apply-add-j : (t : ℕ) → apply-lts.Need-add-j (
   wait-reads.Learnt,
   push-turn-reads.Asked,
   push-turn-reads.Learnt,
+  numbered-reads.Asked,
+  numbered-reads.Learnt,
   second-reads.Asked,
   second-reads.Learnt,
 ) (apply-at t) apply.Post
@@ -420,6 +466,8 @@ apply-push-requires : (t : ℕ) → apply-lts.Need-push-requires (
   pen-of-reads.Learnt,
   half-of-reads.Asked,
   half-of-reads.Learnt,
+  is-same-reads.Asked,
+  is-same-reads.Learnt,
   second-edge-reads.Asked,
   second-edge-reads.Learnt,
   differs-reads.Asked,
@@ -428,6 +476,8 @@ apply-push-requires : (t : ℕ) → apply-lts.Need-push-requires (
   wait-reads.Learnt,
   push-turn-reads.Asked,
   push-turn-reads.Learnt,
+  numbered-reads.Asked,
+  numbered-reads.Learnt,
   second-reads.Asked,
   second-reads.Learnt,
 ) (apply-at t) apply.Post
@@ -452,6 +502,8 @@ apply-first-edge-requires : (t : ℕ) → apply-lts.Need-first-edge-requires (
   pen-of-reads.Learnt,
   half-of-reads.Asked,
   half-of-reads.Learnt,
+  is-same-reads.Asked,
+  is-same-reads.Learnt,
   second-edge-reads.Asked,
   second-edge-reads.Learnt,
   differs-reads.Asked,
@@ -460,6 +512,8 @@ apply-first-edge-requires : (t : ℕ) → apply-lts.Need-first-edge-requires (
   wait-reads.Learnt,
   push-turn-reads.Asked,
   push-turn-reads.Learnt,
+  numbered-reads.Asked,
+  numbered-reads.Learnt,
   second-reads.Asked,
   second-reads.Learnt,
 ) (apply-at t) apply.Post
@@ -484,6 +538,8 @@ apply-first-edge-requires-2 : (t : ℕ) → apply-lts.Need-first-edge-requires-2
   pen-of-reads.Learnt,
   half-of-reads.Asked,
   half-of-reads.Learnt,
+  is-same-reads.Asked,
+  is-same-reads.Learnt,
   second-edge-reads.Asked,
   second-edge-reads.Learnt,
   differs-reads.Asked,
@@ -492,6 +548,8 @@ apply-first-edge-requires-2 : (t : ℕ) → apply-lts.Need-first-edge-requires-2
   wait-reads.Learnt,
   push-turn-reads.Asked,
   push-turn-reads.Learnt,
+  numbered-reads.Asked,
+  numbered-reads.Learnt,
   second-reads.Asked,
   second-reads.Learnt,
 ) (apply-at t) apply.Post
@@ -516,6 +574,8 @@ apply-apply-requires : (t : ℕ) → apply-lts.Need-apply-requires (
   pen-of-reads.Learnt,
   half-of-reads.Asked,
   half-of-reads.Learnt,
+  is-same-reads.Asked,
+  is-same-reads.Learnt,
   second-edge-reads.Asked,
   second-edge-reads.Learnt,
   differs-reads.Asked,
@@ -524,6 +584,8 @@ apply-apply-requires : (t : ℕ) → apply-lts.Need-apply-requires (
   wait-reads.Learnt,
   push-turn-reads.Asked,
   push-turn-reads.Learnt,
+  numbered-reads.Asked,
+  numbered-reads.Learnt,
   second-reads.Asked,
   second-reads.Learnt,
 ) (apply-at t) apply.Post
@@ -548,6 +610,8 @@ apply-pen-of-requires : (t : ℕ) → apply-lts.Need-pen-of-requires (
   pen-of-reads.Learnt,
   half-of-reads.Asked,
   half-of-reads.Learnt,
+  is-same-reads.Asked,
+  is-same-reads.Learnt,
   second-edge-reads.Asked,
   second-edge-reads.Learnt,
   differs-reads.Asked,
@@ -556,6 +620,8 @@ apply-pen-of-requires : (t : ℕ) → apply-lts.Need-pen-of-requires (
   wait-reads.Learnt,
   push-turn-reads.Asked,
   push-turn-reads.Learnt,
+  numbered-reads.Asked,
+  numbered-reads.Learnt,
   second-reads.Asked,
   second-reads.Learnt,
 ) (apply-at t) apply.Post
@@ -580,6 +646,8 @@ apply-same-length : (t : ℕ) → apply-lts.Need-same-length (
   pen-of-reads.Learnt,
   half-of-reads.Asked,
   half-of-reads.Learnt,
+  is-same-reads.Asked,
+  is-same-reads.Learnt,
   second-edge-reads.Asked,
   second-edge-reads.Learnt,
   differs-reads.Asked,
@@ -588,6 +656,8 @@ apply-same-length : (t : ℕ) → apply-lts.Need-same-length (
   wait-reads.Learnt,
   push-turn-reads.Asked,
   push-turn-reads.Learnt,
+  numbered-reads.Asked,
+  numbered-reads.Learnt,
   second-reads.Asked,
   second-reads.Learnt,
 ) (apply-at t) apply.Post
@@ -612,6 +682,8 @@ apply-same-length-2 : (t : ℕ) → apply-lts.Need-same-length-2 (
   pen-of-reads.Learnt,
   half-of-reads.Asked,
   half-of-reads.Learnt,
+  is-same-reads.Asked,
+  is-same-reads.Learnt,
   second-edge-reads.Asked,
   second-edge-reads.Learnt,
   differs-reads.Asked,
@@ -620,6 +692,8 @@ apply-same-length-2 : (t : ℕ) → apply-lts.Need-same-length-2 (
   wait-reads.Learnt,
   push-turn-reads.Asked,
   push-turn-reads.Learnt,
+  numbered-reads.Asked,
+  numbered-reads.Learnt,
   second-reads.Asked,
   second-reads.Learnt,
 ) (apply-at t) apply.Post
@@ -644,6 +718,8 @@ apply-same-length-3 : (t : ℕ) → apply-lts.Need-same-length-3 (
   pen-of-reads.Learnt,
   half-of-reads.Asked,
   half-of-reads.Learnt,
+  is-same-reads.Asked,
+  is-same-reads.Learnt,
   second-edge-reads.Asked,
   second-edge-reads.Learnt,
   differs-reads.Asked,
@@ -652,6 +728,8 @@ apply-same-length-3 : (t : ℕ) → apply-lts.Need-same-length-3 (
   wait-reads.Learnt,
   push-turn-reads.Asked,
   push-turn-reads.Learnt,
+  numbered-reads.Asked,
+  numbered-reads.Learnt,
   second-reads.Asked,
   second-reads.Learnt,
 ) (apply-at t) apply.Post
@@ -676,6 +754,8 @@ apply-same-length-4 : (t : ℕ) → apply-lts.Need-same-length-4 (
   pen-of-reads.Learnt,
   half-of-reads.Asked,
   half-of-reads.Learnt,
+  is-same-reads.Asked,
+  is-same-reads.Learnt,
   second-edge-reads.Asked,
   second-edge-reads.Learnt,
   differs-reads.Asked,
@@ -684,6 +764,8 @@ apply-same-length-4 : (t : ℕ) → apply-lts.Need-same-length-4 (
   wait-reads.Learnt,
   push-turn-reads.Asked,
   push-turn-reads.Learnt,
+  numbered-reads.Asked,
+  numbered-reads.Learnt,
   second-reads.Asked,
   second-reads.Learnt,
 ) (apply-at t) apply.Post
@@ -708,6 +790,8 @@ apply-same-length-5 : (t : ℕ) → apply-lts.Need-same-length-5 (
   pen-of-reads.Learnt,
   half-of-reads.Asked,
   half-of-reads.Learnt,
+  is-same-reads.Asked,
+  is-same-reads.Learnt,
   second-edge-reads.Asked,
   second-edge-reads.Learnt,
   differs-reads.Asked,
@@ -716,6 +800,8 @@ apply-same-length-5 : (t : ℕ) → apply-lts.Need-same-length-5 (
   wait-reads.Learnt,
   push-turn-reads.Asked,
   push-turn-reads.Learnt,
+  numbered-reads.Asked,
+  numbered-reads.Learnt,
   second-reads.Asked,
   second-reads.Learnt,
 ) (apply-at t) apply.Post
@@ -740,6 +826,8 @@ apply-returns-3 : (t : ℕ) → apply-lts.Need-returns-3 (
   pen-of-reads.Learnt,
   half-of-reads.Asked,
   half-of-reads.Learnt,
+  is-same-reads.Asked,
+  is-same-reads.Learnt,
   second-edge-reads.Asked,
   second-edge-reads.Learnt,
   differs-reads.Asked,
@@ -748,6 +836,8 @@ apply-returns-3 : (t : ℕ) → apply-lts.Need-returns-3 (
   wait-reads.Learnt,
   push-turn-reads.Asked,
   push-turn-reads.Learnt,
+  numbered-reads.Asked,
+  numbered-reads.Learnt,
   second-reads.Asked,
   second-reads.Learnt,
 ) (apply-at t) apply.Post
@@ -776,6 +866,8 @@ apply-half-of-requires : (t : ℕ) → apply-lts.Need-half-of-requires (
   pen-of-reads.Learnt,
   half-of-reads.Asked,
   half-of-reads.Learnt,
+  is-same-reads.Asked,
+  is-same-reads.Learnt,
   second-edge-reads.Asked,
   second-edge-reads.Learnt,
   differs-reads.Asked,
@@ -784,10 +876,48 @@ apply-half-of-requires : (t : ℕ) → apply-lts.Need-half-of-requires (
   wait-reads.Learnt,
   push-turn-reads.Asked,
   push-turn-reads.Learnt,
+  numbered-reads.Asked,
+  numbered-reads.Learnt,
   second-reads.Asked,
   second-reads.Learnt,
 ) (apply-at t) apply.Post
 apply-half-of-requires t c κs = search needs
+
+apply-is-same-requires : (t : ℕ) → apply-lts.Need-is-same-requires (
+  operate-reads.Asked,
+  operate-reads.Learnt,
+  constant-reads.Asked,
+  constant-reads.Learnt,
+  kept-reads.Asked,
+  kept-reads.Learnt,
+  is-fixed-reads.Asked,
+  is-fixed-reads.Learnt,
+  push-reads.Asked,
+  push-reads.Learnt,
+  first-edge-reads.Asked,
+  first-edge-reads.Learnt,
+  apply-below t,
+  apply.Post,
+  pen-of-reads.Asked,
+  pen-of-reads.Learnt,
+  half-of-reads.Asked,
+  half-of-reads.Learnt,
+  is-same-reads.Asked,
+  is-same-reads.Learnt,
+  second-edge-reads.Asked,
+  second-edge-reads.Learnt,
+  differs-reads.Asked,
+  differs-reads.Learnt,
+  wait-reads.Asked,
+  wait-reads.Learnt,
+  push-turn-reads.Asked,
+  push-turn-reads.Learnt,
+  numbered-reads.Asked,
+  numbered-reads.Learnt,
+  second-reads.Asked,
+  second-reads.Learnt,
+) (apply-at t) apply.Post
+apply-is-same-requires t c κs = search needs
 
 apply-second-edge-requires : (t : ℕ) → apply-lts.Need-second-edge-requires (
   operate-reads.Asked,
@@ -808,6 +938,8 @@ apply-second-edge-requires : (t : ℕ) → apply-lts.Need-second-edge-requires (
   pen-of-reads.Learnt,
   half-of-reads.Asked,
   half-of-reads.Learnt,
+  is-same-reads.Asked,
+  is-same-reads.Learnt,
   second-edge-reads.Asked,
   second-edge-reads.Learnt,
   differs-reads.Asked,
@@ -816,6 +948,8 @@ apply-second-edge-requires : (t : ℕ) → apply-lts.Need-second-edge-requires (
   wait-reads.Learnt,
   push-turn-reads.Asked,
   push-turn-reads.Learnt,
+  numbered-reads.Asked,
+  numbered-reads.Learnt,
   second-reads.Asked,
   second-reads.Learnt,
 ) (apply-at t) apply.Post
@@ -840,6 +974,8 @@ apply-second-edge-requires-2 : (t : ℕ) → apply-lts.Need-second-edge-requires
   pen-of-reads.Learnt,
   half-of-reads.Asked,
   half-of-reads.Learnt,
+  is-same-reads.Asked,
+  is-same-reads.Learnt,
   second-edge-reads.Asked,
   second-edge-reads.Learnt,
   differs-reads.Asked,
@@ -848,6 +984,8 @@ apply-second-edge-requires-2 : (t : ℕ) → apply-lts.Need-second-edge-requires
   wait-reads.Learnt,
   push-turn-reads.Asked,
   push-turn-reads.Learnt,
+  numbered-reads.Asked,
+  numbered-reads.Learnt,
   second-reads.Asked,
   second-reads.Learnt,
 ) (apply-at t) apply.Post
@@ -872,6 +1010,8 @@ apply-operate-requires-3 : (t : ℕ) → apply-lts.Need-operate-requires-3 (
   pen-of-reads.Learnt,
   half-of-reads.Asked,
   half-of-reads.Learnt,
+  is-same-reads.Asked,
+  is-same-reads.Learnt,
   second-edge-reads.Asked,
   second-edge-reads.Learnt,
   differs-reads.Asked,
@@ -880,6 +1020,8 @@ apply-operate-requires-3 : (t : ℕ) → apply-lts.Need-operate-requires-3 (
   wait-reads.Learnt,
   push-turn-reads.Asked,
   push-turn-reads.Learnt,
+  numbered-reads.Asked,
+  numbered-reads.Learnt,
   second-reads.Asked,
   second-reads.Learnt,
 ) (apply-at t) apply.Post
@@ -904,6 +1046,8 @@ apply-differs-requires : (t : ℕ) → apply-lts.Need-differs-requires (
   pen-of-reads.Learnt,
   half-of-reads.Asked,
   half-of-reads.Learnt,
+  is-same-reads.Asked,
+  is-same-reads.Learnt,
   second-edge-reads.Asked,
   second-edge-reads.Learnt,
   differs-reads.Asked,
@@ -912,6 +1056,8 @@ apply-differs-requires : (t : ℕ) → apply-lts.Need-differs-requires (
   wait-reads.Learnt,
   push-turn-reads.Asked,
   push-turn-reads.Learnt,
+  numbered-reads.Asked,
+  numbered-reads.Learnt,
   second-reads.Asked,
   second-reads.Learnt,
 ) (apply-at t) apply.Post
@@ -936,6 +1082,8 @@ apply-wait-requires : (t : ℕ) → apply-lts.Need-wait-requires (
   pen-of-reads.Learnt,
   half-of-reads.Asked,
   half-of-reads.Learnt,
+  is-same-reads.Asked,
+  is-same-reads.Learnt,
   second-edge-reads.Asked,
   second-edge-reads.Learnt,
   differs-reads.Asked,
@@ -944,6 +1092,8 @@ apply-wait-requires : (t : ℕ) → apply-lts.Need-wait-requires (
   wait-reads.Learnt,
   push-turn-reads.Asked,
   push-turn-reads.Learnt,
+  numbered-reads.Asked,
+  numbered-reads.Learnt,
   second-reads.Asked,
   second-reads.Learnt,
 ) (apply-at t) apply.Post
@@ -968,6 +1118,8 @@ apply-push-turn-requires : (t : ℕ) → apply-lts.Need-push-turn-requires (
   pen-of-reads.Learnt,
   half-of-reads.Asked,
   half-of-reads.Learnt,
+  is-same-reads.Asked,
+  is-same-reads.Learnt,
   second-edge-reads.Asked,
   second-edge-reads.Learnt,
   differs-reads.Asked,
@@ -976,12 +1128,14 @@ apply-push-turn-requires : (t : ℕ) → apply-lts.Need-push-turn-requires (
   wait-reads.Learnt,
   push-turn-reads.Asked,
   push-turn-reads.Learnt,
+  numbered-reads.Asked,
+  numbered-reads.Learnt,
   second-reads.Asked,
   second-reads.Learnt,
 ) (apply-at t) apply.Post
 apply-push-turn-requires t c κs = search needs
 
-apply-apply-requires-2 : (t : ℕ) → apply-lts.Need-apply-requires-2 (
+apply-numbered-requires : (t : ℕ) → apply-lts.Need-numbered-requires (
   operate-reads.Asked,
   operate-reads.Learnt,
   constant-reads.Asked,
@@ -1000,6 +1154,8 @@ apply-apply-requires-2 : (t : ℕ) → apply-lts.Need-apply-requires-2 (
   pen-of-reads.Learnt,
   half-of-reads.Asked,
   half-of-reads.Learnt,
+  is-same-reads.Asked,
+  is-same-reads.Learnt,
   second-edge-reads.Asked,
   second-edge-reads.Learnt,
   differs-reads.Asked,
@@ -1008,12 +1164,48 @@ apply-apply-requires-2 : (t : ℕ) → apply-lts.Need-apply-requires-2 (
   wait-reads.Learnt,
   push-turn-reads.Asked,
   push-turn-reads.Learnt,
+  numbered-reads.Asked,
+  numbered-reads.Learnt,
   second-reads.Asked,
   second-reads.Learnt,
 ) (apply-at t) apply.Post
-apply-apply-requires-2 t c κs = let a = c .before .before .before .before .before .before .before .before .before .before .before .before .before .before .before .before .before .before .before .before .before .before .before .before .before .before .before .before .before .before .before .before .before .before .before .before .before .before .before .before .before .before .before .before .before .before .before .before .before .before .before .before .args in
-    let h : (a .d - 1 < t) × ((a .d - 1 ≤ 32) × (a .i + 1 + (a .d - 1) ≤ 64)) = omega (arith, c .before .before .before .before .before .before .before .before .before .before .before .before .before .before .before .before .before .before .before .before .before .before .before .before .before .before .before .before .before .before .before .before .before .before .before .before .before .before .before .before .before .before .before .before .before .before .before .before .before .before .before .before .pre, c .before .before .before .before .before .before .before .before .before .before .before .before .before .before .before .before .before .before .before .before .before .before .before .before .before .before .before .before .before .before .before .before .before .before .before .before .before .before .before .before .before .before .before .before .before .before .before .before .before .if1 .left) in
-    h
+apply-numbered-requires t c κs = search needs
+
+apply-kept-requires-3 : (t : ℕ) → apply-lts.Need-kept-requires-3 (
+  operate-reads.Asked,
+  operate-reads.Learnt,
+  constant-reads.Asked,
+  constant-reads.Learnt,
+  kept-reads.Asked,
+  kept-reads.Learnt,
+  is-fixed-reads.Asked,
+  is-fixed-reads.Learnt,
+  push-reads.Asked,
+  push-reads.Learnt,
+  first-edge-reads.Asked,
+  first-edge-reads.Learnt,
+  apply-below t,
+  apply.Post,
+  pen-of-reads.Asked,
+  pen-of-reads.Learnt,
+  half-of-reads.Asked,
+  half-of-reads.Learnt,
+  is-same-reads.Asked,
+  is-same-reads.Learnt,
+  second-edge-reads.Asked,
+  second-edge-reads.Learnt,
+  differs-reads.Asked,
+  differs-reads.Learnt,
+  wait-reads.Asked,
+  wait-reads.Learnt,
+  push-turn-reads.Asked,
+  push-turn-reads.Learnt,
+  numbered-reads.Asked,
+  numbered-reads.Learnt,
+  second-reads.Asked,
+  second-reads.Learnt,
+) (apply-at t) apply.Post
+apply-kept-requires-3 t c κs = search needs
 
 apply-second-requires : (t : ℕ) → apply-lts.Need-second-requires (
   operate-reads.Asked,
@@ -1034,6 +1226,8 @@ apply-second-requires : (t : ℕ) → apply-lts.Need-second-requires (
   pen-of-reads.Learnt,
   half-of-reads.Asked,
   half-of-reads.Learnt,
+  is-same-reads.Asked,
+  is-same-reads.Learnt,
   second-edge-reads.Asked,
   second-edge-reads.Learnt,
   differs-reads.Asked,
@@ -1042,6 +1236,8 @@ apply-second-requires : (t : ℕ) → apply-lts.Need-second-requires (
   wait-reads.Learnt,
   push-turn-reads.Asked,
   push-turn-reads.Learnt,
+  numbered-reads.Asked,
+  numbered-reads.Learnt,
   second-reads.Asked,
   second-reads.Learnt,
 ) (apply-at t) apply.Post
@@ -1066,6 +1262,8 @@ apply-same-length-6 : (t : ℕ) → apply-lts.Need-same-length-6 (
   pen-of-reads.Learnt,
   half-of-reads.Asked,
   half-of-reads.Learnt,
+  is-same-reads.Asked,
+  is-same-reads.Learnt,
   second-edge-reads.Asked,
   second-edge-reads.Learnt,
   differs-reads.Asked,
@@ -1074,10 +1272,12 @@ apply-same-length-6 : (t : ℕ) → apply-lts.Need-same-length-6 (
   wait-reads.Learnt,
   push-turn-reads.Asked,
   push-turn-reads.Learnt,
+  numbered-reads.Asked,
+  numbered-reads.Learnt,
   second-reads.Asked,
   second-reads.Learnt,
 ) (apply-at t) apply.Post
-apply-same-length-6 t c = c .before .before .before .before .before .before .before .before .before .before .before .before .before .before .before .t14 .given ∙ c .before .before .before .before .before .before .before .before .before .before .before .before .before .before .before .before .before .before .before .before .before .before .before .before .before .before .before .before .before .before .before .before .before .before .before .t13 .given ∙ c .before .before .before .before .before .before .before .before .before .before .before .before .before .before .before .before .before .before .before .before .before .before .before .before .before .before .before .before .before .before .before .before .before .before .before .before .before .before .before .before .before .before .before .before .before .before .before .t12 .given ∙ c .before .before .before .before .before .before .before .before .before .before .before .before .before .before .before .before .before .before .before .before .before .before .before .before .before .before .before .before .before .before .before .before .before .before .before .before .before .before .before .before .before .before .before .before .before .before .before .before .before .before .before .before .before .before .before .before .before .t1 .given
+apply-same-length-6 t c = c .before .before .before .before .before .before .before .before .before .before .before .before .before .before .before .before .before .before .before .before .before .before .before .before .before .t14 .given ∙ c .before .before .before .before .before .before .before .before .before .before .before .before .before .before .before .before .before .before .before .before .before .before .before .before .before .before .before .before .before .t13 .given ∙ c .before .before .before .before .before .before .before .before .before .before .before .before .before .before .before .before .before .before .before .before .before .before .before .before .before .before .before .before .before .before .before .before .before .before .before .before .before .before .before .before .before .before .t12 .given ∙ c .before .before .before .before .before .before .before .before .before .before .before .before .before .before .before .before .before .before .before .before .before .before .before .before .before .before .before .before .before .before .before .before .before .before .before .before .before .before .before .before .before .before .before .before .before .before .before .before .before .before .before .before .t1 .given
 
 apply-same-length-7 : (t : ℕ) → apply-lts.Need-same-length-7 (
   operate-reads.Asked,
@@ -1098,6 +1298,8 @@ apply-same-length-7 : (t : ℕ) → apply-lts.Need-same-length-7 (
   pen-of-reads.Learnt,
   half-of-reads.Asked,
   half-of-reads.Learnt,
+  is-same-reads.Asked,
+  is-same-reads.Learnt,
   second-edge-reads.Asked,
   second-edge-reads.Learnt,
   differs-reads.Asked,
@@ -1106,10 +1308,12 @@ apply-same-length-7 : (t : ℕ) → apply-lts.Need-same-length-7 (
   wait-reads.Learnt,
   push-turn-reads.Asked,
   push-turn-reads.Learnt,
+  numbered-reads.Asked,
+  numbered-reads.Learnt,
   second-reads.Asked,
   second-reads.Learnt,
 ) (apply-at t) apply.Post
-apply-same-length-7 t c = c .before .before .before .before .before .before .before .before .before .before .before .before .before .before .t24 .given ∙ c .before .before .before .before .before .before .before .before .before .before .before .before .before .before .before .before .before .before .before .before .before .before .before .before .before .before .before .before .before .before .before .before .t23 .given ∙ c .before .before .before .before .before .before .before .before .before .before .before .before .before .before .before .before .before .before .before .before .before .before .before .before .before .before .before .before .before .before .before .before .before .before .before .before .before .before .before .before .before .before .before .before .before .before .t22 .given ∙ c .before .before .before .before .before .before .before .before .before .before .before .before .before .before .before .before .before .before .before .before .before .before .before .before .before .before .before .before .before .before .before .before .before .before .before .before .before .before .before .before .before .before .before .before .before .before .before .before .before .before .before .before .before .before .t2 .given
+apply-same-length-7 t c = c .before .before .before .before .before .before .before .before .before .before .before .before .before .before .before .before .before .before .before .before .before .before .t24 .given ∙ c .before .before .before .before .before .before .before .before .before .before .before .before .before .before .before .before .before .before .before .before .before .before .before .before .before .before .before .before .t23 .given ∙ c .before .before .before .before .before .before .before .before .before .before .before .before .before .before .before .before .before .before .before .before .before .before .before .before .before .before .before .before .before .before .before .before .before .before .before .before .before .before .before .before .before .t22 .given ∙ c .before .before .before .before .before .before .before .before .before .before .before .before .before .before .before .before .before .before .before .before .before .before .before .before .before .before .before .before .before .before .before .before .before .before .before .before .before .before .before .before .before .before .before .before .before .before .before .before .before .t2 .given
 
 apply-same-length-8 : (t : ℕ) → apply-lts.Need-same-length-8 (
   operate-reads.Asked,
@@ -1130,6 +1334,8 @@ apply-same-length-8 : (t : ℕ) → apply-lts.Need-same-length-8 (
   pen-of-reads.Learnt,
   half-of-reads.Asked,
   half-of-reads.Learnt,
+  is-same-reads.Asked,
+  is-same-reads.Learnt,
   second-edge-reads.Asked,
   second-edge-reads.Learnt,
   differs-reads.Asked,
@@ -1138,10 +1344,12 @@ apply-same-length-8 : (t : ℕ) → apply-lts.Need-same-length-8 (
   wait-reads.Learnt,
   push-turn-reads.Asked,
   push-turn-reads.Learnt,
+  numbered-reads.Asked,
+  numbered-reads.Learnt,
   second-reads.Asked,
   second-reads.Learnt,
 ) (apply-at t) apply.Post
-apply-same-length-8 t c = c .before .before .before .before .t4 .given ∙ c .before .before .before .before .before .before .before .before .before .before .before .before .before .t3 .given ∙ c .before .before .before .before .before .before .before .before .before .before .before .before .before .before .before .before .before .before .before .before .before .before .before .before .before .before .before .before .before .before .before .before .before .before .before .before .before .before .before .before .before .before .before .before .before .t .given
+apply-same-length-8 t c = c .before .before .before .before .t3 .given ∙ c .before .before .before .before .before .before .before .before .before .before .before .before .before .before .before .before .before .before .before .before .before .before .before .before .before .before .before .before .before .before .before .before .before .before .before .before .before .before .before .before .t .given
 
 apply-same-length-9 : (t : ℕ) → apply-lts.Need-same-length-9 (
   operate-reads.Asked,
@@ -1162,6 +1370,8 @@ apply-same-length-9 : (t : ℕ) → apply-lts.Need-same-length-9 (
   pen-of-reads.Learnt,
   half-of-reads.Asked,
   half-of-reads.Learnt,
+  is-same-reads.Asked,
+  is-same-reads.Learnt,
   second-edge-reads.Asked,
   second-edge-reads.Learnt,
   differs-reads.Asked,
@@ -1170,10 +1380,12 @@ apply-same-length-9 : (t : ℕ) → apply-lts.Need-same-length-9 (
   wait-reads.Learnt,
   push-turn-reads.Asked,
   push-turn-reads.Learnt,
+  numbered-reads.Asked,
+  numbered-reads.Learnt,
   second-reads.Asked,
   second-reads.Learnt,
 ) (apply-at t) apply.Post
-apply-same-length-9 t c = c .before .before .before .out3 .given ∙ c .before .before .before .before .before .before .before .before .before .before .before .before .out2 .given ∙ c .before .before .before .before .before .before .before .before .before .before .before .before .before .before .before .before .before .before .before .before .before .before .before .before .before .before .before .before .before .before .before .before .before .before .before .before .before .before .before .before .before .before .before .before .out .given
+apply-same-length-9 t c = c .before .before .before .out2 .given ∙ c .before .before .before .before .before .before .before .before .before .before .before .before .before .before .before .before .before .before .before .before .before .before .before .before .before .before .before .before .before .before .before .before .before .before .before .before .before .before .before .out .given
 
 apply-same-length-10 : (t : ℕ) → apply-lts.Need-same-length-10 (
   operate-reads.Asked,
@@ -1194,6 +1406,8 @@ apply-same-length-10 : (t : ℕ) → apply-lts.Need-same-length-10 (
   pen-of-reads.Learnt,
   half-of-reads.Asked,
   half-of-reads.Learnt,
+  is-same-reads.Asked,
+  is-same-reads.Learnt,
   second-edge-reads.Asked,
   second-edge-reads.Learnt,
   differs-reads.Asked,
@@ -1202,10 +1416,12 @@ apply-same-length-10 : (t : ℕ) → apply-lts.Need-same-length-10 (
   wait-reads.Learnt,
   push-turn-reads.Asked,
   push-turn-reads.Learnt,
+  numbered-reads.Asked,
+  numbered-reads.Learnt,
   second-reads.Asked,
   second-reads.Learnt,
 ) (apply-at t) apply.Post
-apply-same-length-10 t c = c .before .w6 .given ∙ c .before .before .before .before .before .before .before .before .before .before .w5 .given ∙ c .before .before .before .before .before .before .before .before .before .before .before .before .before .before .before .before .before .before .before .before .before .before .before .w4 .given ∙ c .before .before .before .before .before .before .before .before .before .before .before .before .before .before .before .before .before .before .before .before .before .before .before .before .before .before .before .w3 .given ∙ c .before .before .before .before .before .before .before .before .before .before .before .before .before .before .before .before .before .before .before .before .before .before .before .before .before .before .before .before .before .before .before .before .before .before .before .before .before .before .before .before .before .before .w2 .given ∙ c .before .before .before .before .before .before .before .before .before .before .before .before .before .before .before .before .before .before .before .before .before .before .before .before .before .before .before .before .before .before .before .before .before .before .before .before .before .before .before .before .before .before .before .before .before .before .before .before .before .before .before .before .before .before .before .before .before .before .before .before .before .w .given
+apply-same-length-10 t c = c .before .w5 .given ∙ c .before .before .before .before .before .before .before .before .before .before .before .before .before .w4 .given ∙ c .before .before .before .before .before .before .before .before .before .before .before .before .before .before .before .before .before .w3 .given ∙ c .before .before .before .before .before .before .before .before .before .before .before .before .before .before .before .before .before .before .before .before .before .before .before .before .before .before .before .before .before .before .before .before .before .before .before .before .before .w2 .given ∙ c .before .before .before .before .before .before .before .before .before .before .before .before .before .before .before .before .before .before .before .before .before .before .before .before .before .before .before .before .before .before .before .before .before .before .before .before .before .before .before .before .before .before .before .before .before .before .before .before .before .before .before .before .before .before .before .before .w .given
 
 apply-returns-4 : (t : ℕ) → apply-lts.Need-returns-4 (
   operate-reads.Asked,
@@ -1226,6 +1442,8 @@ apply-returns-4 : (t : ℕ) → apply-lts.Need-returns-4 (
   pen-of-reads.Learnt,
   half-of-reads.Asked,
   half-of-reads.Learnt,
+  is-same-reads.Asked,
+  is-same-reads.Learnt,
   second-edge-reads.Asked,
   second-edge-reads.Learnt,
   differs-reads.Asked,
@@ -1234,14 +1452,311 @@ apply-returns-4 : (t : ℕ) → apply-lts.Need-returns-4 (
   wait-reads.Learnt,
   push-turn-reads.Asked,
   push-turn-reads.Learnt,
+  numbered-reads.Asked,
+  numbered-reads.Learnt,
   second-reads.Asked,
   second-reads.Learnt,
 ) (apply-at t) apply.Post
-apply-returns-4 t c = let a = c .before .before .before .before .before .before .before .before .before .before .before .before .before .before .before .before .before .before .before .before .before .before .before .before .before .before .before .before .before .before .before .before .before .before .before .before .before .before .before .before .before .before .before .before .before .before .before .before .before .before .before .before .before .before .before .before .before .before .before .before .before .before .before .before .before .before .before .before .before .args in
-    let e : a .d ≡ suc (a .d - 1) = omega (arith, c .before .before .before .before .before .before .before .before .before .before .before .before .before .before .before .before .before .before .before .before .before .before .before .before .before .before .before .before .before .before .before .before .before .before .before .before .before .before .before .before .before .before .before .before .before .before .before .before .before .before .before .before .before .before .before .before .before .before .before .before .before .before .before .before .before .before .if1 .left) in (
-      c .before .before .before .before .before .second .ensures ∙ pair-on (a .op) (a .size) (a .d - 1) (a .i) (a .m) (a .x) (a .y) (a .t1 .now) (a .t2 .now) (a .t .now) (a .out .now) (a .w .now) (penOf (a .pen)) (a .d) e (sym (c .before .before .before .before .before .before .before .before .before .before .before .before .before .before .before .before .before .before .before .before .before .before .before .before .before .before .before .before .before .before .before .before .before .before .before .before .before .before .before .before .before .before .before .before .before .before .before .before .before .before .before .before .before .before .before .before .before .before .before .before .before .before .before .before .before .is-fixed .ensures (a .t1 .now) (a .t2 .now)) ∙ c .before .before .before .before .before .before .before .before .before .before .before .before .before .before .before .before .before .before .before .before .before .before .before .before .before .before .before .before .before .before .before .before .before .before .before .before .before .before .before .before .before .before .before .before .before .before .before .before .before .before .before .before .before .before .before .before .before .before .before .before .before .before .before .before .if2 .left) (c .before .before .before .before .before .before .before .before .before .before .before .before .before .before .before .before .before .before .before .before .before .before .before .before .before .before .before .before .before .before .before .before .before .before .before .before .before .before .before .before .before .before .before .before .before .before .before .before .before .before .before .before .before .before .before .before .before .before .first-edge .result) (c .before .before .before .before .before .before .before .before .before .before .before .before .before .before .before .before .before .before .before .before .before .before .before .before .before .before .before .before .before .before .before .before .before .before .before .before .before .before .before .before .before .before .before .before .before .before .before .before .before .before .before .before .before .before .before .first-edge2 .result) _ _ _ _ (c .before .before .before .before .before .before .before .before .before .before .before .before .before .before .before .before .before .before .before .before .before .before .before .before .before .before .before .before .before .before .before .before .before .before .before .before .before .before .before .before .before .before .before .before .before .before .before .before .before .before .before .before .before .before .before .before .before .before .first-edge .ensures .0) (c .before .before .before .before .before .before .before .before .before .before .before .before .before .before .before .before .before .before .before .before .before .before .before .before .before .before .before .before .before .before .before .before .before .before .before .before .before .before .before .before .before .before .before .before .before .before .before .before .before .before .before .before .before .before .before .before .before .before .first-edge .ensures .1) (c .before .before .before .before .before .before .before .before .before .before .before .before .before .before .before .before .before .before .before .before .before .before .before .before .before .before .before .before .before .before .before .before .before .before .before .before .before .before .before .before .before .before .before .before .before .before .before .before .before .before .before .before .before .before .before .first-edge2 .ensures .0) (c .before .before .before .before .before .before .before .before .before .before .before .before .before .before .before .before .before .before .before .before .before .before .before .before .before .before .before .before .before .before .before .before .before .before .before .before .before .before .before .before .before .before .before .before .before .before .before .before .before .before .before .before .before .before .before .first-edge2 .ensures .1) (c .before .before .before .before .before .before .before .before .before .before .before .before .before .before .before .before .before .before .before .before .before .before .before .before .before .before .before .before .before .before .before .before .before .before .before .before .before .before .before .before .before .before .before .before .before .before .before .before .before .before .before .before .before .before .before .before .before .before .before .before .before .before .push .ensures) (c .before .before .before .before .before .before .before .before .before .before .before .before .before .before .before .before .before .before .before .before .before .before .before .before .before .before .before .before .before .before .before .before .before .before .before .before .before .before .before .before .before .before .before .before .before .before .before .before .apply .ensures .0)
-          (halfOf (c .before .before .before .before .before .before .before .before .before .before .before .before .before .before .before .before .before .before .before .before .before .before .before .before .before .before .before .before .before .before .before .before .before .before .before .before .before .before .half-of .result)) (penOf (c .before .before .before .before .before .before .before .before .before .before .before .before .before .before .before .before .before .before .before .before .before .before .before .before .before .before .before .before .before .before .before .before .before .before .before .before .before .before .before .before .pen-of .result)) (c .before .before .before .before .before .before .before .before .before .before .before .before .before .before .before .before .before .before .before .before .before .before .before .before .before .before .before .before .before .before .before .before .before .before .before .before .second-edge .result) (c .before .before .before .before .before .before .before .before .before .before .before .before .before .before .before .before .before .before .before .before .before .before .before .before .before .before .before .before .before .before .before .before .before .second-edge2 .result) _ _ _ _ (c .before .before .before .before .before .before .before .before .before .before .before .before .before .before .before .before .before .before .before .before .before .before .before .before .before .before .before .before .before .before .before .operate3 .result) (c .before .before .before .before .before .before .before .before .before .before .before .before .before .before .before .before .before .before .before .before .before .before .before .before .before .before .before .before .before .before .differs .result) _ _ _ (ap halfOf (c .before .before .before .before .before .before .before .before .before .before .before .before .before .before .before .before .before .before .before .before .before .before .before .before .before .before .before .before .before .before .before .before .before .before .before .before .before .before .half-of .ensures)) (ap penOf (c .before .before .before .before .before .before .before .before .before .before .before .before .before .before .before .before .before .before .before .before .before .before .before .before .before .before .before .before .before .before .before .before .before .before .before .before .before .before .before .before .pen-of .ensures)) (c .before .before .before .before .before .before .before .before .before .before .before .before .before .before .before .before .before .before .before .before .before .before .before .before .before .before .before .before .before .before .before .before .before .before .before .before .before .before .before .if3 .left) (c .before .before .before .before .before .before .before .before .before .before .before .before .before .before .before .before .before .before .before .before .before .before .before .before .before .before .before .before .before .before .before .before .before .before .before .before .before .before .before .before .before .before .before .before .before .before .before .before .apply .ensures .1 .0) (c .before .before .before .before .before .before .before .before .before .before .before .before .before .before .before .before .before .before .before .before .before .before .before .before .before .before .before .before .before .before .before .before .before .before .before .before .before .before .before .before .before .before .before .before .before .before .before .before .apply .ensures .1 .1) (c .before .before .before .before .before .before .before .before .before .before .before .before .before .before .before .before .before .before .before .before .before .before .before .before .before .before .before .before .before .before .before .before .before .before .before .before .second-edge .ensures .0) (c .before .before .before .before .before .before .before .before .before .before .before .before .before .before .before .before .before .before .before .before .before .before .before .before .before .before .before .before .before .before .before .before .before .before .before .before .second-edge .ensures .1) (c .before .before .before .before .before .before .before .before .before .before .before .before .before .before .before .before .before .before .before .before .before .before .before .before .before .before .before .before .before .before .before .before .before .second-edge2 .ensures .0) (c .before .before .before .before .before .before .before .before .before .before .before .before .before .before .before .before .before .before .before .before .before .before .before .before .before .before .before .before .before .before .before .before .before .second-edge2 .ensures .1) (c .before .before .before .before .before .before .before .before .before .before .before .before .before .before .before .before .before .before .before .before .before .before .before .before .before .before .before .before .before .before .before .operate3 .ensures) (c .before .before .before .before .before .before .before .before .before .before .before .before .before .before .before .before .before .before .before .before .before .before .before .before .before .before .before .before .before .before .differs .ensures) (c .before .before .before .before .before .before .before .before .before .before .before .before .before .before .before .before .before .before .before .before .before .before .before .before .before .before .before .before .wait .ensures) (c .before .before .before .before .before .before .before .before .before .before .before .before .before .before .before .before .before .before .before .before .before .before .before .before .push-turn .ensures) (c .before .before .before .before .before .before .before .before .before .before .before .before .before .before .before .before .apply2 .ensures .0),
-      (c .before .before .before .before .before .before .before .before .before .before .before .before .before .before .before .before .apply2 .ensures .1 .0 ∙ c .before .before .before .before .before .before .before .before .before .before .before .before .before .before .before .before .before .before .before .before .before .before .before .before .before .before .before .before .before .before .before .before .before .before .before .before .second-edge .ensures .1 ∙ c .before .before .before .before .before .before .before .before .before .before .before .before .before .before .before .before .before .before .before .before .before .before .before .before .before .before .before .before .before .before .before .before .before .before .before .before .before .before .before .before .before .before .before .before .before .before .before .before .apply .ensures .1 .0 ∙ c .before .before .before .before .before .before .before .before .before .before .before .before .before .before .before .before .before .before .before .before .before .before .before .before .before .before .before .before .before .before .before .before .before .before .before .before .before .before .before .before .before .before .before .before .before .before .before .before .before .before .before .before .before .before .before .before .before .before .first-edge .ensures .1, c .before .before .before .before .before .before .before .before .before .before .before .before .before .before .before .before .apply2 .ensures .1 .1 ∙ c .before .before .before .before .before .before .before .before .before .before .before .before .before .before .before .before .before .before .before .before .before .before .before .before .before .before .before .before .before .before .before .before .before .second-edge2 .ensures .1 ∙ c .before .before .before .before .before .before .before .before .before .before .before .before .before .before .before .before .before .before .before .before .before .before .before .before .before .before .before .before .before .before .before .before .before .before .before .before .before .before .before .before .before .before .before .before .before .before .before .before .apply .ensures .1 .1 ∙ c .before .before .before .before .before .before .before .before .before .before .before .before .before .before .before .before .before .before .before .before .before .before .before .before .before .before .before .before .before .before .before .before .before .before .before .before .before .before .before .before .before .before .before .before .before .before .before .before .before .before .before .before .before .before .before .first-edge2 .ensures .1),
+apply-returns-4 t c = let a = c .before .before .before .before .before .before .before .before .before .before .before .before .before .before .before .before .before .before .before .before .before .before .before .before .before .before .before .before .before .before .before .before .before .before .before .before .before .before .before .before .before .before .before .before .before .before .before .before .before .before .before .before .before .before .before .before .before .before .before .before .before .before .before .before .args in
+    let e : a .d ≡ suc (a .d - 1) = omega (arith, c .before .before .before .before .before .before .before .before .before .before .before .before .before .before .before .before .before .before .before .before .before .before .before .before .before .before .before .before .before .before .before .before .before .before .before .before .before .before .before .before .before .before .before .before .before .before .before .before .before .before .before .before .before .before .before .before .before .before .before .before .before .if1 .left) in (
+      c .before .before .before .before .before .second .ensures ∙ pair-again (a .op) (a .size) (a .d - 1) (a .i) (a .m) (a .x) (a .y) (a .t1 .now) (a .t2 .now) (a .t .now) (a .out .now) (a .w .now) (penOf (a .pen)) (a .d) e (sym (c .before .before .before .before .before .before .before .before .before .before .before .before .before .before .before .before .before .before .before .before .before .before .before .before .before .before .before .before .before .before .before .before .before .before .before .before .before .before .before .before .before .before .before .before .before .before .before .before .before .before .before .before .before .before .before .before .before .before .before .before .is-fixed .ensures (a .t1 .now) (a .t2 .now)) ∙ c .before .before .before .before .before .before .before .before .before .before .before .before .before .before .before .before .before .before .before .before .before .before .before .before .before .before .before .before .before .before .before .before .before .before .before .before .before .before .before .before .before .before .before .before .before .before .before .before .before .before .before .before .before .before .before .before .before .before .before .if2 .left) (c .before .before .before .before .before .before .before .before .before .before .before .before .before .before .before .before .before .before .before .before .before .before .before .before .before .before .before .before .before .before .before .before .before .before .before .before .before .before .before .before .before .before .before .before .before .before .before .before .before .before .before .before .before .first-edge .result) (c .before .before .before .before .before .before .before .before .before .before .before .before .before .before .before .before .before .before .before .before .before .before .before .before .before .before .before .before .before .before .before .before .before .before .before .before .before .before .before .before .before .before .before .before .before .before .before .before .before .before .first-edge2 .result) _ _ _ _ (c .before .before .before .before .before .before .before .before .before .before .before .before .before .before .before .before .before .before .before .before .before .before .before .before .before .before .before .before .before .before .before .before .before .before .before .before .before .before .before .before .before .before .before .before .before .before .before .before .before .before .before .before .before .first-edge .ensures .0) (c .before .before .before .before .before .before .before .before .before .before .before .before .before .before .before .before .before .before .before .before .before .before .before .before .before .before .before .before .before .before .before .before .before .before .before .before .before .before .before .before .before .before .before .before .before .before .before .before .before .before .before .before .before .first-edge .ensures .1) (c .before .before .before .before .before .before .before .before .before .before .before .before .before .before .before .before .before .before .before .before .before .before .before .before .before .before .before .before .before .before .before .before .before .before .before .before .before .before .before .before .before .before .before .before .before .before .before .before .before .before .first-edge2 .ensures .0) (c .before .before .before .before .before .before .before .before .before .before .before .before .before .before .before .before .before .before .before .before .before .before .before .before .before .before .before .before .before .before .before .before .before .before .before .before .before .before .before .before .before .before .before .before .before .before .before .before .before .before .first-edge2 .ensures .1) (c .before .before .before .before .before .before .before .before .before .before .before .before .before .before .before .before .before .before .before .before .before .before .before .before .before .before .before .before .before .before .before .before .before .before .before .before .before .before .before .before .before .before .before .before .before .before .before .before .before .before .before .before .before .before .before .before .before .push .ensures) (c .before .before .before .before .before .before .before .before .before .before .before .before .before .before .before .before .before .before .before .before .before .before .before .before .before .before .before .before .before .before .before .before .before .before .before .before .before .before .before .before .before .before .before .apply .ensures .0)
+          (halfOf (c .before .before .before .before .before .before .before .before .before .before .before .before .before .before .before .before .before .before .before .before .before .before .before .before .before .before .before .before .before .before .before .before .before .half-of .result)) (penOf (c .before .before .before .before .before .before .before .before .before .before .before .before .before .before .before .before .before .before .before .before .before .before .before .before .before .before .before .before .before .before .before .before .before .before .before .pen-of .result)) _ _ (c .before .before .before .before .before .before .before .before .before .before .before .before .before .before .before .before .before .before .before .before .before .before .before .before .before .before .before .before .before .before .is-same .result) (c .before .before .before .before .before .before .before .before .before .before .before .before .before .before .before .before .before .before .before .before .before .before .before .before .before .before .second-edge .result) (c .before .before .before .before .before .before .before .before .before .before .before .before .before .before .before .before .before .before .before .before .before .before .before .second-edge2 .result) _ _ _ _ (c .before .before .before .before .before .before .before .before .before .before .before .before .before .before .before .before .before .before .before .before .before .operate3 .result) (c .before .before .before .before .before .before .before .before .before .before .before .before .before .before .before .before .before .before .before .before .differs .result) _ _ _ (ap halfOf (c .before .before .before .before .before .before .before .before .before .before .before .before .before .before .before .before .before .before .before .before .before .before .before .before .before .before .before .before .before .before .before .before .before .half-of .ensures)) (ap penOf (c .before .before .before .before .before .before .before .before .before .before .before .before .before .before .before .before .before .before .before .before .before .before .before .before .before .before .before .before .before .before .before .before .before .before .before .pen-of .ensures)) (c .before .before .before .before .before .before .before .before .before .before .before .before .before .before .before .before .before .before .before .before .before .before .before .before .before .before .before .before .before .before .before .before .before .before .if3 .left) (c .before .before .before .before .before .before .before .before .before .before .before .before .before .before .before .before .before .before .before .before .before .before .before .before .before .before .before .before .before .before .before .before .before .before .before .before .before .before .before .before .before .before .before .apply .ensures .1 .0) (c .before .before .before .before .before .before .before .before .before .before .before .before .before .before .before .before .before .before .before .before .before .before .before .before .before .before .before .before .before .before .before .before .before .before .before .before .before .before .before .before .before .before .before .apply .ensures .1 .1) (c .before .before .before .before .before .before .before .before .before .before .before .before .before .before .before .before .before .before .before .before .before .before .before .before .before .before .before .before .before .before .is-same .ensures .0) (c .before .before .before .before .before .before .before .before .before .before .before .before .before .before .before .before .before .before .before .before .before .before .before .before .before .before .before .before .before .before .is-same .ensures .1 .0) (c .before .before .before .before .before .before .before .before .before .before .before .before .before .before .before .before .before .before .before .before .before .before .before .before .before .before .before .before .before .before .is-same .ensures .1 .1) (c .before .before .before .before .before .before .before .before .before .before .before .before .before .before .before .before .before .before .before .before .before .before .before .before .before .before .second-edge .ensures .0) (c .before .before .before .before .before .before .before .before .before .before .before .before .before .before .before .before .before .before .before .before .before .before .before .before .before .before .second-edge .ensures .1) (c .before .before .before .before .before .before .before .before .before .before .before .before .before .before .before .before .before .before .before .before .before .before .before .second-edge2 .ensures .0) (c .before .before .before .before .before .before .before .before .before .before .before .before .before .before .before .before .before .before .before .before .before .before .before .second-edge2 .ensures .1) (c .before .before .before .before .before .before .before .before .before .before .before .before .before .before .before .before .before .before .before .before .before .operate3 .ensures) (c .before .before .before .before .before .before .before .before .before .before .before .before .before .before .before .before .before .before .before .before .differs .ensures) (c .before .before .before .before .before .before .before .before .before .before .before .before .before .before .before .before .before .before .wait .ensures) (c .before .before .before .before .before .before .before .before .before .before .before .before .before .before .push-turn .ensures) (c .before .before .before .before .before .before .before .before .before .before .before .if4 .taken) (again-as (c .before .before .before .before .before .before .before .before .before .kept3 .result) (c .before .before .before .before .before .before .before .before .before .before .numbered .result) (c .before .before .before .before .before .before .before .before .before .before .before .before .before .before .before .before .before .before .before .before .before .before .before .before .before .before .before .before .before .before .before .before .before .half-of .result) (c .before .before .before .before .before .before .before .before .before .before .before .before .before .before .before .before .before .before .before .before .before .before .before .before .before .before .before .before .before .before .before .before .before .before .before .pen-of .result) (c .before .before .before .before .before .before .before .before .before .before .before .before .before .before .before .before .before .before .before .before .before .operate3 .result) (c .before .before .before .before .before .before .before .before .before .before .before .before .before .before .before .before .before .before .before .before .before .operate3 .result) _ _ _ (c .before .before .before .before .before .before .before .before .before .kept3 .ensures) (c .before .before .before .before .before .before .before .before .before .before .numbered .ensures) refl),
+      (c .before .before .before .before .before .before .before .before .before .before .before .before .before .before .before .before .before .before .before .before .before .before .before .before .before .before .second-edge .ensures .1 ∙ c .before .before .before .before .before .before .before .before .before .before .before .before .before .before .before .before .before .before .before .before .before .before .before .before .before .before .before .before .before .before .is-same .ensures .1 .0 ∙ c .before .before .before .before .before .before .before .before .before .before .before .before .before .before .before .before .before .before .before .before .before .before .before .before .before .before .before .before .before .before .before .before .before .before .before .before .before .before .before .before .before .before .before .apply .ensures .1 .0 ∙ c .before .before .before .before .before .before .before .before .before .before .before .before .before .before .before .before .before .before .before .before .before .before .before .before .before .before .before .before .before .before .before .before .before .before .before .before .before .before .before .before .before .before .before .before .before .before .before .before .before .before .before .before .before .first-edge .ensures .1, c .before .before .before .before .before .before .before .before .before .before .before .before .before .before .before .before .before .before .before .before .before .before .before .second-edge2 .ensures .1 ∙ c .before .before .before .before .before .before .before .before .before .before .before .before .before .before .before .before .before .before .before .before .before .before .before .before .before .before .before .before .before .before .is-same .ensures .1 .1 ∙ c .before .before .before .before .before .before .before .before .before .before .before .before .before .before .before .before .before .before .before .before .before .before .before .before .before .before .before .before .before .before .before .before .before .before .before .before .before .before .before .before .before .before .before .apply .ensures .1 .1 ∙ c .before .before .before .before .before .before .before .before .before .before .before .before .before .before .before .before .before .before .before .before .before .before .before .before .before .before .before .before .before .before .before .before .before .before .before .before .before .before .before .before .before .before .before .before .before .before .before .before .before .before .first-edge2 .ensures .1),
+    )
+
+apply-apply-requires-2 : (t : ℕ) → apply-lts.Need-apply-requires-2 (
+  operate-reads.Asked,
+  operate-reads.Learnt,
+  constant-reads.Asked,
+  constant-reads.Learnt,
+  kept-reads.Asked,
+  kept-reads.Learnt,
+  is-fixed-reads.Asked,
+  is-fixed-reads.Learnt,
+  push-reads.Asked,
+  push-reads.Learnt,
+  first-edge-reads.Asked,
+  first-edge-reads.Learnt,
+  apply-below t,
+  apply.Post,
+  pen-of-reads.Asked,
+  pen-of-reads.Learnt,
+  half-of-reads.Asked,
+  half-of-reads.Learnt,
+  is-same-reads.Asked,
+  is-same-reads.Learnt,
+  second-edge-reads.Asked,
+  second-edge-reads.Learnt,
+  differs-reads.Asked,
+  differs-reads.Learnt,
+  wait-reads.Asked,
+  wait-reads.Learnt,
+  push-turn-reads.Asked,
+  push-turn-reads.Learnt,
+  numbered-reads.Asked,
+  numbered-reads.Learnt,
+  second-reads.Asked,
+  second-reads.Learnt,
+) (apply-at t) apply.Post
+apply-apply-requires-2 t c κs = let a = c .before .before .before .before .before .before .before .before .before .before .before .before .before .before .before .before .before .before .before .before .before .before .before .before .before .before .before .before .before .before .before .before .before .before .before .before .before .before .before .before .before .before .before .before .before .before .before .before .before .before .before .before .before .before .before .before .before .before .args in
+    let h : (a .d - 1 < t) × ((a .d - 1 ≤ 32) × (a .i + 1 + (a .d - 1) ≤ 64)) = omega (arith, c .before .before .before .before .before .before .before .before .before .before .before .before .before .before .before .before .before .before .before .before .before .before .before .before .before .before .before .before .before .before .before .before .before .before .before .before .before .before .before .before .before .before .before .before .before .before .before .before .before .before .before .before .before .before .before .before .before .before .pre, c .before .before .before .before .before .before .before .before .before .before .before .before .before .before .before .before .before .before .before .before .before .before .before .before .before .before .before .before .before .before .before .before .before .before .before .before .before .before .before .before .before .before .before .before .before .before .before .before .before .before .before .before .before .before .before .if1 .left) in
+    h
+
+apply-second-requires-2 : (t : ℕ) → apply-lts.Need-second-requires-2 (
+  operate-reads.Asked,
+  operate-reads.Learnt,
+  constant-reads.Asked,
+  constant-reads.Learnt,
+  kept-reads.Asked,
+  kept-reads.Learnt,
+  is-fixed-reads.Asked,
+  is-fixed-reads.Learnt,
+  push-reads.Asked,
+  push-reads.Learnt,
+  first-edge-reads.Asked,
+  first-edge-reads.Learnt,
+  apply-below t,
+  apply.Post,
+  pen-of-reads.Asked,
+  pen-of-reads.Learnt,
+  half-of-reads.Asked,
+  half-of-reads.Learnt,
+  is-same-reads.Asked,
+  is-same-reads.Learnt,
+  second-edge-reads.Asked,
+  second-edge-reads.Learnt,
+  differs-reads.Asked,
+  differs-reads.Learnt,
+  wait-reads.Asked,
+  wait-reads.Learnt,
+  push-turn-reads.Asked,
+  push-turn-reads.Learnt,
+  numbered-reads.Asked,
+  numbered-reads.Learnt,
+  second-reads.Asked,
+  second-reads.Learnt,
+) (apply-at t) apply.Post
+apply-second-requires-2 t c κs = search needs
+
+apply-same-length-11 : (t : ℕ) → apply-lts.Need-same-length-11 (
+  operate-reads.Asked,
+  operate-reads.Learnt,
+  constant-reads.Asked,
+  constant-reads.Learnt,
+  kept-reads.Asked,
+  kept-reads.Learnt,
+  is-fixed-reads.Asked,
+  is-fixed-reads.Learnt,
+  push-reads.Asked,
+  push-reads.Learnt,
+  first-edge-reads.Asked,
+  first-edge-reads.Learnt,
+  apply-below t,
+  apply.Post,
+  pen-of-reads.Asked,
+  pen-of-reads.Learnt,
+  half-of-reads.Asked,
+  half-of-reads.Learnt,
+  is-same-reads.Asked,
+  is-same-reads.Learnt,
+  second-edge-reads.Asked,
+  second-edge-reads.Learnt,
+  differs-reads.Asked,
+  differs-reads.Learnt,
+  wait-reads.Asked,
+  wait-reads.Learnt,
+  push-turn-reads.Asked,
+  push-turn-reads.Learnt,
+  numbered-reads.Asked,
+  numbered-reads.Learnt,
+  second-reads.Asked,
+  second-reads.Learnt,
+) (apply-at t) apply.Post
+apply-same-length-11 t c = c .before .before .before .before .before .before .before .before .before .before .before .before .before .before .before .t15 .given ∙ c .before .before .before .before .before .before .before .before .before .before .before .before .before .before .before .before .before .before .before .before .before .before .before .before .before .before .before .before .before .before .before .before .before .before .before .before .t14 .given ∙ c .before .before .before .before .before .before .before .before .before .before .before .before .before .before .before .before .before .before .before .before .before .before .before .before .before .before .before .before .before .before .before .before .before .before .before .before .before .before .before .before .t13 .given ∙ c .before .before .before .before .before .before .before .before .before .before .before .before .before .before .before .before .before .before .before .before .before .before .before .before .before .before .before .before .before .before .before .before .before .before .before .before .before .before .before .before .before .before .before .before .before .before .before .before .before .before .before .before .before .t12 .given ∙ c .before .before .before .before .before .before .before .before .before .before .before .before .before .before .before .before .before .before .before .before .before .before .before .before .before .before .before .before .before .before .before .before .before .before .before .before .before .before .before .before .before .before .before .before .before .before .before .before .before .before .before .before .before .before .before .before .before .before .before .before .before .before .before .t1 .given
+
+apply-same-length-12 : (t : ℕ) → apply-lts.Need-same-length-12 (
+  operate-reads.Asked,
+  operate-reads.Learnt,
+  constant-reads.Asked,
+  constant-reads.Learnt,
+  kept-reads.Asked,
+  kept-reads.Learnt,
+  is-fixed-reads.Asked,
+  is-fixed-reads.Learnt,
+  push-reads.Asked,
+  push-reads.Learnt,
+  first-edge-reads.Asked,
+  first-edge-reads.Learnt,
+  apply-below t,
+  apply.Post,
+  pen-of-reads.Asked,
+  pen-of-reads.Learnt,
+  half-of-reads.Asked,
+  half-of-reads.Learnt,
+  is-same-reads.Asked,
+  is-same-reads.Learnt,
+  second-edge-reads.Asked,
+  second-edge-reads.Learnt,
+  differs-reads.Asked,
+  differs-reads.Learnt,
+  wait-reads.Asked,
+  wait-reads.Learnt,
+  push-turn-reads.Asked,
+  push-turn-reads.Learnt,
+  numbered-reads.Asked,
+  numbered-reads.Learnt,
+  second-reads.Asked,
+  second-reads.Learnt,
+) (apply-at t) apply.Post
+apply-same-length-12 t c = c .before .before .before .before .before .before .before .before .before .before .before .before .before .before .t25 .given ∙ c .before .before .before .before .before .before .before .before .before .before .before .before .before .before .before .before .before .before .before .before .before .before .before .before .before .before .before .before .before .before .before .before .before .t24 .given ∙ c .before .before .before .before .before .before .before .before .before .before .before .before .before .before .before .before .before .before .before .before .before .before .before .before .before .before .before .before .before .before .before .before .before .before .before .before .before .before .before .t23 .given ∙ c .before .before .before .before .before .before .before .before .before .before .before .before .before .before .before .before .before .before .before .before .before .before .before .before .before .before .before .before .before .before .before .before .before .before .before .before .before .before .before .before .before .before .before .before .before .before .before .before .before .before .before .before .t22 .given ∙ c .before .before .before .before .before .before .before .before .before .before .before .before .before .before .before .before .before .before .before .before .before .before .before .before .before .before .before .before .before .before .before .before .before .before .before .before .before .before .before .before .before .before .before .before .before .before .before .before .before .before .before .before .before .before .before .before .before .before .before .before .t2 .given
+
+apply-same-length-13 : (t : ℕ) → apply-lts.Need-same-length-13 (
+  operate-reads.Asked,
+  operate-reads.Learnt,
+  constant-reads.Asked,
+  constant-reads.Learnt,
+  kept-reads.Asked,
+  kept-reads.Learnt,
+  is-fixed-reads.Asked,
+  is-fixed-reads.Learnt,
+  push-reads.Asked,
+  push-reads.Learnt,
+  first-edge-reads.Asked,
+  first-edge-reads.Learnt,
+  apply-below t,
+  apply.Post,
+  pen-of-reads.Asked,
+  pen-of-reads.Learnt,
+  half-of-reads.Asked,
+  half-of-reads.Learnt,
+  is-same-reads.Asked,
+  is-same-reads.Learnt,
+  second-edge-reads.Asked,
+  second-edge-reads.Learnt,
+  differs-reads.Asked,
+  differs-reads.Learnt,
+  wait-reads.Asked,
+  wait-reads.Learnt,
+  push-turn-reads.Asked,
+  push-turn-reads.Learnt,
+  numbered-reads.Asked,
+  numbered-reads.Learnt,
+  second-reads.Asked,
+  second-reads.Learnt,
+) (apply-at t) apply.Post
+apply-same-length-13 t c = c .before .before .before .before .t5 .given ∙ c .before .before .before .before .before .before .before .before .before .before .before .before .before .t4 .given ∙ c .before .before .before .before .before .before .before .before .before .before .before .before .before .before .before .before .before .before .before .before .before .before .before .before .before .before .before .before .before .before .before .before .before .before .before .before .before .before .before .before .before .before .before .before .before .before .before .before .before .before .before .t .given
+
+apply-same-length-14 : (t : ℕ) → apply-lts.Need-same-length-14 (
+  operate-reads.Asked,
+  operate-reads.Learnt,
+  constant-reads.Asked,
+  constant-reads.Learnt,
+  kept-reads.Asked,
+  kept-reads.Learnt,
+  is-fixed-reads.Asked,
+  is-fixed-reads.Learnt,
+  push-reads.Asked,
+  push-reads.Learnt,
+  first-edge-reads.Asked,
+  first-edge-reads.Learnt,
+  apply-below t,
+  apply.Post,
+  pen-of-reads.Asked,
+  pen-of-reads.Learnt,
+  half-of-reads.Asked,
+  half-of-reads.Learnt,
+  is-same-reads.Asked,
+  is-same-reads.Learnt,
+  second-edge-reads.Asked,
+  second-edge-reads.Learnt,
+  differs-reads.Asked,
+  differs-reads.Learnt,
+  wait-reads.Asked,
+  wait-reads.Learnt,
+  push-turn-reads.Asked,
+  push-turn-reads.Learnt,
+  numbered-reads.Asked,
+  numbered-reads.Learnt,
+  second-reads.Asked,
+  second-reads.Learnt,
+) (apply-at t) apply.Post
+apply-same-length-14 t c = c .before .before .before .out4 .given ∙ c .before .before .before .before .before .before .before .before .before .before .before .before .out3 .given ∙ c .before .before .before .before .before .before .before .before .before .before .before .before .before .before .before .before .before .before .before .before .before .before .before .before .before .before .before .before .before .before .before .before .before .before .before .before .before .before .before .before .before .before .before .before .before .before .before .before .before .before .out .given
+
+apply-same-length-15 : (t : ℕ) → apply-lts.Need-same-length-15 (
+  operate-reads.Asked,
+  operate-reads.Learnt,
+  constant-reads.Asked,
+  constant-reads.Learnt,
+  kept-reads.Asked,
+  kept-reads.Learnt,
+  is-fixed-reads.Asked,
+  is-fixed-reads.Learnt,
+  push-reads.Asked,
+  push-reads.Learnt,
+  first-edge-reads.Asked,
+  first-edge-reads.Learnt,
+  apply-below t,
+  apply.Post,
+  pen-of-reads.Asked,
+  pen-of-reads.Learnt,
+  half-of-reads.Asked,
+  half-of-reads.Learnt,
+  is-same-reads.Asked,
+  is-same-reads.Learnt,
+  second-edge-reads.Asked,
+  second-edge-reads.Learnt,
+  differs-reads.Asked,
+  differs-reads.Learnt,
+  wait-reads.Asked,
+  wait-reads.Learnt,
+  push-turn-reads.Asked,
+  push-turn-reads.Learnt,
+  numbered-reads.Asked,
+  numbered-reads.Learnt,
+  second-reads.Asked,
+  second-reads.Learnt,
+) (apply-at t) apply.Post
+apply-same-length-15 t c = c .before .w7 .given ∙ c .before .before .before .before .before .before .before .before .before .before .w6 .given ∙ c .before .before .before .before .before .before .before .before .before .before .before .before .before .before .before .before .before .before .before .before .before .before .before .before .w4 .given ∙ c .before .before .before .before .before .before .before .before .before .before .before .before .before .before .before .before .before .before .before .before .before .before .before .before .before .before .before .before .w3 .given ∙ c .before .before .before .before .before .before .before .before .before .before .before .before .before .before .before .before .before .before .before .before .before .before .before .before .before .before .before .before .before .before .before .before .before .before .before .before .before .before .before .before .before .before .before .before .before .before .before .before .w2 .given ∙ c .before .before .before .before .before .before .before .before .before .before .before .before .before .before .before .before .before .before .before .before .before .before .before .before .before .before .before .before .before .before .before .before .before .before .before .before .before .before .before .before .before .before .before .before .before .before .before .before .before .before .before .before .before .before .before .before .before .before .before .before .before .before .before .before .before .before .before .w .given
+
+apply-returns-5 : (t : ℕ) → apply-lts.Need-returns-5 (
+  operate-reads.Asked,
+  operate-reads.Learnt,
+  constant-reads.Asked,
+  constant-reads.Learnt,
+  kept-reads.Asked,
+  kept-reads.Learnt,
+  is-fixed-reads.Asked,
+  is-fixed-reads.Learnt,
+  push-reads.Asked,
+  push-reads.Learnt,
+  first-edge-reads.Asked,
+  first-edge-reads.Learnt,
+  apply-below t,
+  apply.Post,
+  pen-of-reads.Asked,
+  pen-of-reads.Learnt,
+  half-of-reads.Asked,
+  half-of-reads.Learnt,
+  is-same-reads.Asked,
+  is-same-reads.Learnt,
+  second-edge-reads.Asked,
+  second-edge-reads.Learnt,
+  differs-reads.Asked,
+  differs-reads.Learnt,
+  wait-reads.Asked,
+  wait-reads.Learnt,
+  push-turn-reads.Asked,
+  push-turn-reads.Learnt,
+  numbered-reads.Asked,
+  numbered-reads.Learnt,
+  second-reads.Asked,
+  second-reads.Learnt,
+) (apply-at t) apply.Post
+apply-returns-5 t c = let a = c .before .before .before .before .before .before .before .before .before .before .before .before .before .before .before .before .before .before .before .before .before .before .before .before .before .before .before .before .before .before .before .before .before .before .before .before .before .before .before .before .before .before .before .before .before .before .before .before .before .before .before .before .before .before .before .before .before .before .before .before .before .before .before .before .before .before .before .before .before .before .before .before .before .before .before .args in
+    let e : a .d ≡ suc (a .d - 1) = omega (arith, c .before .before .before .before .before .before .before .before .before .before .before .before .before .before .before .before .before .before .before .before .before .before .before .before .before .before .before .before .before .before .before .before .before .before .before .before .before .before .before .before .before .before .before .before .before .before .before .before .before .before .before .before .before .before .before .before .before .before .before .before .before .before .before .before .before .before .before .before .before .before .before .before .if1 .left) in (
+      c .before .before .before .before .before .second2 .ensures ∙ pair-on (a .op) (a .size) (a .d - 1) (a .i) (a .m) (a .x) (a .y) (a .t1 .now) (a .t2 .now) (a .t .now) (a .out .now) (a .w .now) (penOf (a .pen)) (a .d) e (sym (c .before .before .before .before .before .before .before .before .before .before .before .before .before .before .before .before .before .before .before .before .before .before .before .before .before .before .before .before .before .before .before .before .before .before .before .before .before .before .before .before .before .before .before .before .before .before .before .before .before .before .before .before .before .before .before .before .before .before .before .before .before .before .before .before .before .before .before .before .before .before .before .is-fixed .ensures (a .t1 .now) (a .t2 .now)) ∙ c .before .before .before .before .before .before .before .before .before .before .before .before .before .before .before .before .before .before .before .before .before .before .before .before .before .before .before .before .before .before .before .before .before .before .before .before .before .before .before .before .before .before .before .before .before .before .before .before .before .before .before .before .before .before .before .before .before .before .before .before .before .before .before .before .before .before .before .before .before .before .if2 .left) (c .before .before .before .before .before .before .before .before .before .before .before .before .before .before .before .before .before .before .before .before .before .before .before .before .before .before .before .before .before .before .before .before .before .before .before .before .before .before .before .before .before .before .before .before .before .before .before .before .before .before .before .before .before .before .before .before .before .before .before .before .before .before .before .before .first-edge .result) (c .before .before .before .before .before .before .before .before .before .before .before .before .before .before .before .before .before .before .before .before .before .before .before .before .before .before .before .before .before .before .before .before .before .before .before .before .before .before .before .before .before .before .before .before .before .before .before .before .before .before .before .before .before .before .before .before .before .before .before .before .before .first-edge2 .result) _ _ _ _ (c .before .before .before .before .before .before .before .before .before .before .before .before .before .before .before .before .before .before .before .before .before .before .before .before .before .before .before .before .before .before .before .before .before .before .before .before .before .before .before .before .before .before .before .before .before .before .before .before .before .before .before .before .before .before .before .before .before .before .before .before .before .before .before .before .first-edge .ensures .0) (c .before .before .before .before .before .before .before .before .before .before .before .before .before .before .before .before .before .before .before .before .before .before .before .before .before .before .before .before .before .before .before .before .before .before .before .before .before .before .before .before .before .before .before .before .before .before .before .before .before .before .before .before .before .before .before .before .before .before .before .before .before .before .before .before .first-edge .ensures .1) (c .before .before .before .before .before .before .before .before .before .before .before .before .before .before .before .before .before .before .before .before .before .before .before .before .before .before .before .before .before .before .before .before .before .before .before .before .before .before .before .before .before .before .before .before .before .before .before .before .before .before .before .before .before .before .before .before .before .before .before .before .before .first-edge2 .ensures .0) (c .before .before .before .before .before .before .before .before .before .before .before .before .before .before .before .before .before .before .before .before .before .before .before .before .before .before .before .before .before .before .before .before .before .before .before .before .before .before .before .before .before .before .before .before .before .before .before .before .before .before .before .before .before .before .before .before .before .before .before .before .before .first-edge2 .ensures .1) (c .before .before .before .before .before .before .before .before .before .before .before .before .before .before .before .before .before .before .before .before .before .before .before .before .before .before .before .before .before .before .before .before .before .before .before .before .before .before .before .before .before .before .before .before .before .before .before .before .before .before .before .before .before .before .before .before .before .before .before .before .before .before .before .before .before .before .before .before .push .ensures) (c .before .before .before .before .before .before .before .before .before .before .before .before .before .before .before .before .before .before .before .before .before .before .before .before .before .before .before .before .before .before .before .before .before .before .before .before .before .before .before .before .before .before .before .before .before .before .before .before .before .before .before .before .before .before .apply .ensures .0)
+          (halfOf (c .before .before .before .before .before .before .before .before .before .before .before .before .before .before .before .before .before .before .before .before .before .before .before .before .before .before .before .before .before .before .before .before .before .before .before .before .before .before .before .before .before .before .before .before .half-of .result)) (penOf (c .before .before .before .before .before .before .before .before .before .before .before .before .before .before .before .before .before .before .before .before .before .before .before .before .before .before .before .before .before .before .before .before .before .before .before .before .before .before .before .before .before .before .before .before .before .before .pen-of .result)) _ _ (c .before .before .before .before .before .before .before .before .before .before .before .before .before .before .before .before .before .before .before .before .before .before .before .before .before .before .before .before .before .before .before .before .before .before .before .before .before .before .before .before .before .is-same .result) (c .before .before .before .before .before .before .before .before .before .before .before .before .before .before .before .before .before .before .before .before .before .before .before .before .before .before .before .before .before .before .before .before .before .before .before .before .before .second-edge .result) (c .before .before .before .before .before .before .before .before .before .before .before .before .before .before .before .before .before .before .before .before .before .before .before .before .before .before .before .before .before .before .before .before .before .before .second-edge2 .result) _ _ _ _ (c .before .before .before .before .before .before .before .before .before .before .before .before .before .before .before .before .before .before .before .before .before .before .before .before .before .before .before .before .before .before .before .before .operate3 .result) (c .before .before .before .before .before .before .before .before .before .before .before .before .before .before .before .before .before .before .before .before .before .before .before .before .before .before .before .before .before .before .before .differs .result) _ _ _ (ap halfOf (c .before .before .before .before .before .before .before .before .before .before .before .before .before .before .before .before .before .before .before .before .before .before .before .before .before .before .before .before .before .before .before .before .before .before .before .before .before .before .before .before .before .before .before .before .half-of .ensures)) (ap penOf (c .before .before .before .before .before .before .before .before .before .before .before .before .before .before .before .before .before .before .before .before .before .before .before .before .before .before .before .before .before .before .before .before .before .before .before .before .before .before .before .before .before .before .before .before .before .before .pen-of .ensures)) (c .before .before .before .before .before .before .before .before .before .before .before .before .before .before .before .before .before .before .before .before .before .before .before .before .before .before .before .before .before .before .before .before .before .before .before .before .before .before .before .before .before .before .before .before .before .if3 .left) (c .before .before .before .before .before .before .before .before .before .before .before .before .before .before .before .before .before .before .before .before .before .before .before .before .before .before .before .before .before .before .before .before .before .before .before .before .before .before .before .before .before .before .before .before .before .before .before .before .before .before .before .before .before .before .apply .ensures .1 .0) (c .before .before .before .before .before .before .before .before .before .before .before .before .before .before .before .before .before .before .before .before .before .before .before .before .before .before .before .before .before .before .before .before .before .before .before .before .before .before .before .before .before .before .before .before .before .before .before .before .before .before .before .before .before .before .apply .ensures .1 .1) (c .before .before .before .before .before .before .before .before .before .before .before .before .before .before .before .before .before .before .before .before .before .before .before .before .before .before .before .before .before .before .before .before .before .before .before .before .before .before .before .before .before .is-same .ensures .0) (c .before .before .before .before .before .before .before .before .before .before .before .before .before .before .before .before .before .before .before .before .before .before .before .before .before .before .before .before .before .before .before .before .before .before .before .before .before .before .before .before .before .is-same .ensures .1 .0) (c .before .before .before .before .before .before .before .before .before .before .before .before .before .before .before .before .before .before .before .before .before .before .before .before .before .before .before .before .before .before .before .before .before .before .before .before .before .before .before .before .before .is-same .ensures .1 .1) (c .before .before .before .before .before .before .before .before .before .before .before .before .before .before .before .before .before .before .before .before .before .before .before .before .before .before .before .before .before .before .before .before .before .before .before .before .before .second-edge .ensures .0) (c .before .before .before .before .before .before .before .before .before .before .before .before .before .before .before .before .before .before .before .before .before .before .before .before .before .before .before .before .before .before .before .before .before .before .before .before .before .second-edge .ensures .1) (c .before .before .before .before .before .before .before .before .before .before .before .before .before .before .before .before .before .before .before .before .before .before .before .before .before .before .before .before .before .before .before .before .before .before .second-edge2 .ensures .0) (c .before .before .before .before .before .before .before .before .before .before .before .before .before .before .before .before .before .before .before .before .before .before .before .before .before .before .before .before .before .before .before .before .before .before .second-edge2 .ensures .1) (c .before .before .before .before .before .before .before .before .before .before .before .before .before .before .before .before .before .before .before .before .before .before .before .before .before .before .before .before .before .before .before .before .operate3 .ensures) (c .before .before .before .before .before .before .before .before .before .before .before .before .before .before .before .before .before .before .before .before .before .before .before .before .before .before .before .before .before .before .before .differs .ensures) (c .before .before .before .before .before .before .before .before .before .before .before .before .before .before .before .before .before .before .before .before .before .before .before .before .before .before .before .before .before .wait .ensures) (c .before .before .before .before .before .before .before .before .before .before .before .before .before .before .before .before .before .before .before .before .before .before .before .before .before .push-turn .ensures) (c .before .before .before .before .before .before .before .before .before .before .before .before .before .before .before .before .before .before .before .before .before .before .if4 .left) (c .before .before .before .before .before .before .before .before .before .before .before .before .before .before .before .before .apply2 .ensures .0),
+      (c .before .before .before .before .before .before .before .before .before .before .before .before .before .before .before .before .apply2 .ensures .1 .0 ∙ c .before .before .before .before .before .before .before .before .before .before .before .before .before .before .before .before .before .before .before .before .before .before .before .before .before .before .before .before .before .before .before .before .before .before .before .before .before .second-edge .ensures .1 ∙ c .before .before .before .before .before .before .before .before .before .before .before .before .before .before .before .before .before .before .before .before .before .before .before .before .before .before .before .before .before .before .before .before .before .before .before .before .before .before .before .before .before .is-same .ensures .1 .0 ∙ c .before .before .before .before .before .before .before .before .before .before .before .before .before .before .before .before .before .before .before .before .before .before .before .before .before .before .before .before .before .before .before .before .before .before .before .before .before .before .before .before .before .before .before .before .before .before .before .before .before .before .before .before .before .before .apply .ensures .1 .0 ∙ c .before .before .before .before .before .before .before .before .before .before .before .before .before .before .before .before .before .before .before .before .before .before .before .before .before .before .before .before .before .before .before .before .before .before .before .before .before .before .before .before .before .before .before .before .before .before .before .before .before .before .before .before .before .before .before .before .before .before .before .before .before .before .before .before .first-edge .ensures .1, c .before .before .before .before .before .before .before .before .before .before .before .before .before .before .before .before .apply2 .ensures .1 .1 ∙ c .before .before .before .before .before .before .before .before .before .before .before .before .before .before .before .before .before .before .before .before .before .before .before .before .before .before .before .before .before .before .before .before .before .before .second-edge2 .ensures .1 ∙ c .before .before .before .before .before .before .before .before .before .before .before .before .before .before .before .before .before .before .before .before .before .before .before .before .before .before .before .before .before .before .before .before .before .before .before .before .before .before .before .before .before .is-same .ensures .1 .1 ∙ c .before .before .before .before .before .before .before .before .before .before .before .before .before .before .before .before .before .before .before .before .before .before .before .before .before .before .before .before .before .before .before .before .before .before .before .before .before .before .before .before .before .before .before .before .before .before .before .before .before .before .before .before .before .before .apply .ensures .1 .1 ∙ c .before .before .before .before .before .before .before .before .before .before .before .before .before .before .before .before .before .before .before .before .before .before .before .before .before .before .before .before .before .before .before .before .before .before .before .before .before .before .before .before .before .before .before .before .before .before .before .before .before .before .before .before .before .before .before .before .before .before .before .before .before .first-edge2 .ensures .1),
     )
 
 pub +apply-spec : {M : Type 1} → statement M
@@ -1264,6 +1779,8 @@ pub +apply-spec : {M : Type 1} → statement M
   pen-of-reads.Learnt,
   half-of-reads.Asked,
   half-of-reads.Learnt,
+  is-same-reads.Asked,
+  is-same-reads.Learnt,
   second-edge-reads.Asked,
   second-edge-reads.Learnt,
   differs-reads.Asked,
@@ -1272,6 +1789,8 @@ pub +apply-spec : {M : Type 1} → statement M
   wait-reads.Learnt,
   push-turn-reads.Asked,
   push-turn-reads.Learnt,
+  numbered-reads.Asked,
+  numbered-reads.Learnt,
   second-reads.Asked,
   second-reads.Learnt,
 )
@@ -1300,13 +1819,15 @@ pub +apply-spec : {M : Type 1} → statement M
     (apply-same-length-5 t)
     (apply-returns-3 t)
     (apply-half-of-requires t)
+    (apply-is-same-requires t)
     (apply-second-edge-requires t)
     (apply-second-edge-requires-2 t)
     (apply-operate-requires-3 t)
     (apply-differs-requires t)
     (apply-wait-requires t)
     (apply-push-turn-requires t)
-    (apply-apply-requires-2 t)
+    (apply-numbered-requires t)
+    (apply-kept-requires-3 t)
     (apply-second-requires t)
     (apply-same-length-6 t)
     (apply-same-length-7 t)
@@ -1314,3 +1835,11 @@ pub +apply-spec : {M : Type 1} → statement M
     (apply-same-length-9 t)
     (apply-same-length-10 t)
     (apply-returns-4 t)
+    (apply-apply-requires-2 t)
+    (apply-second-requires-2 t)
+    (apply-same-length-11 t)
+    (apply-same-length-12 t)
+    (apply-same-length-13 t)
+    (apply-same-length-14 t)
+    (apply-same-length-15 t)
+    (apply-returns-5 t)
