@@ -26,7 +26,7 @@ use Rattle.reading.specs.CauseSeven as G
 use Rattle.reading.specs.CallLaws as L
 use Rattle.writing.specs.UniqueTable.{start}
 use Rattle.writing.specs.Rules.{part}
-use Rattle.writing.specs.Run.{runCovered, runText, writtenBytes, outputAfter, whole, Answer}
+use Rattle.writing.specs.Run.{runCovered, runText, writtenBytes, outputAfter, whole, outputFull, Answer, answerOf}
 use Rattle.writing.specs.Calls.{inputOf, truthAt, write, Combine, combine}
 use Rattle.writing.specs.CallLaws as M
 use Rattle.writing.specs.Queue as Q
@@ -139,6 +139,12 @@ later-words = W.run-stable
 pub bytes-beyond : (text out : List ℕ)
     → let k = length (writtenBytes text out) in (drop k (outputAfter text out) ≡ drop k out) × (length (outputAfter text out) ≡ length out)
 bytes-beyond text out = (O.output-beyond text out, O.output-length text out)
+
+-- A walk may stop as soon as what it has released is longer than the output: what the output gets and the answer are settled.
+pub stopping : (n size c c′ : ℕ) (f g : ℕ → Bool) (out : List ℕ) → c ≤ c′ → c′ ≤ 2 ^ n → ((w : ℕ) → w < c → f w ≡ g w) → length out < length (runText n size c f)
+    → (outputAfter (runText n size c′ g) out ≡ writtenBytes (runText n size c f) out)
+    × (answerOf n c′ (runText n size c′ g) out ≡ record { written = length out; covered = c′; ending = outputFull })
+stopping = O.may-stop
 
 -- ---- Demand 2: reading what was written ------------------------------------------------------
 

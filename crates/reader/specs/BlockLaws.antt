@@ -68,11 +68,11 @@ module _ (n : ℕ) (bytes : List ℕ) (r : Run) (o : Opens) (t : List (List ℕ)
         ∙ ap₂ (λ (c d : ℕ). c + 2 ^ (n - d)) (p .covered) (p .depth)
 
     -- No more nodes are open than there are options,
-    pub passed-nested : x .deep ≤ n
+    passed-nested : x .deep ≤ n
     passed-nested = subst (λ (d : ℕ). d ≤ n) (p .depth) (at-nested n bytes (p .before) (p .state) (p .here))
 
     -- and it begins after some nodes of as many words.
-    pub passed-aligned : Multiple (n - x .deep) (x .from)
+    passed-aligned : Multiple (n - x .deep) (x .from)
     passed-aligned =
         subst (λ (d : ℕ). Multiple (n - d) (x .from)) (p .depth)
         (subst (Multiple (n - length (p .state .place .opens))) (p .covered) (at-aligned n bytes (p .before) (p .state) (p .here)))
