@@ -5,14 +5,14 @@ use mathlib.Core.Bool.{Bool, true, false, false≢true}
 use mathlib.Core.List.{List, [], _∷_, _++_}
 use Prim.Native.Nat.{ℕ, zero, suc, _+_, _≤_, _<_, _^_}
 use native.Mathlib.Omega.{arith}
-use lib.Dec.{leb, eqb}
+use lib.Dec.{eqb}
 use lib.ListN.{length, set, length-append, length-set}
-use borrow.Author.Tests.{eqb-true, leb-true}
+use borrow.Author.Tests.{eqb-true}
 use Rattle.lists.specs.Lists.{and-l, or-l, or-r}
 use Rattle.reading.specs.Nodes.{isKept, child, Node, node, stamp, bars}
-use Rattle.writing.specs.UniqueTable.{State, start, firstFree, nextNumber, placed, stored}
+use Rattle.writing.specs.UniqueTable.{State, start, placed, stored}
 use Rattle.writing.specs.Rules.{Text, number, one, two, Part, Done, edge, sameNumber, bothTerminal, sameEntry, halfBarred, found, newNumber, byRule, meet, part}
-use Rattle.writing.specs.Storing.{Sound, Parentless, Free, all-firstFree}
+use Rattle.writing.specs.Storing.{Sound, Parentless, next-small}
 use Rattle.writing.specs.Steps.{Halves, find-matches, next-able, a-known, b-known, part-good, part-halves, firstHalf, secondHalf, start-sound}
 use Rattle.writing.specs.Normal.{Normal, part-deep, start-normal}
 use Rattle.writing.specs.Meaning.{bars-kept, stamp-held, same-facts}
@@ -59,14 +59,6 @@ placed-length ns k x size h l = go (eqb k (length ns)) refl
     go : (t : Bool) → eqb k (length ns) ≡ t → length {A = Node} (elim t [ true ↦ ns ++ (x ∷ []) | false ↦ set ns k x ]) ≤ suc size
     go true e = omega (arith, length-append ns (x ∷ []), eqb-true k (length ns) e)
     go false e = omega (arith, length-set ns k x)
-
-next-small : (size : ℕ) (s : State) (a b k : ℕ) → Sound s → length (s .table) ≤ suc size → nextNumber size s a b ≡ suc k → suc k ≤ size
-unfolding nextNumber
-next-small size s a b k h l e = go (leb (length (s .table)) size) refl e
-  where
-    go : (t : Bool) → leb (length (s .table)) size ≡ t → elim t as (λ _. ℕ) [ true ↦ length (s .table) | false ↦ firstFree (s .queue) a b ] ≡ suc k → suc k ≤ size
-    go true q r = omega (arith, leb-true (length (s .table)) size q, r)
-    go false q r = omega (arith, all-firstFree (Free (s .table)) (s .queue) a b k (h .waiting) r .0 .known)
 
 -- ---- Every part's text is valid --------------------------------------------------------------
 

@@ -16,7 +16,7 @@ use Rattle.writing.specs.Calls.{inputOf, combineText, combine}
 use Rattle.engine.specs.Cells.{zero-wide, zero-cell}
 use Rattle.engine.specs.Engine.{Sent}
 use Rattle.engine.specs.Applying.{Source}
-use Rattle.engine.specs.TapeLaws.{Fed, AllFed, settled}
+use Rattle.engine.specs.TapeLaws.{Fed, settled}
 use Rattle.engine.specs.Streaming.{Wrote}
 use Rattle.engine.specs.Joining.{combineIn}
 use Rattle.engine.specs.JoinLaws.{combine-wrote}

@@ -10,7 +10,7 @@ use lib.Dec.{eqb, ltb}
 use borrow.Author.Tests.{eq-eqb, ne-eqb}
 use Rattle.lists.specs.Lists.{differ, decide-eq}
 use Rattle.reading.specs.Nodes.{Node, node}
-use Rattle.writing.specs.Run.{digitAt, operate}
+use Rattle.writing.specs.Run.{digitAt}
 use Rattle.engine.specs.Applying.{Source, passes, firstSource, secondSource, fixed}
 use Rattle.engine.specs.Taping.{Feed, onTape, atEdge, edgeOf, settle, firstFeed, secondFeed}
 use Rattle.combining.specs.Tapes.{Tape, tapeAt, deepOf, sourceOf, nextTape, begunFeed}
@@ -38,7 +38,8 @@ digit-most false true = omega arith
 digit-most false false = omega arith
 
 -- what is fixed with one input, and with two
-pub fixed-one : (op : List Bool → Bool) (x : Source) → (eqb (x .number) 0 || not (differ (op (x .turned ∷ [])) (op (not (x .turned) ∷ [])))) ≡ fixed op (x ∷ [])
+pub fixed-one : (op : List Bool → Bool) (x : Source)
+    → (eqb (x .number) 0 || not (differ (op (x .turned ∷ [])) (op (not (x .turned) ∷ [])))) ≡ fixed op (x ∷ [])
 unfolding fixed
 fixed-one op x = refl
 

@@ -4,7 +4,7 @@ use mathlib.Core.Path.{_≡_, refl, sym, ap, ap₂, _∙_}
 use mathlib.Core.Logic.{_≢_, ⊎-elim}
 use mathlib.Core.Bool.{Bool, true, false, not, _&&_, _||_, true≢false, false≢true}
 use mathlib.Core.List.{List, [], _∷_, _++_}
-use Prim.Native.Nat.{ℕ, zero, suc, _+_, _*_, _≤_, _<_}
+use Prim.Native.Nat.{ℕ, zero, suc, _+_, _≤_, _<_}
 use native.Mathlib.Omega.{arith}
 use lib.Dec.{eqb}
 use lib.ListN.{length, set, length-set, length-append, List·getD-eq-default}
@@ -12,10 +12,10 @@ use lib.Seq.{set-out}
 use borrow.Author.Tests.{eqb-true, eqb-false, eq-eqb, ne-eqb}
 use Rattle.lists.specs.Lists.{or-l, or-r, or-right, or-false, not-twice, is-false, bit, decide-eq, decide-le, has, has-last, all-has}
 use Rattle.reading.specs.Nodes.{Node, noNode, node, hasParent}
+use Rattle.reading.specs.ParentCounts.{edges, parents, parents-none, parents-set, parents-add, edges-none}
 use Rattle.writing.specs.UniqueTable.{State, without, orphaned, freed, placed}
 use Rattle.writing.specs.Storing.{Parentless, hasParent-none, Free, Sound}
 use Rattle.writing.specs.Queue.{Queued, hasParent-all}
-use Rattle.writing.specs.Parents.{slots, parents, parents-none, none-parents, parents-set, parents-add}
 use Rattle.writing.specs.Links.{among-append, without-absent, among-without-same, among-without}
 
 -- ---- Tests -----------------------------------------------------------------------------------
@@ -31,52 +31,24 @@ or-same false = refl
 
 -- ---- Counts of parents -----------------------------------------------------------------------
 
--- a digit is at most 1
-pub bit-most : (a : Bool) → bit a ≤ 1
-bit-most true = omega arith
-bit-most false = omega arith
-
--- a node has c as a child at most twice
-slots-most : (c : ℕ) (x : Node) → slots c x ≤ 2
-slots-most c x = omega (arith, bit-most (eqb (x .first) c), bit-most (eqb (x .second) c))
-
--- all nodes have it at most twice as often as there are nodes
-pub parents-most : (ns : List Node) (c : ℕ) → parents ns c ≤ 2 * length ns
-unfolding parents
-parents-most [] c = omega arith
-parents-most (x ∷ xs) c = omega (arith, slots-most c x, parents-most xs c)
-
--- the count says whether there is a parent
-pub parents-told : (ns : List Node) (c : ℕ) → hasParent ns c ≡ not (eqb (parents ns c) 0)
-parents-told ns c = go (hasParent ns c) refl
-  where
-    go : (p : Bool) → hasParent ns c ≡ p → p ≡ not (eqb (parents ns c) 0)
-    go true e = sym (ap not (ne-eqb (parents ns c) 0 (λ z. true≢false (sym e ∙ parents-none ns c z))))
-    go false e = sym (ap not (eq-eqb (parents ns c) 0 (none-parents ns c e)))
-
--- no node, no children but 0
-slots-none : (c : ℕ) → 0 < c → slots c noNode ≡ 0
-slots-none c r =
-    let e : eqb 0 c ≡ false = ne-eqb 0 c (λ z. omega (arith, r, z)) in ap (λ (t : Bool). bit t + bit t) e
-
 -- number k is taken from its node
-pub parents-rest : (ns : List Node) (k c : ℕ) → 0 < c → parents (set ns k noNode) c + slots c (node ns k) ≡ parents ns c
+pub parents-rest : (ns : List Node) (k c : ℕ) → 0 < c → parents (set ns k noNode) c + edges c (node ns k) ≡ parents ns c
 parents-rest ns k c r = ⊎-elim
-    (λ (l : length ns ≤ k). ap₂ (λ (xs : List Node) (x : Node). parents xs c + slots c x) (set-out ns k noNode l)
-    (List·getD-eq-default ns noNode l) ∙ omega (arith, slots-none c r))
-    (λ (l : k < length ns). omega (arith, parents-set ns k c noNode l, slots-none c r))
+    (λ (l : length ns ≤ k). ap₂ (λ (xs : List Node) (x : Node). parents xs c + edges c x) (set-out ns k noNode l)
+    (List·getD-eq-default ns noNode l) ∙ omega (arith, edges-none c (λ z. omega (arith, r, z))))
+    (λ (l : k < length ns). omega (arith, parents-set ns k c noNode l, edges-none c (λ z. omega (arith, r, z))))
     (decide-le (length ns) k)
 
 -- and gets a new one
 pub parents-placed : (ns : List Node) (k c : ℕ) (x : Node) → k ≤ length ns → 0 < c
-    → parents (placed ns k x) c ≡ parents (set ns k noNode) c + slots c x
+    → parents (placed ns k x) c ≡ parents (set ns k noNode) c + edges c x
 unfolding placed
 parents-placed ns k c x h r = go (eqb k (length ns)) refl
   where
     go : (t : Bool) → eqb k (length ns) ≡ t
-        → parents (elim t [ true ↦ ns ++ (x ∷ []) | false ↦ set ns k x ]) c ≡ parents (set ns k noNode) c + slots c x
+        → parents (elim t [ true ↦ ns ++ (x ∷ []) | false ↦ set ns k x ]) c ≡ parents (set ns k noNode) c + edges c x
     go true e =
-        parents-add ns c x ∙ ap (λ (xs : List Node). parents xs c + slots c x)
+        parents-add ns c x ∙ ap (λ (xs : List Node). parents xs c + edges c x)
         (sym (set-out ns k noNode (omega (arith, eqb-true k (length ns) e))))
     go false e =
         omega (arith, parents-set ns k c x (omega (arith, h, eqb-false k (length ns) e)), parents-rest ns k c r)
@@ -169,7 +141,7 @@ module _ (s : State) (so : Sound s) (qd : Queued s) where
   -- a number that is given out is in the queue if it has no parent, and only then
   queue-told : (c : ℕ) → 0 < c → c < length (s .table) → has c (s .queue) ≡ eqb (parents (s .table) c) 0
   queue-told c r l =
-      go (hasParent (s .table) c) refl ∙ ap not (parents-told (s .table) c) ∙ not-twice (eqb (parents (s .table) c) 0)
+      go (hasParent (s .table) c) refl ∙ ap not (parents-none (s .table) c) ∙ not-twice (eqb (parents (s .table) c) 0)
     where
       go : (p : Bool) → hasParent (s .table) c ≡ p → has c (s .queue) ≡ not p
       go true e = is-false (has c (s .queue)) (λ i. true≢false (sym e
@@ -188,7 +160,7 @@ module _ (s : State) (so : Sound s) (qd : Queued s) where
       (orphaned-among ns c (x .first) (without k (s .queue)) r)
       ∙ ap₂ (λ (t u : Bool). (t || (eqb (x .first) c && u)) || (eqb (x .second) c && u))
       (among-without c k (s .queue) d ∙ queue-told c r l)
-      (ap not (parents-told ns c) ∙ not-twice (eqb (parents ns c) 0))
+      (ap not (parents-none ns c) ∙ not-twice (eqb (parents ns c) 0))
       ∙ settle (eqb (x .first) c) (eqb (x .second) c) (parents ns c) (parents (s .table) c) (parents-rest (s .table) k c r)
     where
       settle : (u v : Bool) (m p : ℕ) → m + (bit u + bit v) ≡ p

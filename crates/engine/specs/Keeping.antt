@@ -10,8 +10,8 @@ use lib.ListN.{length}
 use borrow.Author.Tests.{ltb-true, ltb-false, leb-true, leb-false}
 use Rattle.reading.specs.Limits.{tableLimit}
 use Rattle.reading.specs.Nodes.{Node, node}
+use Rattle.reading.specs.ParentCounts.{parents}
 use Rattle.writing.specs.UniqueTable.{State, start, firstFree, nextNumber}
-use Rattle.writing.specs.Parents.{parents}
 use Rattle.writing.specs.Links.{Holds, holds-none, holds-free}
 use Rattle.engine.specs.Cells.{cell, Wide}
 use Rattle.engine.specs.Recycling.{freeOf, nextIn}

@@ -6,20 +6,20 @@ use mathlib.Core.Bool.{Bool, true, false, not, cond, _&&_, _||_, true≢false, f
 use mathlib.Core.List.{List, [], _∷_, _++_, append-assoc, append-nil}
 use Prim.Native.Nat.{ℕ, zero, suc, _+_, _-_, _≤_, _<_, _^_}
 use native.Mathlib.Omega.{arith}
-use lib.Dec.{eqb, leb, ltb, eqb·suc-zero}
+use lib.Dec.{eqb, ltb, eqb·suc-zero}
 use lib.ListN.{length, take, replicate, length-append, length-replicate}
-use borrow.Author.Tests.{eqb-true, eqb-false, ne-eqb, leb-true, not-true, lt-ltb, ltb-true, ltb-false, le-ltb}
+use borrow.Author.Tests.{eqb-true, eqb-false, ne-eqb, not-true, lt-ltb, ltb-true, ltb-false, le-ltb}
 use Rattle.lists.specs.Lists.{differ, and-l, and-r}
 use Rattle.reading.specs.Bytes.{opener, closer, blank}
 use Rattle.reading.specs.Nodes.{Ref, terminal, entry, temporary, isKept, child, Node, node, stamp, bars}
 use Rattle.reading.specs.Limits.{tableLimit}
-use Rattle.writing.specs.UniqueTable.{State, firstFree, nextNumber, stored}
+use Rattle.writing.specs.UniqueTable.{State, stored}
 use Rattle.writing.specs.Rules.{Text, Done, edge, isTerminal, sameNumber, bothTerminal, sameEntry, halfBarred, found, newNumber, byRule, meet, part}
 use Rattle.writing.specs.Texts.{decimal, tildeIf, storing}
 use Rattle.writing.specs.Run.{outputAfter}
 use Rattle.writing.specs.Output.{output-length}
 use Rattle.writing.specs.ConstantPart.{part-complement}
-use Rattle.writing.specs.Storing.{all-firstFree, Free, Sound, Able, stored-same, stored-sound}
+use Rattle.writing.specs.Storing.{Sound, Able, stored-same, stored-sound, next-small}
 use Rattle.writing.specs.Steps.{plain, Told, next-able, find-matches, Halves, bothTerminal-plain, sameEntry-plain, found-plain, a-known, b-known, firstHalf, secondHalf, part-good, part-halves}
 use Rattle.writing.specs.Normal.{Normal, Depth, meet-deep, part-deep}
 use Rattle.writing.specs.Queue.{Queued, stored-queued}
@@ -511,17 +511,6 @@ keeps-stamp : (t : List (List ℕ)) (z f l : ℕ) (s : State) (h : Half) → Kee
     → Stamped t s h
 keeps-stamp t z f l s h keeps known d =
     keeps .nodes (h .number) (omega (arith, d)) (omega (arith, known, keeps .given)) .stamp
-
--- a number given out is no larger than the size
-next-small : (size : ℕ) (s : State) (a b k : ℕ) → Sound s → length (s .table) ≤ suc size → nextNumber size s a b ≡ suc k
-    → suc k ≤ size
-unfolding nextNumber
-next-small size s a b k h l e = go (leb (length (s .table)) size) refl e
-  where
-    go : (u : Bool) → leb (length (s .table)) size ≡ u
-        → elim u as (λ _. ℕ) [ true ↦ length (s .table) | false ↦ firstFree (s .queue) a b ] ≡ suc k → suc k ≤ size
-    go true q r = omega (arith, leb-true (length (s .table)) size q, r)
-    go false q r = omega (arith, all-firstFree (Free (s .table)) (s .queue) a b k (h .waiting) r .0 .known, l)
 
 -- under rule 2 the first half is kept
 same-kept : (s : State) (v w : Ref) → sameNumber s v w ≡ true → isKept v ≡ true

@@ -12,15 +12,15 @@ use borrow.Author.Tests.{eqb-true, eqb-false, ne-eqb, lt-ltb, ltb-true, ltb-fals
 use Rattle.lists.specs.Lists.{bit, decide-eq, decide-le, has}
 use Rattle.reading.specs.Limits.{tableLimit}
 use Rattle.reading.specs.Nodes.{Node, newNode, noNode, node, stamp}
+use Rattle.reading.specs.ParentCounts.{edges, bit-most, parents-most}
 use Rattle.writing.specs.UniqueTable.{State, without, freed, placed, stored}
 use Rattle.writing.specs.Storing.{placed-same, placed-other, placed-longer, Parentless, Sound, Able}
 use Rattle.writing.specs.Queue.{Queued}
-use Rattle.writing.specs.Parents.{slots}
 use Rattle.writing.specs.Links.{among-without-same, among-without}
 use Rattle.engine.specs.Cells.{cell, putCell, Wide, length-put, wide-put, cell-same, cell-number, cell-other}
 use Rattle.engine.specs.Recycling.{Lane, lane, joinIn, shelveIn, oneMore, releaseIn, adoptIn, noteIn, placeIn, storeIn}
 use Rattle.engine.specs.Buckets.{Buckets, shelved-in, buckets-same, shelve-wide, shelve-length, shelve-other, buckets-join}
-use Rattle.engine.specs.Freed.{bit-most, parents-most, parents-placed, freed-told, freed-away}
+use Rattle.engine.specs.Freed.{parents-placed, freed-told, freed-away}
 use Rattle.engine.specs.Keeping.{HasNode, Keeps, node-same}
 use Rattle.engine.specs.Releasing.{Ready, buckets-stay, fresh-ready, release-ready}
 use Rattle.engine.specs.QueueCells.{Stays, stays-then, stays-wider, stays-put, stays-join, Held, held-same, held-join, held-adopt, stays-adopt, adopt-count}
@@ -181,7 +181,7 @@ module _ (t : List (List ℕ)) (y f l k i a b : ℕ) (v : Bool) (s : State) (h :
   count₁ c r =
       adopt-count t f l a (h .wide) (omega (arith, children-known .0, h .few, h .long)) c r (omega (arith, count-most c r))
 
-  count₂ : (c : ℕ) → 0 < c → cell (e₂ .table) 5 c ≡ cell t 5 c + slots c x
+  count₂ : (c : ℕ) → 0 < c → cell (e₂ .table) 5 c ≡ cell t 5 c + edges c x
   count₂ c r =
       adopt-count (e₁ .table) (e₁ .first) (e₁ .last) b (stays₁ .wide (h .wide))
       (omega (arith, children-known .1, h .few, h .long, stays₁ .long)) c r
@@ -232,7 +232,7 @@ module _ (t : List (List ℕ)) (y f l k i a b : ℕ) (v : Bool) (s : State) (h :
   cells-n : (q c : ℕ) → q < 6 → cell (j .table) q c ≡ cell n q c
   cells-n q c p = stays-j .cells q c (inl p) ∙ shelve-other n k q c (omega arith)
 
-  count-j : (c : ℕ) → 0 < c → cell (j .table) 5 c ≡ cell t 5 c + slots c x
+  count-j : (c : ℕ) → 0 < c → cell (j .table) 5 c ≡ cell t 5 c + edges c x
   count-j c r =
       cells-n 5 c (omega arith) ∙ stays-n .cells 5 c (inr (omega arith)) ∙ count₂ c r
 
@@ -265,7 +265,7 @@ module _ (t : List (List ℕ)) (y f l k i a b : ℕ) (v : Bool) (s : State) (h :
       (decide-eq c k)
 
   -- no number that is not given out is a child
-  slots-past : (c : ℕ) → y < c → slots c x ≡ 0
+  slots-past : (c : ℕ) → y < c → edges c x ≡ 0
   slots-past c p =
       ap₂ (λ (u w : Bool). bit u + bit w) (ne-eqb a c (λ z. omega (arith, children-known .0, p, z)))
       (ne-eqb b c (λ z. omega (arith, children-known .1, p, z)))
@@ -294,7 +294,7 @@ module _ (t : List (List ℕ)) (y f l k i a b : ℕ) (v : Bool) (s : State) (h :
       cells-j 4 c (omega arith) (λ z. omega (arith, h .among, p, z)) ∙ h .fresh c p .0,
       omega (arith, count-j c (omega (arith, p)), h .fresh c p .1, slots-past c p),
     );
-    counts = λ c r p. count-j c r ∙ ap (λ (m : ℕ). m + slots c x) (h .counts c r p)
+    counts = λ c r p. count-j c r ∙ ap (λ (m : ℕ). m + edges c x) (h .counts c r p)
         ∙ sym (parents-placed (s .table) k c x (able .room) r);
     queue = queue-j;
     buckets = buckets-j;

@@ -12,14 +12,14 @@ use lib.Seq.{set-out}
 use Rattle.lists.specs.Lists.{bit, decide-eq, is-false, has, all-has}
 use Rattle.reading.specs.Limits.{tableLimit}
 use Rattle.reading.specs.Nodes.{Node, noNode, node, stamp, isChild, hasParent}
+use Rattle.reading.specs.ParentCounts.{parents, none-parents, parents-none}
 use Rattle.writing.specs.UniqueTable.{State, without, freed, placed}
 use Rattle.writing.specs.Storing.{Parentless, Free, Sound, first-child, second-child}
 use Rattle.writing.specs.Queue.{Queued, all-without′, hasParent-all}
-use Rattle.writing.specs.Parents.{parents, none-parents}
 use Rattle.engine.specs.Cells.{cell, Wide}
 use Rattle.engine.specs.Recycling.{Lane, lane, leaveIn, unshelveIn, orphansIn, releaseIn}
 use Rattle.engine.specs.Buckets.{Buckets, buckets-same, buckets-next, unshelve-wide, unshelve-length, unshelve-other, buckets-leave}
-use Rattle.engine.specs.Freed.{parents-told, parents-rest, length-next, length-again, freed-fresh}
+use Rattle.engine.specs.Freed.{parents-rest, length-next, length-again, freed-fresh}
 use Rattle.engine.specs.Keeping.{HasNode, Keeps, node-same}
 use Rattle.engine.specs.QueueCells.{Stays, stays-wider, stays-leave, Held, held-same, held-leave, stays-orphans, orphans-count, held-orphans}
 
@@ -148,7 +148,7 @@ module _ (t : List (List ℕ)) (z f l k : ℕ) (s : State) (h : Keeps t z f l s)
 
   -- a count says whether there is a parent left
   told : (c : ℕ) → c ≤ z → 0 < c → hasParent rest c ≡ not (eqb (cell (g .table) 5 c) 0)
-  told c q p = parents-told rest c ∙ ap (λ (a : ℕ). not (eqb a 0)) (sym (counted c p q))
+  told c q p = parents-none rest c ∙ ap (λ (a : ℕ). not (eqb a 0)) (sym (counted c p q))
 
   -- the queue and the buckets
   queue-g : Held g (freed s k)

@@ -1,12 +1,12 @@
 -- How many records have a number as a child: code keeps this count, and reads from it whether a number has a parent. Assumes nothing.
 use mathlib.Core.Path.{_≡_, refl, sym, ap, _∙_}
 use mathlib.Core.Bool.{Bool, true, false, not, _||_}
-use mathlib.Core.List.{List, [], _∷_}
+use mathlib.Core.List.{List, [], _∷_, _++_}
 use Prim.Native.Nat.{ℕ, zero, suc, _+_, _*_, _<_, _≤_}
 use native.Mathlib.Omega.{arith}
 use lib.Dec.{eqb}
 use lib.ListN.{length, set, replicate}
-use borrow.Author.Tests.{ne-eqb}
+use borrow.Author.Tests.{eqb-true, ne-eqb, not-false}
 use Rattle.lists.specs.Lists.{bit}
 use Rattle.reading.specs.Nodes.{Node, noNode, node, isChild, hasParent}
 
@@ -19,7 +19,8 @@ unfoldable pub parents : List Node → ℕ → ℕ
 parents [] k = 0
 parents (x ∷ t) k = edges k x + parents t k
 
-bit-most : (a : Bool) → bit a ≤ 1
+-- a digit is at most 1
+pub bit-most : (a : Bool) → bit a ≤ 1
 bit-most true = omega arith
 bit-most false = omega arith
 
@@ -35,12 +36,25 @@ unfolding hasParent parents
 parents-none [] k = refl
 parents-none (x ∷ t) k = ap (λ (b : Bool). isChild k x || b) (parents-none t k) ∙ some-edge (eqb (x .first) k) (eqb (x .second) k) (parents t k)
 
+-- So a number without an edge to it has no parent, and the other way about.
+pub no-parents : (t : List Node) (k : ℕ) → parents t k ≡ 0 → hasParent t k ≡ false
+no-parents t k e = parents-none t k ∙ ap (λ (p : ℕ). not (eqb p 0)) e
+
+pub none-parents : (t : List Node) (k : ℕ) → hasParent t k ≡ false → parents t k ≡ 0
+none-parents t k e = eqb-true (parents t k) 0 (not-false (eqb (parents t k) 0) (sym (parents-none t k) ∙ e))
+
 -- A storing takes the edges of the old record away and adds those of the new one.
 pub parents-set : (t : List Node) (j k : ℕ) (x : Node) → j < length t → parents (set t j x) k + edges k (node t j) ≡ parents t k + edges k x
 unfolding parents
 parents-set [] j k x h = absurd (omega arith)
 parents-set (y ∷ t) zero k x h = omega arith
 parents-set (y ∷ t) (suc j) k x h = omega (arith, parents-set t j k x (omega arith))
+
+-- A record more adds its edges.
+pub parents-add : (t : List Node) (k : ℕ) (x : Node) → parents (t ++ (x ∷ [])) k ≡ parents t k + edges k x
+unfolding parents
+parents-add [] k x = omega arith
+parents-add (y ∷ t) k x = omega (arith, parents-add t k x)
 
 -- A record has at most two edges to a number.
 pub parents-most : (t : List Node) (k : ℕ) → parents t k ≤ 2 * length t
@@ -49,7 +63,7 @@ parents-most [] k = omega arith
 parents-most (x ∷ t) k = omega (arith, bit-most (eqb (x .first) k), bit-most (eqb (x .second) k), parents-most t k)
 
 -- no record, no edge but to 0
-edges-none : (k : ℕ) → (k ≡ 0 → ⊥) → edges k noNode ≡ 0
+pub edges-none : (k : ℕ) → (k ≡ 0 → ⊥) → edges k noNode ≡ 0
 edges-none k z = let e : eqb 0 k ≡ false = ne-eqb 0 k (λ i. z (sym i)) in rw e refl
 
 -- In a new table no number has a parent.

@@ -1,10 +1,10 @@
 -- One law for each way through code that walks the texts of two inputs: each with its own stream and lent table.
 -- Assumes nothing.
-use mathlib.Core.Path.{_≡_, refl, sym, ap, ap₂, _∙_}
+use mathlib.Core.Path.{_≡_, sym, ap, ap₂, _∙_}
 use mathlib.Core.Bool.{Bool, true, false, cond, not, _||_}
 use mathlib.Core.List.{List, [], _∷_}
 use Prim.Native.Nat.{ℕ, suc, _+_, _≤_, _<_, _^_}
-use lib.Dec.{eqb, leb}
+use lib.Dec.{eqb}
 use borrow.Author.Tests.{le-leb, lt-leb}
 use Rattle.lists.specs.Lists.{differ}
 use Rattle.reading.specs.Bytes.{opener}
@@ -12,13 +12,13 @@ use Rattle.writing.specs.Texts.{tildeIf}
 use Rattle.writing.specs.Run.{operate}
 use Rattle.engine.specs.Pending.{Waiting, pushAll, waitIn}
 use Rattle.engine.specs.Engine as E
-use Rattle.engine.specs.Applying.{Source, applyIn}
+use Rattle.engine.specs.Applying.{applyIn}
 use Rattle.engine.specs.Taping as T
-use Rattle.engine.specs.TextMade.{text-edges, inside-option, inside-text, text-halted, text-ended, text-done, text-on, nodes-made}
+use Rattle.engine.specs.TextMade.{text-edges, inside-text, text-halted, text-ended, text-done, text-on, nodes-made}
 use Rattle.engine.specs.Joining.{finishIn, nodesIn}
 use Rattle.combining.specs.Tapes.{Tape, deepOf, sourceOf, nextTape, begunFeed}
 use Rattle.reader.specs.declared.Block.{Block}
-use Rattle.writer.specs.Cite.{halfOf, walkedOf, edgeIn, tapeOf, feedOf, appliedOf}
+use Rattle.writer.specs.Cite.{walkedOf, edgeIn, tapeOf, feedOf, appliedOf}
 use Rattle.writer.specs.declared.Applied.{Applied}
 use Rattle.writer.specs.declared.Edge.{Edge}
 use Rattle.writer.specs.declared.Feed.{Feed}

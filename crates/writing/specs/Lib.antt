@@ -13,7 +13,6 @@ pub mod Storing
 pub mod Steps
 pub mod Normal
 pub mod Queue
-pub mod Parents
 pub mod Stamps
 -- The text of a run: what is released, stays and grows
 pub mod Release

@@ -6,13 +6,13 @@ use mathlib.Core.Bool.{Bool, true, false, _||_, false≢true}
 use mathlib.Core.List.{List, [], _∷_, _++_}
 use Prim.Native.Nat.{ℕ, zero, suc, _≤_, _<_}
 use native.Mathlib.Omega.{arith}
-use lib.Dec.{eqb}
+use lib.Dec.{eqb, leb}
 use lib.ListN.{length, set, length-append, length-set, List·getD-append, List·getD-eq-default}
 use lib.Seq.{getD-set-same, getD-set-other, getD-at}
-use borrow.Author.Tests.{eqb-true, eqb-false, eq-eqb, ne-eqb}
+use borrow.Author.Tests.{eqb-true, eqb-false, eq-eqb, ne-eqb, leb-true}
 use Rattle.lists.specs.Lists.{or-l, or-r, or-false, decide-eq, decide-le, All, all-map, all-snoc}
 use Rattle.reading.specs.Nodes.{Node, newNode, noNode, node, stamp, isChild, hasParent}
-use Rattle.writing.specs.UniqueTable.{State, firstFree, without, orphaned, freed, placed, stored}
+use Rattle.writing.specs.UniqueTable.{State, firstFree, nextNumber, without, orphaned, freed, placed, stored}
 
 -- ---- The table after a storing ---------------------------------------------------------------
 
@@ -224,3 +224,14 @@ module _ (s : State) (k i a b : ℕ) (t : Bool) (h : Sound s) (able : Able s k a
   pub stored-sound : Sound (stored s k i a b t)
   stored-sound =
       record { some-place = omega (arith, h .some-place, stored-longer .0); children = stored-children; waiting = stored-queue }
+
+-- A number that is given out is no larger than the size.
+pub next-small : (size : ℕ) (s : State) (a b k : ℕ) → Sound s → length (s .table) ≤ suc size → nextNumber size s a b ≡ suc k
+    → suc k ≤ size
+unfolding nextNumber
+next-small size s a b k h l e = go (leb (length (s .table)) size) refl e
+  where
+    go : (u : Bool) → leb (length (s .table)) size ≡ u
+        → elim u as (λ _. ℕ) [ true ↦ length (s .table) | false ↦ firstFree (s .queue) a b ] ≡ suc k → suc k ≤ size
+    go true q r = omega (arith, leb-true (length (s .table)) size q, r)
+    go false q r = omega (arith, all-firstFree (Free (s .table)) (s .queue) a b k (h .waiting) r .0 .known, l)
