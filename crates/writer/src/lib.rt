@@ -1,4 +1,4 @@
-// Writing the stream of a truth table: the unique table and its recycling queue in lent records, the text that waits, the walk.
+// Writing the stream of a truth table, and combining two streams: the unique table and its recycling queue in lent records, the text that waits, the walks.
 ghost use mathlib.Core.Path.{_≡_};
 ghost use mathlib.Core.Bool.{cond, true, false, not, _&&_, _||_};
 ghost use mathlib.Core.List.{List, [], _∷_, _++_};
@@ -1487,7 +1487,7 @@ fn finish(n: u32, covered: u64, m: usize, a: Applied, out: &mut [u8], w: &mut [u
     }
 }
 
-// After the size and its LF (x0): the leading `~` and the outermost node
+// After the size and its LF (head): the leading `~` and the outermost node
 fn nodes(
     k: Task,
     x: &[u8],
