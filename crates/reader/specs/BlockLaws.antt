@@ -17,7 +17,7 @@ use Rattle.reading.specs.Covered.{grown-on, grown-count, trace-covered}
 use Rattle.reading.specs.TableWalk.{rowWalk, tied-on}
 use Rattle.reading.specs.Passing.{startTrace}
 use Rattle.reading.specs.Settled.{never-some, trace-onward}
-use Rattle.reading.specs.Reaching.{At, at-fault, at-end, at-within, at-grows, at-most, at-passes}
+use Rattle.reading.specs.Reaching.{At, at-fault, at-end, at-grows, at-most, at-passes}
 use Rattle.reading.specs.Aligned.{Multiple, at-nested, at-aligned}
 use Rattle.reader.specs.Cite.{causeOf}
 use Rattle.reader.specs.TableLaws.{tableOf}
@@ -129,11 +129,7 @@ StandsAt n bytes c t = Stands n bytes (c .run) (c .opens) t
 pub first-stands : (n : ℕ) (bytes : List ℕ) (t : List (List ℕ)) → 1024 ≤ length t → StandsAt n bytes firstCursor t
 first-stands n bytes t h = stands-first n bytes t h
 
--- It covers no more words than there are,
-pub stands-within : (n : ℕ) (bytes : List ℕ) (c : Cursor) (t : List (List ℕ)) → StandsAt n bytes c t → c .run .covered ≤ 2 ^ n
-stands-within n bytes c t h = at-within n bytes (h .steps) (stateAt (c .run) (c .opens) t) (h .here)
-
--- and no more than the stream does.
+-- It covers no more words than the stream does.
 pub stands-read : (n : ℕ) (bytes : List ℕ) (c : Cursor) (t : List (List ℕ)) → StandsAt n bytes c t
     → c .run .covered ≤ reading n bytes .state .covered
 stands-read n bytes c t h =
@@ -149,9 +145,6 @@ module _ (n : ℕ) (bytes : List ℕ) (few : n ≤ 32) (c : Cursor) (t : List (L
 
   same-block : b ≡ blockOf (z .reached)
   same-block = ap (λ (y : Next). y .block) same
-
-  same-table : u ≡ z .table
-  same-table = ap (λ (y : Next). y .table) same
 
   reached : ReachedBy n bytes (c .run .covered) (z .reached) (z .table)
   reached = read-reaches n bytes few (c .run .covered) (c .run) (c .opens) t h (omega arith)
@@ -171,10 +164,6 @@ module _ (n : ℕ) (bytes : List ℕ) (few : n ≤ 32) (c : Cursor) (t : List (L
     -- has the words of a node inside so many open ones,
     pub block-covers : b .cursor .run .covered ≡ b .from + 2 ^ (n - b .deep)
     block-covers = subst (λ (y : Block). y .cursor .run .covered ≡ y .from + 2 ^ (n - y .deep)) (sym same-block) (passed-covers n bytes (c .run) (c .opens) t h (z .reached) (z .table) reached on)
-
-    -- at most 32,
-    pub block-shallow : b .deep ≤ 32
-    block-shallow = subst (λ (y : Block). y .deep ≤ 32) (sym same-block) (past n bytes (c .run) (c .opens) t h (z .reached) (z .table) reached on .1 .shallow)
 
     -- no more than there are options,
     pub block-deep : b .deep ≤ n

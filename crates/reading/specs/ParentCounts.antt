@@ -36,10 +36,7 @@ unfolding hasParent parents
 parents-none [] k = refl
 parents-none (x ∷ t) k = ap (λ (b : Bool). isChild k x || b) (parents-none t k) ∙ some-edge (eqb (x .first) k) (eqb (x .second) k) (parents t k)
 
--- So a number without an edge to it has no parent, and the other way about.
-pub no-parents : (t : List Node) (k : ℕ) → parents t k ≡ 0 → hasParent t k ≡ false
-no-parents t k e = parents-none t k ∙ ap (λ (p : ℕ). not (eqb p 0)) e
-
+-- So there is no edge to a number without a parent.
 pub none-parents : (t : List Node) (k : ℕ) → hasParent t k ≡ false → parents t k ≡ 0
 none-parents t k e = eqb-true (parents t k) 0 (not-false (eqb (parents t k) 0) (sym (parents-none t k) ∙ e))
 
