@@ -25,18 +25,18 @@ use Rattle.combining.specs.TapesRead.{Reads, reads-deep, reads-aligned, 
 use Rattle.combining.specs.CombineMade.{bothIn, combine-clean, combine-tables, combine-finish}
 
 -- each input covers the words of the run
-covered-both : (n c : ℕ) (x y : Input) → c ≡ runCovered n (x ∷ y ∷ []) → (c ≤ x .covered) × (c ≤ y .covered)
+pub covered-both : (n c : ℕ) (x y : Input) → c ≡ runCovered n (x ∷ y ∷ []) → (c ≤ x .covered) × (c ≤ y .covered)
 unfolding runCovered
 covered-both n c x y e = (omega (arith, e), omega (arith, e))
 
 -- as long as before
-long : (k : ℕ) (t : List (List ℕ)) → 1024 ≤ k → t ≡ replicate k (replicate 6 0) → 1024 ≤ length t
+pub long : (k : ℕ) (t : List (List ℕ)) → 1024 ≤ k → t ≡ replicate k (replicate 6 0) → 1024 ≤ length t
 long k t h e =
     let z : List ℕ = replicate 6 0 in
     omega (arith, h, ap length e, length-replicate k z)
 
 -- an input that is read from its beginning is fed at the outermost node
-begun-fed : (n : ℕ) → n ≤ 32 → (c : ℕ) → 0 < c → (s : List ℕ) (t : List (List ℕ)) → reading n s .fault ≡ none
+pub begun-fed : (n : ℕ) → n ≤ 32 → (c : ℕ) → 0 < c → (s : List ℕ) (t : List (List ℕ)) → reading n s .fault ≡ none
     → c ≤ inputOf n s .covered → 1024 ≤ length t
     → Fed deepOf sourceOf (nextTape n) n (Reads n c) 1 n 0 (begunFeed n s t) (inputOf n s)
 begun-fed n few c some s t clean enough room =

@@ -6,3 +6,4 @@ pub mod EdgeMade
 -- The call
 pub mod CombineMade
 pub mod Combined
+pub mod Merged

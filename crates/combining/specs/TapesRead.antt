@@ -7,15 +7,18 @@ use mathlib.Core.Option.{none}
 use Prim.Native.Nat.{ℕ, _+_, _-_, _*_, _<_, _≤_, _^_}
 use native.Mathlib.Omega.{arith}
 use lib.ListN.{length}
-use Rattle.reading.specs.Reading.{reading}
+use Rattle.reading.specs.Reading.{isStart, reading}
 use Rattle.reading.specs.Deciding.{Decision, decided, options, decision}
 use Rattle.reading.specs.Covered.{covered-decided, covered-most}
+use Rattle.reading.specs.Lasting.{Lasts}
 use Rattle.writing.specs.Run.{Input}
 use Rattle.writing.specs.Calls.{orNo, inputOf}
 use Rattle.engine.specs.ApplyLaws.{Shows, sourceWalk}
+use Rattle.engine.specs.Sitting.{Sits}
+use Rattle.reader.specs.Cite.{markOf}
 use Rattle.reader.specs.ReadOn.{Next, firstCursor, nextBlock}
 use Rattle.reader.specs.BlockLaws.{StandsAt, first-stands, stands-read, next-stands}
-use Rattle.reader.specs.BlockLaws.{block-from, block-covers, block-deep, block-aligned, block-decides, block-last}
+use Rattle.reader.specs.BlockLaws.{block-from, block-covers, block-deep, block-aligned, block-later, block-ordered, block-lasts, block-sits, block-decides, block-last}
 use Rattle.reader.specs.declared.Cursor.{Cursor}
 use Rattle.combining.specs.Tapes.{Tape, tapeAt, deepOf, sourceOf, nextTape, firstTape}
 
@@ -91,7 +94,27 @@ module _ (n : ℕ) (few : n ≤ 32) (bytes : List ℕ) (τ : Tape) (at : ℕ) (h
       sym (subst (λ (j : ℕ). decision n bytes (at + w) ≡ sourceWalk (sourceOf τ) (deepOf τ + 1) (options (n - deepOf τ) j)) e d)
       ∙ input-decides n bytes (at + w) (omega (arith, of-within, l))
 
+  -- its edge sits at its level, in an ordered table
+  of-sits : Sits (deepOf τ + 1) (sourceOf τ)
+  of-sits =
+      record {
+        ordered = block-ordered n bytes few (h .cursor) (h .lent) (h .stands) (τ .block) (τ .table) (h .called) (h .goes-on);
+        deep = block-sits n bytes few (h .cursor) (h .lent) (h .stands) (τ .block) (τ .table) (h .called) (h .goes-on);
+      }
+
+  of-later : isStart (markOf (τ .block .cursor .run .mark)) ≡ false
+  of-later = block-later n bytes few (h .cursor) (h .lent) (h .stands) (τ .block) (τ .table) (h .called) (h .goes-on)
+
 -- ---- The next block --------------------------------------------------------------------------
+
+-- its table lasts till the next block, if there is one
+of-lasts : (n : ℕ) → n ≤ 32 → (bytes : List ℕ) (τ : Tape) (at : ℕ) → ReadsOf n bytes τ at
+    → nextBlock n bytes (τ .block .cursor) (τ .table) .block .halted ≡ false
+    → Lasts (sourceOf τ .table) (sourceOf (tapeAt bytes (nextBlock n bytes (τ .block .cursor) (τ .table))) .table)
+of-lasts n few bytes τ at h e =
+    let y = nextBlock n bytes (τ .block .cursor) (τ .table) in
+    block-lasts n bytes few (τ .block .cursor) (τ .table) (of-next n few bytes τ at h) (y .block) (y .table) refl e
+    (of-later n few bytes τ at h)
 
 -- Where more words are covered than a cursor has passed, there is a next block.
 more-blocks : (n : ℕ) → n ≤ 32 → (bytes : List ℕ) → reading n bytes .fault ≡ none → (c : Cursor) (t : List (List ℕ))
@@ -164,6 +187,20 @@ module _ (n : ℕ) (few : n ≤ 32) (c : ℕ) where
       (sym (h .here .stream))
       (tape-reads n c few s (h .clean) x (h .input) (h .enough) (τ .block .cursor) (τ .table) (of-next n few s τ at (h .here))
       (at + 2 ^ (n - deepOf τ)) (of-covers n few s τ at (h .here)) l)
+
+  -- For a memo: its edge sits at its level, in an ordered table,
+  pub reads-sits : (τ : Tape) (at : ℕ) (x : Input) → Reads n c τ at x → Sits (deepOf τ + 1) (sourceOf τ)
+  reads-sits τ at x h = of-sits n few (h .bytes) τ at (h .here)
+
+  -- and that table lasts till the next block.
+  pub reads-lasts : (τ : Tape) (at : ℕ) (x : Input) → Reads n c τ at x → at + 2 ^ (n - deepOf τ) < c
+      → Lasts (sourceOf τ .table) (sourceOf (nextTape n τ) .table)
+  reads-lasts τ at x h l =
+      let s = h .bytes in
+      subst (λ (b : List ℕ). Lasts (sourceOf τ .table) (sourceOf (tapeAt b (nextBlock n b (τ .block .cursor) (τ .table))) .table))
+      (sym (h .here .stream))
+      (of-lasts n few s τ at (h .here) (more-blocks n few s (h .clean) (τ .block .cursor) (τ .table) (of-next n few s τ at (h .here))
+      (omega (arith, of-covers n few s τ at (h .here), l, h .enough, ap (λ (y : Input). y .covered) (h .input), input-covered n s))))
 
   -- So the first block of a stream without a fault.
   pub reads-first : (bytes : List ℕ) (t : List (List ℕ)) → reading n bytes .fault ≡ none → c ≤ inputOf n bytes .covered → 0 < c

@@ -90,7 +90,7 @@ number-leads n size d i at m o T p w f t out pen s k c real deep st here some is
 -- ---- What a part came to ---------------------------------------------------------------------
 
 -- a part that is not temporary stands for its function
-online-means : (n size d i at : ℕ) (p : List ℕ) (f : ℕ → Bool) (s : State) → Sound s → Normal n s → 0 < i → i + d ≡ suc n →
+pub online-means : (n size d i at : ℕ) (p : List ℕ) (f : ℕ → Bool) (s : State) → Sound s → Normal n s → 0 < i → i + d ≡ suc n →
     let x = online size d i at p f s in
     isKept (x .ref) ≡ true → Is (x .state .table) f d i (child (x .ref)) (x .complement) at
 online-means n size d i at p f s h nm r e =
@@ -98,7 +98,7 @@ online-means n size d i at p f s h nm r e =
     (online-went n size d i at p f s h nm r e) (part-means n size d i at f s h nm r e)
 
 -- the stamp of the number that a part came to is the one that the table has
-abbrev Now : State → Ref → Type 0
+abbrev pub Now : State → Ref → Type 0
 Now s terminal = Unit {0}
 Now s (entry k g) = stamp (s .table) k ≡ g
 Now s temporary = Unit {0}
@@ -108,7 +108,7 @@ told-now s₀ s terminal x t = tt
 told-now s₀ s (entry k g) x t = t .now
 told-now s₀ s temporary x t = tt
 
-online-now : (n size d i at : ℕ) (p : List ℕ) (f : ℕ → Bool) (s : State) → Sound s → Normal n s → 0 < i → i + d ≡ suc n →
+pub online-now : (n size d i at : ℕ) (p : List ℕ) (f : ℕ → Bool) (s : State) → Sound s → Normal n s → 0 < i → i + d ≡ suc n →
     let x = online size d i at p f s in Now (x .state) (x .ref)
 online-now n size d i at p f s h nm r e =
     let d′ = part size d i at f s in
@@ -116,7 +116,7 @@ online-now n size d i at p f s h nm r e =
     (told-now s (d′ .state) (d′ .part .ref) (d′ .part .text) (part-good size d i at f s h .told))
 
 -- a half with a number came to it
-came-entry : (i : ℕ) (h : Half) (x : Went) → Came i h x → h .number ≢ 0 → x .ref ≡ entry (h .number) (h .stamp)
+pub came-entry : (i : ℕ) (h : Half) (x : Went) → Came i h x → h .number ≢ 0 → x .ref ≡ entry (h .number) (h .stamp)
 came-entry i h x c d = go (h .temporary) (eqb (h .number) 0) refl (c .ref)
   where
     go : (t e : Bool) → eqb (h .number) 0 ≡ e → cond t temporary (cond e terminal (entry (h .number) (h .stamp))) ≡ x .ref
@@ -128,7 +128,7 @@ came-entry i h x c d = go (h .temporary) (eqb (h .number) 0) refl (c .ref)
 -- ---- A second half that repeats the first ----------------------------------------------------
 
 -- turned about by what differs
-differ-back : (c b : Bool) → differ (differ c b) c ≡ b
+pub differ-back : (c b : Bool) → differ (differ c b) c ≡ b
 differ-back true true = refl
 differ-back true false = refl
 differ-back false true = refl

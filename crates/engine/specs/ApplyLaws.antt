@@ -196,13 +196,13 @@ all-start (x ∷ xs) m i (g ∷ gs) h = ap₂ _∷_ (shows-start x m i g (h .0))
 -- ---- A level that all pass over --------------------------------------------------------------
 
 -- they stay as they are at both halves
-pass-first : (i : ℕ) (xs : List Source) → allPass i xs ≡ true → firstSources i xs ≡ xs
+pub pass-first : (i : ℕ) (xs : List Source) → allPass i xs ≡ true → firstSources i xs ≡ xs
 pass-first i [] e = refl
 pass-first i (x ∷ xs) e =
     ap₂ _∷_ (ap (λ (b : Bool). cond b x (record { table = x .table; number = node (x .table) (x .number) .first; turned = x .turned }))
     (and-l (passes i x) (allPass i xs) e)) (pass-first i xs (and-r (passes i x) (allPass i xs) e))
 
-pass-second : (i : ℕ) (xs : List Source) → allPass i xs ≡ true → secondSources i xs ≡ xs
+pub pass-second : (i : ℕ) (xs : List Source) → allPass i xs ≡ true → secondSources i xs ≡ xs
 pass-second i [] e = refl
 pass-second i (x ∷ xs) e =
     ap₂ _∷_ (ap (λ (b : Bool). cond b x (record {
@@ -212,12 +212,12 @@ pass-second i (x ∷ xs) e =
     })) (and-l (passes i x) (allPass i xs) e)) (pass-second i xs (and-r (passes i x) (allPass i xs) e))
 
 -- nothing differs from itself
-differ-same : (b : Bool) → differ b b ≡ false
+pub differ-same : (b : Bool) → differ b b ≡ false
 differ-same true = refl
 differ-same false = refl
 
 -- inputs decide what they show
-shows-once : (xs : List Source) (m i : ℕ) (gs hs : List (ℕ → Bool)) → ShowsAll xs m i gs → ShowsAll xs m i hs
+pub shows-once : (xs : List Source) (m i : ℕ) (gs hs : List (ℕ → Bool)) → ShowsAll xs m i gs → ShowsAll xs m i hs
     → (w : ℕ) → w < 2 ^ m → decisionsAt gs w ≡ decisionsAt hs w
 shows-once [] m i [] [] h k w l = refl
 shows-once [] m i [] (b ∷ hs) h k w l = absurd k
@@ -228,7 +228,7 @@ shows-once (x ∷ xs) m i (a ∷ gs) (b ∷ hs) h k w l =
     ap₂ _∷_ (decided-same (a w) (b w) (sym (h .0 w l) ∙ k .0 w l)) (shows-once xs m i gs hs (h .1) (k .1) w l)
 
 -- so the words of the second half are those of the first
-pass-alike : (op : List Bool → Bool) (d i at : ℕ) (xs : List Source) (gs : List (ℕ → Bool)) (f : ℕ → Bool) → allPass i xs ≡ true
+pub pass-alike : (op : List Bool → Bool) (d i at : ℕ) (xs : List Source) (gs : List (ℕ → Bool)) (f : ℕ → Bool) → allPass i xs ≡ true
     → ShowsAll xs (suc d) i gs → ((w : ℕ) → w < 2 ^ suc d → f (at + w) ≡ op (decisionsAt gs w))
     → (j : ℕ) → j < 2 ^ d → f (at + 2 ^ d + j) ≡ f (at + j)
 pass-alike op d i at xs gs f e sh mk j l =
@@ -309,13 +309,13 @@ abbrev pub Makes : (List Bool → Bool) → ℕ → ℕ → List (ℕ → Bool) 
 Makes op d at gs f = (w : ℕ) → w < 2 ^ d → f (at + w) ≡ op (decisionsAt gs w)
 
 -- the first of them, from where the inputs stand
-first-made : (op : List Bool → Bool) (d i at : ℕ) (xs : List Source) (gs : List (ℕ → Bool)) (f : ℕ → Bool) → ShowsAll xs d i gs
+pub first-made : (op : List Bool → Bool) (d i at : ℕ) (xs : List Source) (gs : List (ℕ → Bool)) (f : ℕ → Bool) → ShowsAll xs d i gs
     → Makes op d at gs f → f at ≡ op (turns xs)
 first-made op d i at xs gs f sh mk =
     let z : at + 0 ≡ at = omega arith in ap f (sym z) ∙ mk 0 (pow-pos d) ∙ ap op (all-start xs d i gs sh)
 
 -- those of the second half
-second-made : (op : List Bool → Bool) (d at : ℕ) (gs : List (ℕ → Bool)) (f : ℕ → Bool) → Makes op (suc d) at gs f
+pub second-made : (op : List Bool → Bool) (d at : ℕ) (gs : List (ℕ → Bool)) (f : ℕ → Bool) → Makes op (suc d) at gs f
     → Makes op d (at + 2 ^ d) (decisionsFrom (2 ^ d) gs) f
 second-made op d at gs f mk w l =
     let z : at + 2 ^ d + w ≡ at + (2 ^ d + w) = omega arith in

@@ -46,11 +46,11 @@ fewer c e l z = ⊎-elim (λ g. absurd (eqb-false c e z (omega (arith, l, g)))) 
 -- c: how many words the run covers
 module _ (op : List Bool → Bool) (n size c : ℕ) (xs : List Input) (e : c ≡ runCovered n xs) where
   -- what the walk begins with
-  abbrev lead : List ℕ
+  abbrev pub lead : List ℕ
   lead = tildeIf (joint op xs 0)
 
   -- the walk of Online
-  abbrev walk : Went
+  abbrev pub walk : Went
   walk = online size n 1 0 lead (joint op xs) start
 
   -- by how many words are covered
@@ -59,26 +59,26 @@ module _ (op : List Bool → Bool) (n size c : ℕ) (xs : List Input) (e : c ≡
   text-covered = ap (λ (k : ℕ). runText n size k (joint op xs)) (sym e)
 
   -- of a whole run
-  text-whole : c ≡ 2 ^ n → runOf op n size xs ≡ head size ++ ((walk .sent ++ waiting lead 1 walk) ++ (dot ∷ []))
+  pub text-whole : c ≡ 2 ^ n → runOf op n size xs ≡ head size ++ ((walk .sent ++ waiting lead 1 walk) ++ (dot ∷ []))
   text-whole h = text-covered ∙ ap (λ (k : ℕ). runText n size k (joint op xs)) h ∙ run-online n size (joint op xs)
 
   -- of a cut one
-  text-short : c < 2 ^ n → runOf op n size xs ≡ head size ++ cut c size n 1 0 lead (joint op xs) start
+  pub text-short : c < 2 ^ n → runOf op n size xs ≡ head size ++ cut c size n 1 0 lead (joint op xs) start
   text-short l = text-covered ∙ run-cut-online n size c (joint op xs) l
 
   -- of one with no word covered
-  text-none : c ≡ 0 → runOf op n size xs ≡ head size
+  pub text-none : c ≡ 0 → runOf op n size xs ≡ head size
   text-none z =
       text-short (omega (arith, z, pow-pos n))
       ∙ ap (λ (l : List ℕ). head size ++ l) (cut-none c size n 1 0 lead (joint op xs) start (omega (arith, z)))
       ∙ append-nil (head size)
 
   -- not all words are covered
-  covered-fewer : eqb c (2 ^ n) ≡ false → c < 2 ^ n
+  pub covered-fewer : eqb c (2 ^ n) ≡ false → c < 2 ^ n
   covered-fewer z = fewer c (2 ^ n) (omega (arith, e, runCovered-most n xs)) z
 
   -- each begins with the size and its LF
-  text-begins : Begins (head size) (runOf op n size xs)
+  pub text-begins : Begins (head size) (runOf op n size xs)
   text-begins = go (eqb c (2 ^ n)) refl
     where
       go : (u : Bool) → eqb c (2 ^ n) ≡ u → Begins (head size) (runOf op n size xs)
@@ -88,13 +88,13 @@ module _ (op : List Bool → Bool) (n size c : ℕ) (xs : List Input) (e : c ≡
 -- ---- The head --------------------------------------------------------------------------------
 
 -- stamps are small at the start
-start-young : (n : ℕ) → n ≤ 32 → (k : ℕ) → stamp (start .table) k + 2 ^ n ≤ 4294967296
+pub start-young : (n : ℕ) → n ≤ 32 → (k : ℕ) → stamp (start .table) k + 2 ^ n ≤ 4294967296
 start-young n h k = omega (arith, start-stamp k, pow-mono {i = n} {j = 32} h)
 
 -- ---- A cut run -------------------------------------------------------------------------------
 
 -- what a cut run sends is all that goes out
-cutly-wrote : {Tape : Type 0} (o T x : List ℕ) (r : Applied Tape) → Cutly o T x r → Wrote o (T ++ x) (sentBy (r .walked))
+pub cutly-wrote : {Tape : Type 0} (o T x : List ℕ) (r : Applied Tape) → Cutly o T x r → Wrote o (T ++ x) (sentBy (r .walked))
 cutly-wrote o T x r h = record { written = go (r .walked .pen .full) refl; full = h .full; output = h .output }
   where
     go : (u : Bool) → r .walked .pen .full ≡ u → r .walked .pen .written ≡ length (writtenBytes (T ++ x) o)

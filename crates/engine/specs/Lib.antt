@@ -30,10 +30,26 @@ pub mod WriteMade
 -- Combining: the walk over stored nodes
 pub mod Applying
 pub mod ApplyLaws
+-- Combining: what is remembered
+pub mod Memo
+pub mod Sitting
+pub mod MemoLaws
+pub mod Noting
+pub mod Recalling
+pub mod RecallLaws
+pub mod MemoMade
+pub mod RecallMade
+pub mod RecallExamples
 -- Combining: the walk over texts
 pub mod Taping
 pub mod TapeLaws
+pub mod Carrying
+pub mod Seating
+pub mod CarryLaws
 -- Combining: the whole run
 pub mod Joining
 pub mod JoinLaws
+pub mod Merging
+pub mod MergeLaws
 pub mod TextMade
+pub mod CarryMade

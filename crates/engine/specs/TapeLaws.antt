@@ -77,7 +77,7 @@ decidersFrom at [] = []
 decidersFrom at (x ∷ xs) = (λ w. x .decides (at + w)) ∷ decidersFrom at xs
 
 -- at a word after it
-deciders-at : (at : ℕ) (xs : List Input) (w : ℕ) → decisionsAt (decidersFrom at xs) w ≡ decisions xs (at + w)
+pub deciders-at : (at : ℕ) (xs : List Input) (w : ℕ) → decisionsAt (decidersFrom at xs) w ≡ decisions xs (at + w)
 deciders-at at [] w = refl
 deciders-at at (x ∷ xs) w = ap (λ (l : List Bool). x .decides (at + w) ∷ l) (deciders-at at xs w)
 
@@ -86,16 +86,16 @@ abbrev pub Joins : (List Bool → Bool) → ℕ → ℕ → ℕ → List Input �
 Joins op c d at xs f = (w : ℕ) → at ≤ w → w < at + 2 ^ d → w < c → f w ≡ op (decisions xs w)
 
 -- the first of them, from where the inputs decide
-joins-first : (op : List Bool → Bool) (c d at : ℕ) (xs : List Input) (f : ℕ → Bool) → at < c → Joins op c d at xs f
+pub joins-first : (op : List Bool → Bool) (c d at : ℕ) (xs : List Input) (f : ℕ → Bool) → at < c → Joins op c d at xs f
     → f at ≡ op (decisions xs at)
 joins-first op c d at xs f l mk = mk at (omega arith) (omega (arith, pow-pos d)) l
 
 -- those of the halves
-joins-former : (op : List Bool → Bool) (c d at : ℕ) (xs : List Input) (f : ℕ → Bool) → Joins op c (suc d) at xs f
+pub joins-former : (op : List Bool → Bool) (c d at : ℕ) (xs : List Input) (f : ℕ → Bool) → Joins op c (suc d) at xs f
     → Joins op c d at xs f
 joins-former op c d at xs f mk w l r = mk w l (omega (arith, r))
 
-joins-latter : (op : List Bool → Bool) (c d at : ℕ) (xs : List Input) (f : ℕ → Bool) → Joins op c (suc d) at xs f
+pub joins-latter : (op : List Bool → Bool) (c d at : ℕ) (xs : List Input) (f : ℕ → Bool) → Joins op c (suc d) at xs f
     → Joins op c d (at + 2 ^ d) xs f
 joins-latter op c d at xs f mk w l r = mk w (omega (arith, l)) (omega (arith, r))
 
@@ -119,7 +119,7 @@ pub record Cutly {Tape : Type 0} (o T x : List ℕ) (r : Applied Tape) : Type 0 
 
 module _ {Tape : Type 0} (deepOf : Tape → ℕ) (sourceOf : Tape → Source) (next : Tape → Tape) (n : ℕ) (Reads : Tape → ℕ → Input → Type 0) where
   -- they show what they decide
-  edges-show : (i d at : ℕ) (fs : List (Feed Tape)) (xs : List Input) → anyText fs ≡ false → AllFed deepOf sourceOf next n Reads i d at fs xs
+  pub edges-show : (i d at : ℕ) (fs : List (Feed Tape)) (xs : List Input) → anyText fs ≡ false → AllFed deepOf sourceOf next n Reads i d at fs xs
       → ShowsAll (edgesOf deepOf sourceOf next fs) d i (decidersFrom at xs)
   edges-show i d at [] [] e h = tt
   edges-show i d at [] (x ∷ xs) e h = h
@@ -131,7 +131,7 @@ module _ {Tape : Type 0} (deepOf : Tape → ℕ) (sourceOf : Tape → Source) (n
       )
 
   -- all words of the part are covered
-  edges-within : (i d at : ℕ) (fs : List (Feed Tape)) (xs : List Input) → anyText fs ≡ false → AllFed deepOf sourceOf next n Reads i d at fs xs
+  pub edges-within : (i d at : ℕ) (fs : List (Feed Tape)) (xs : List Input) → anyText fs ≡ false → AllFed deepOf sourceOf next n Reads i d at fs xs
       → at + 2 ^ d ≤ 2 ^ n → at + 2 ^ d ≤ runCovered n xs
   unfolding runCovered
   edges-within i d at [] [] e h l = l
@@ -143,7 +143,7 @@ module _ {Tape : Type 0} (deepOf : Tape → ℕ) (sourceOf : Tape → Source) (n
       omega (arith, g, edges-within i d at fs xs (or-r (f .inText) (anyText fs) e) (h .1) l)
 
   -- their tapes stay
-  edges-passed : (i d at e : ℕ) (fs : List (Feed Tape)) (xs : List Input) → anyText fs ≡ false
+  pub edges-passed : (i d at e : ℕ) (fs : List (Feed Tape)) (xs : List Input) → anyText fs ≡ false
       → AllFed deepOf sourceOf next n Reads i d at fs xs → AllPassed deepOf sourceOf next n Reads e fs xs (tapesOf fs)
   edges-passed i d at e [] [] z h = tt
   edges-passed i d at e [] (x ∷ xs) z h = h
@@ -157,13 +157,13 @@ module _ {Tape : Type 0} (deepOf : Tape → ℕ) (sourceOf : Tape → Source) (n
 -- ---- Cut runs --------------------------------------------------------------------------------
 
 -- a cut run whose covered words end in the first half
-cut-former : (c size d i at : ℕ) (p : List ℕ) (f : ℕ → Bool) (s : State) → c < at + 2 ^ d
+pub cut-former : (c size d i at : ℕ) (p : List ℕ) (f : ℕ → Bool) (s : State) → c < at + 2 ^ d
     → cut c size (suc d) i at p f s ≡ cut c size d (suc i) at (p ++ (opener ∷ [])) f s
 unfolding cut
 cut-former c size d i at p f s l = rw (lt-ltb c (at + 2 ^ d) l, cut) refl
 
 -- in the second half
-cut-latter : (c size d i at : ℕ) (p : List ℕ) (f : ℕ → Bool) (s : State) → at + 2 ^ d ≤ c →
+pub cut-latter : (c size d i at : ℕ) (p : List ℕ) (f : ℕ → Bool) (s : State) → at + 2 ^ d ≤ c →
     let x = online size d (suc i) at (p ++ (opener ∷ [])) f s in
     let q = waiting (p ++ (opener ∷ [])) (suc i) x ++ tildeIf (differ (x .complement) (f (at + 2 ^ d))) in
     cut c size (suc d) i at p f s ≡ x .sent ++ cut c size d (suc i) (at + 2 ^ d) q f (x .state)
@@ -179,7 +179,7 @@ cut-none c size (suc d) i at p f s l =
 
 module _ {Tape : Type 0} where
   -- after it nothing is walked
-  cutly-halted : (o T x : List ℕ) (r : Applied Tape) → Cutly o T x r → halted r ≡ true
+  pub cutly-halted : (o T x : List ℕ) (r : Applied Tape) → Cutly o T x r → halted r ≡ true
   cutly-halted o T x r h = go (r .walked .pen .full) refl
     where
       go : (u : Bool) → r .walked .pen .full ≡ u → halted r ≡ true
@@ -187,7 +187,7 @@ module _ {Tape : Type 0} where
       go false e = or-left (r .ended) (r .walked .pen .full) (h .rest e .0)
 
   -- more was sent than the output holds by a half whose text begins what the cut run sends
-  cutly-full : (n size i m : ℕ) (o T p w x : List ℕ) (r : Applied Tape) (y : Went) → Leads n size i m o T p w (r .walked) y
+  pub cutly-full : (n size i m : ℕ) (o T p w x : List ℕ) (r : Applied Tape) (y : Went) → Leads n size i m o T p w (r .walked) y
       → r .walked .pen .full ≡ true → Begins (y .sent) x → Cutly o T x r
   cutly-full n size i m o T p w x r y h f b =
       let e = begins-left T (y .sent) x b in
@@ -204,13 +204,13 @@ module _ {Tape : Type 0} where
       }
 
   -- not more was, and the half's text is all that the cut run sends
-  cutly-ended : (n size i m : ℕ) (o T p w : List ℕ) (r : Applied Tape) (y : Went) → Leads n size i m o T p w (r .walked) y
+  pub cutly-ended : (n size i m : ℕ) (o T p w : List ℕ) (r : Applied Tape) (y : Went) → Leads n size i m o T p w (r .walked) y
       → Cutly o T (y .sent) (endedAt r)
   cutly-ended n size i m o T p w r y h =
       record { output = h .output; full = h .full; all = h .all; rest = λ g. (refl, h .after g .stands .written) }
 
   -- after a half that was covered
-  cutly-after : (o T x y : List ℕ) (r : Applied Tape) → Cutly o (T ++ x) y r → Cutly o T (x ++ y) r
+  pub cutly-after : (o T x y : List ℕ) (r : Applied Tape) → Cutly o (T ++ x) y r → Cutly o T (x ++ y) r
   cutly-after o T x y r h =
       let e = append-assoc T x y in
       record {
@@ -223,7 +223,7 @@ module _ {Tape : Type 0} where
 -- ---- Blocks ----------------------------------------------------------------------------------
 
 -- the other of two, if the first is not
-or-other : (u v : Bool) → u ≡ false → (u || v) ≡ true → v ≡ true
+pub or-other : (u v : Bool) → u ≡ false → (u || v) ≡ true → v ≡ true
 or-other true v e h = absurd (true≢false e)
 or-other false v e h = h
 
@@ -249,7 +249,7 @@ middle-odd d r k j at e h = ⊎-elim below above (decide-le (j * 2 ^ r) k)
 
 module _ {Tape : Type 0} (deepOf : Tape → ℕ) (sourceOf : Tape → Source) (next : Tape → Tape) (i : ℕ) (f : Feed Tape) where
   -- an edge's halves are edges in the same table
-  edge-first : edgeOf deepOf sourceOf next (atEdge f (firstSource i (edgeOf deepOf sourceOf next f)))
+  pub edge-first : edgeOf deepOf sourceOf next (atEdge f (firstSource i (edgeOf deepOf sourceOf next f)))
       ≡ firstSource i (edgeOf deepOf sourceOf next f)
   edge-first = go (passes i x)
     where
@@ -263,7 +263,7 @@ module _ {Tape : Type 0} (deepOf : Tape → ℕ) (sourceOf : Tape → Source) (n
       go true = refl
       go false = refl
 
-  edge-second : edgeOf deepOf sourceOf next (atEdge f (secondSource i (edgeOf deepOf sourceOf next f)))
+  pub edge-second : edgeOf deepOf sourceOf next (atEdge f (secondSource i (edgeOf deepOf sourceOf next f)))
       ≡ secondSource i (edgeOf deepOf sourceOf next f)
   edge-second = go (passes i x)
     where
@@ -317,7 +317,7 @@ module _ {Tape : Type 0} (deepOf : Tape → ℕ) (sourceOf : Tape → Source) (n
         )
 
     -- after that half its tape is at a block that ends with it
-    settled-passed : (at : ℕ) (τ υ : Tape) (y : Source) (x : Input) → Reads τ at x
+    pub settled-passed : (at : ℕ) (τ υ : Tape) (y : Source) (x : Input) → Reads τ at x
         → Passed deepOf sourceOf next n Reads (at + 2 ^ d) (settle deepOf sourceOf next (i + 1) (texted τ y)) x υ
         → ReadTo deepOf sourceOf next n Reads υ (at + 2 ^ d) x
     settled-passed at τ υ y x h = go (eqb (deepOf τ + 1) (i + 1)) refl
@@ -357,7 +357,7 @@ module _ {Tape : Type 0} (deepOf : Tape → ℕ) (sourceOf : Tape → Source) (n
               middle-odd d (i - 1 - deepOf τ) k (a .0) at z (a .1 ∙ ap (λ (m : ℕ). a .0 * 2 ^ m) e)
 
       -- in its text, from the tape it has after the first half
-      text-next : (τ υ : Tape) (y : Source) (x : Input) → at + 2 ^ d < c → Reads τ at x
+      pub text-next : (τ υ : Tape) (y : Source) (x : Input) → at + 2 ^ d < c → Reads τ at x
           → Passed deepOf sourceOf next n Reads (at + 2 ^ d) (settle deepOf sourceOf next (i + 1) (texted τ y)) x υ
           → Reads (next υ) (at + 2 ^ d) x
       text-next τ υ y x l h q =
@@ -411,7 +411,7 @@ module _ {Tape : Type 0} (deepOf : Tape → ℕ) (sourceOf : Tape → Source) (n
     -- ---- All inputs at the halves ---------------------------------------------------------------
 
     -- at the first half
-    all-first : (at : ℕ) (fs : List (Feed Tape)) (xs : List Input) → AllFed deepOf sourceOf next n Reads i (suc d) at fs xs
+    pub all-first : (at : ℕ) (fs : List (Feed Tape)) (xs : List Input) → AllFed deepOf sourceOf next n Reads i (suc d) at fs xs
         → AllFed deepOf sourceOf next n Reads (i + 1) d at (firstFeeds deepOf sourceOf next i fs) xs
     all-first at [] [] h = tt
     all-first at [] (x ∷ xs) h = h
@@ -420,7 +420,7 @@ module _ {Tape : Type 0} (deepOf : Tape → ℕ) (sourceOf : Tape → Source) (n
 
     module _ (k at : ℕ) (z : at ≡ k * 2 ^ suc d) (l : at + 2 ^ d < c) where
       -- at the second half, with the tapes they have after the first
-      all-second : (fs : List (Feed Tape)) (xs : List Input) (υs : List Tape) → AllFed deepOf sourceOf next n Reads i (suc d) at fs xs
+      pub all-second : (fs : List (Feed Tape)) (xs : List Input) (υs : List Tape) → AllFed deepOf sourceOf next n Reads i (suc d) at fs xs
           → AllPassed deepOf sourceOf next n Reads (at + 2 ^ d) (firstFeeds deepOf sourceOf next i fs) xs υs
           → AllFed deepOf sourceOf next n Reads (i + 1) d (at + 2 ^ d) (secondFeeds deepOf sourceOf next i (resume fs υs)) xs
       all-second [] [] υs h q = tt
@@ -431,7 +431,7 @@ module _ {Tape : Type 0} (deepOf : Tape → ℕ) (sourceOf : Tape → Source) (n
           (fed-second k at z f x υ l (h .0) (q .0), all-second fs xs υs (h .1) (q .1))
 
       -- after it
-      all-passed : (fs : List (Feed Tape)) (xs : List Input) (υs φs : List Tape) → AllFed deepOf sourceOf next n Reads i (suc d) at fs xs
+      pub all-passed : (fs : List (Feed Tape)) (xs : List Input) (υs φs : List Tape) → AllFed deepOf sourceOf next n Reads i (suc d) at fs xs
           → AllPassed deepOf sourceOf next n Reads (at + 2 ^ d) (firstFeeds deepOf sourceOf next i fs) xs υs
           → AllPassed deepOf sourceOf next n Reads (at + 2 ^ d + 2 ^ d) (secondFeeds deepOf sourceOf next i (resume fs υs)) xs φs
           → AllPassed deepOf sourceOf next n Reads (at + 2 ^ suc d) fs xs φs
@@ -445,7 +445,7 @@ module _ {Tape : Type 0} (deepOf : Tape → ℕ) (sourceOf : Tape → Source) (n
           (passed-second k at z f x υ φ l (h .0) (q .0) (r .0), all-passed fs xs υs φs (h .1) (q .1) (r .1))
 
   -- with no option left none is in its text
-  all-none : (i at : ℕ) (fs : List (Feed Tape)) (xs : List Input) → n < i → AllFed deepOf sourceOf next n Reads i 0 at fs xs
+  pub all-none : (i at : ℕ) (fs : List (Feed Tape)) (xs : List Input) → n < i → AllFed deepOf sourceOf next n Reads i 0 at fs xs
       → anyText fs ≡ false
   all-none i at [] [] l h = refl
   all-none i at [] (x ∷ xs) l h = refl

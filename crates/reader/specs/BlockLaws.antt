@@ -2,15 +2,16 @@
 -- count, and every word of it is decided by the table. Assumes nothing.
 use mathlib.Core.Path.{_≡_, refl, sym, ap, ap₂, _∙_, subst}
 use mathlib.Core.Logic.{⊎-elim}
-use mathlib.Core.Bool.{Bool, true, false}
-use mathlib.Core.List.{List}
+use mathlib.Core.Bool.{Bool, true, false, cond}
+use mathlib.Core.List.{List, []}
 use mathlib.Core.Option.{none}
 use Prim.Native.Nat.{ℕ, suc, _+_, _-_, _*_, _<_, _≤_, _^_}
 use native.Mathlib.Omega.{arith}
 use lib.ListN.{length}
 use borrow.Author.Tests.{lt-ltb}
 use Rattle.lists.specs.Lists.{decide-le}
-use Rattle.reading.specs.Reading.{State, Reading, reading}
+use Rattle.reading.specs.Nodes.{node}
+use Rattle.reading.specs.Reading.{State, Reading, level, isStart, reading}
 use Rattle.reading.specs.Deciding.{Decision, undecided, decided, complemented, options, Trace, traceOn, trace, decisionOf, decision}
 use Rattle.reading.specs.Calls.{Verdict, notYet, isNo, isYes, verdictOf, verdict}
 use Rattle.reading.specs.Covered.{grown-on, grown-count, trace-covered}
@@ -19,7 +20,9 @@ use Rattle.reading.specs.Passing.{startTrace}
 use Rattle.reading.specs.Settled.{never-some, trace-onward}
 use Rattle.reading.specs.Reaching.{At, at-fault, at-end, at-grows, at-most, at-passes}
 use Rattle.reading.specs.Aligned.{Multiple, at-nested, at-aligned}
-use Rattle.reader.specs.Cite.{causeOf}
+use Rattle.reading.specs.Lasting.{Lasts, Ordered, at-ordered, at-lasts, at-sits}
+use Rattle.reader.specs.Cite.{markOf, causeOf}
+use Rattle.reader.specs.Simulation.{child-of}
 use Rattle.reader.specs.TableLaws.{tableOf}
 use Rattle.reader.specs.Advance.{stateAt, HaltsAt}
 use Rattle.reader.specs.Loop.{Stands, stands-first, stands-covered, PassedLast, Ends, ReachedBy}
@@ -76,6 +79,34 @@ module _ (n : ℕ) (bytes : List ℕ) (r : Run) (o : Opens) (t : List (List ℕ)
     passed-aligned =
         subst (λ (d : ℕ). Multiple (n - d) (x .from)) (p .depth)
         (subst (Multiple (n - length (p .state .place .opens))) (p .covered) (at-aligned n bytes (p .before) (p .state) (p .here)))
+
+    passed-later : isStart (markOf (x .run .mark)) ≡ false
+    passed-later = p .later
+
+    -- The table after it is ordered,
+    passed-ordered : Ordered (tableOf u (x .run .size))
+    passed-ordered =
+        subst (λ (b : Bool). Ordered (cond b [] (tableOf u (x .run .size)))) (p .later)
+        (at-ordered n bytes (reached .stands .steps) s′ there)
+
+    -- the number that stands for it lies no higher than it,
+    passed-sits : 0 < x .run .last .number → x .deep + 1 ≤ node (tableOf u (x .run .size)) (x .run .last .number) .level
+    passed-sits =
+        subst (λ (d : ℕ). 0 < x .run .last .number → d + 1 ≤ node (tableOf u (x .run .size)) (x .run .last .number) .level) (p .depth)
+        (subst (λ (b : Bool). 0 < x .run .last .number → level (p .state .place)
+        ≤ node (cond b [] (tableOf u (x .run .size))) (x .run .last .number) .level) (p .later)
+        (subst (λ (k : ℕ). 0 < k → level (p .state .place) ≤ node (s′ .table) k .level) (sym (child-of (x .run .last)))
+        (at-sits n bytes (p .before) (p .state) s′ (p .here) there-last (omega (arith, p .covered, p .low, past .0)))))
+
+    -- and the table lasts from where r stands, if it has one.
+    passed-lasts : isStart (markOf (r .mark)) ≡ false → Lasts (tableOf t (r .size)) (tableOf u (x .run .size))
+    passed-lasts later =
+        subst (λ (b : Bool). Lasts (tableOf t (r .size)) (cond b [] (tableOf u (x .run .size)))) (p .later)
+        (subst (λ (b : Bool). Lasts (cond b [] (tableOf t (r .size))) (s′ .table)) later (⊎-elim
+        (λ (l : h .steps ≤ reached .stands .steps). at-lasts n bytes (h .steps) (reached .stands .steps) s s′ l (h .here) there)
+        (λ (l : reached .stands .steps < h .steps).
+        absurd (omega (arith, past .0, at-grows n bytes (reached .stands .steps) (h .steps) s′ s (omega (arith, l)) there (h .here))))
+        (decide-le (h .steps) (reached .stands .steps))))
 
     -- the loop reaches as much with a word of it as its stop
     passed-word : (w : ℕ) → x .from ≤ w → w < x .run .covered → ReachedBy n bytes w x u
@@ -176,6 +207,29 @@ module _ (n : ℕ) (bytes : List ℕ) (few : n ≤ 32) (c : Cursor) (t : List (L
     block-aligned =
         subst (λ (y : Block). Multiple (n - y .deep) (y .from)) (sym same-block)
         (passed-aligned n bytes (c .run) (c .opens) t h (z .reached) (z .table) reached on)
+
+    -- The cursor after it has a table, which is ordered and lasts from the cursor before, if that has one;
+    pub block-later : isStart (markOf (b .cursor .run .mark)) ≡ false
+    block-later =
+        subst (λ (y : Block). isStart (markOf (y .cursor .run .mark)) ≡ false) (sym same-block)
+        (passed-later n bytes (c .run) (c .opens) t h (z .reached) (z .table) reached on)
+
+    pub block-ordered : Ordered (tableOf u (b .cursor .run .size))
+    block-ordered =
+        subst (λ (y : Next). Ordered (tableOf (y .table) (y .block .cursor .run .size))) (sym same)
+        (passed-ordered n bytes (c .run) (c .opens) t h (z .reached) (z .table) reached on)
+
+    pub block-lasts : isStart (markOf (c .run .mark)) ≡ false → Lasts (tableOf t (c .run .size)) (tableOf u (b .cursor .run .size))
+    block-lasts later =
+        subst (λ (y : Next). Lasts (tableOf t (c .run .size)) (tableOf (y .table) (y .block .cursor .run .size))) (sym same)
+        (passed-lasts n bytes (c .run) (c .opens) t h (z .reached) (z .table) reached on later)
+
+    -- the block's number lies no higher than the block,
+    pub block-sits : 0 < b .number → b .deep + 1 ≤ node (tableOf u (b .cursor .run .size)) (b .number) .level
+    block-sits =
+        subst (λ (y : Next). 0 < y .block .number
+        → y .block .deep + 1 ≤ node (tableOf (y .table) (y .block .cursor .run .size)) (y .block .number) .level) (sym same)
+        (passed-sits n bytes (c .run) (c .opens) t h (z .reached) (z .table) reached on)
 
     -- and EVERY WORD OF IT is decided by the table.
     pub block-decides : (w : ℕ) → b .from ≤ w → w < b .cursor .run .covered

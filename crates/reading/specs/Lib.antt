@@ -25,3 +25,4 @@ pub mod ParentCounts
 pub mod Filling
 pub mod Reaching
 pub mod Aligned
+pub mod Lasting

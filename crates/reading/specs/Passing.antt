@@ -24,7 +24,7 @@ use Rattle.reading.specs.TableWalk.{rowWalk, storable, current, Tied, Ti
 -- ---- The node that ended last is current -----------------------------------------------------
 
 -- a kept node that has just ended: its number was not given out again since
-abbrev Current : State → Type 0
+abbrev pub Current : State → Type 0
 Current s = ended (s .place .mark) ≡ true → isKept (s .place .last) ≡ true → bars (s .table) (s .place .last) ≡ false
 
 entry-current : (t : List Node) (k g : ℕ) → stamp t k ≡ g → bars t (entry k g) ≡ false
@@ -50,9 +50,9 @@ current-move n s d r x h c (stores a k e b₁ b₂ q) =
 current-move n s d r x h c (ends a e j) = λ _ k. c e k
 
 -- what holds of a trace: it is tied, and what ended last is current
-record CurrentTrace (n : ℕ) (t : Trace) : Type 0 where
-  tied : TiedTrace n t
-  last : Current (t .reading .state)
+pub record CurrentTrace (n : ℕ) (t : Trace) : Type 0 where
+  pub tied : TiedTrace n t
+  pub last : Current (t .reading .state)
 
 current-next : (n : ℕ) (bytes : List ℕ) (t : Trace) → CurrentTrace n t → CurrentTrace n (nextTrace n bytes t)
 unfolding nextTrace next
@@ -71,7 +71,7 @@ current-from (suc f) n bytes t h = current-from f n bytes (nextTrace n bytes t) 
 abbrev pub startTrace : Trace
 startTrace = traced (goes fresh) (drawing [] [])
 
-current-on : (f n : ℕ) (bytes : List ℕ) → CurrentTrace n (traceOn f n bytes startTrace)
+pub current-on : (f n : ℕ) (bytes : List ℕ) → CurrentTrace n (traceOn f n bytes startTrace)
 unfolding traceOn
 current-on f n bytes = current-from f n bytes startTrace (record { tied = tied-on 0 n bytes; last = λ i _. absurd (false≢true i) })
 

@@ -66,7 +66,7 @@ rowWalk-go t i c o os z h = rowWalk-cons t i c o os ∙ rw (ne-eqb c 0 z, le-ltb
 -- ---- A storing -------------------------------------------------------------------------------
 
 -- a number without parents is nobody's child
-child-none : (t : List Node) (j k : ℕ) → (k ≡ 0 → ⊥) → hasParent t k ≡ false → (node t j .first ≡ k → ⊥) × (node t j .second ≡ k → ⊥)
+pub child-none : (t : List Node) (j k : ℕ) → (k ≡ 0 → ⊥) → hasParent t k ≡ false → (node t j .first ≡ k → ⊥) × (node t j .second ≡ k → ⊥)
 unfolding hasParent
 child-none [] j k z h = (λ e. z (sym e), λ e. z (sym e))
 child-none (x ∷ t) zero k z h = let f = or-l (isChild k x) (hasParent t k) h in (eqb-false _ _ (or-l (eqb (x .first) k) _ f), eqb-false _ _ (or-r (eqb (x .first) k) _ f))

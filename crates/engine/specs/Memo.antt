@@ -1,0 +1,85 @@
+-- What a combiner remembers of parts that it walked: rows of cells, each with what a part came to and with the edges at which its inputs
+-- stood. A later entry overwrites one of the same row. Definitions only; MemoLaws says what is true of them. Assumes nothing.
+use mathlib.Core.Bool.{Bool, true, false, cond, not, _&&_, _||_}
+use mathlib.Core.List.{List, [], _∷_, _++_}
+use Prim.Native.Nat.{ℕ, _+_, _-_, _*_, _%_}
+use lib.Dec.{eqb}
+use lib.ListN.{length, getD, set, drop}
+use Rattle.lists.specs.Lists.{bit}
+use Rattle.reading.specs.Nodes.{stamp}
+use Rattle.engine.specs.Cells.{cell}
+use Rattle.engine.specs.Engine.{Half, constantHalf, numberHalf}
+use Rattle.engine.specs.Applying.{Source}
+
+-- A row: 0 if it is empty, else 1, and 2 if the part is complemented; the number that the part came to (0: the constant) and its stamp;
+-- then three cells of each input: the number at which it stood (0: the constant), the stamp of that in its table, and 1 if it is turned
+-- about. Further cells are not asked.
+
+-- ---- The key ---------------------------------------------------------------------------------
+
+-- the cells of the inputs
+abbrev pub keyOf : List Source → List ℕ
+keyOf [] = []
+keyOf (x ∷ xs) = x .number ∷ stamp (x .table) (x .number) ∷ bit (x .turned) ∷ keyOf xs
+
+-- they are the first of the cells r
+abbrev pub sameKey : List ℕ → List Source → Bool
+sameKey r [] = true
+sameKey r (x ∷ xs) =
+    eqb (getD r 0 0) (x .number) && (eqb (getD r 1 0) (stamp (x .table) (x .number)) && (eqb (getD r 2 0) (bit (x .turned))
+    && sameKey (drop 3 r) xs))
+
+-- ---- What a row says -------------------------------------------------------------------------
+
+abbrev pub isEmpty : List ℕ → Bool
+isEmpty r = eqb (getD r 0 0) 0
+
+abbrev pub numberIn : List ℕ → ℕ
+numberIn r = getD r 1 0
+
+abbrev pub stampIn : List ℕ → ℕ
+stampIn r = getD r 2 0
+
+abbrev pub complementIn : List ℕ → Bool
+complementIn r = eqb (getD r 0 0) 2
+
+-- the number still has that stamp in the records t; the constant always counts
+abbrev pub isYoung : List ℕ → List (List ℕ) → Bool
+isYoung r t = eqb (numberIn r) 0 || eqb (cell t 4 (numberIn r)) (stampIn r)
+
+-- the row tells what a part comes to whose inputs stand at xs
+abbrev pub tells : List ℕ → List Source → List (List ℕ) → Bool
+tells r xs t = not (isEmpty r) && (sameKey (drop 3 r) xs && isYoung r t)
+
+-- the part of level i that it tells
+abbrev pub toldHalf : List ℕ → ℕ → List (List ℕ) → Half
+toldHalf r i t =
+    cond (eqb (numberIn r) 0) (constantHalf (complementIn r))
+    (numberHalf (numberIn r) (stampIn r) (cell t 0 (numberIn r) - i) (complementIn r) false)
+
+-- ---- Looking up and noting -------------------------------------------------------------------
+
+-- hash: the row for a key, any function; past the rows of the memo nothing is found and nothing noted
+abbrev pub rowFor : (List ℕ → ℕ) → List (List ℕ) → List Source → List ℕ
+rowFor hash μ xs = getD μ (hash (keyOf xs)) []
+
+-- a part whose inputs stand at xs is known
+abbrev pub lookIn : (List ℕ → ℕ) → List (List ℕ) → List Source → List (List ℕ) → Bool
+lookIn hash μ xs t = tells (rowFor hash μ xs) xs t
+
+-- the row r with what the part came to
+abbrev pub noteRow : List ℕ → List Source → Half → List ℕ
+noteRow r xs h =
+    let z = keyOf xs in
+    (bit (h .complement) + 1) ∷ h .number ∷ h .stamp ∷ (z ++ drop (length z + 3) r)
+
+-- it came to h; a temporary node is not remembered
+unfoldable pub rememberIn : (List ℕ → ℕ) → List (List ℕ) → List Source → Half → List (List ℕ)
+rememberIn hash μ xs h = cond (h .temporary) μ (set μ (hash (keyOf xs)) (noteRow (rowFor hash μ xs) xs h))
+
+-- ---- A hash ----------------------------------------------------------------------------------
+
+-- one of c rows by the cells z, from the sum v on
+unfoldable pub mixed : ℕ → ℕ → List ℕ → ℕ
+mixed c v [] = v
+mixed c v (z ∷ zs) = mixed c ((v * 269 + z) % c) zs

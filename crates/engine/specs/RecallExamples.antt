@@ -1,0 +1,216 @@
+-- Runs computed: a walk with a memo sends what the walk without one sends, in fewer steps. Assumes nothing.
+use mathlib.Core.Path.{_≡_, refl}
+use mathlib.Core.Bool.{Bool, true, false, cond, _&&_, _||_}
+use mathlib.Core.List.{List, [], _∷_, _++_}
+use Prim.Native.Nat.{ℕ, zero, suc, _+_, _-_}
+use lib.ListN.{take, replicate}
+use Rattle.lists.specs.Lists.{differ}
+use Rattle.reading.specs.Bytes.{opener, text}
+use Rattle.reading.specs.Nodes.{Node, newNode, noNode}
+use Rattle.writing.specs.Texts.{tildeIf, digits, decimal}
+use Rattle.engine.specs.Cells.{cell, putCell}
+use Rattle.engine.specs.Recycling.{leaveIn, joinIn, freeOf, searchIn, findIn, shelveIn, unshelveIn, moreIn, fewerIn, orphanIn, orphansIn, releaseIn, adoptIn, noteIn, placeIn, storeIn, nextIn}
+use Rattle.engine.specs.Pending.{pushAll, waitIn, closeIn, sentTo}
+use Rattle.engine.specs.Engine.{Pen, endIn, writeNode, giveIn, knownIn, meetIn}
+use Rattle.engine.specs.Applying.{Source, firstSources, secondSources, turns, fixed, applyIn}
+use Rattle.engine.specs.Memo.{lookIn, rememberIn, mixed}
+use Rattle.engine.specs.Recalling.{alikePart, recallIn}
+
+-- ---- Steps -----------------------------------------------------------------------------------
+
+-- how many parts are walked: one, and those of the halves unless op is fixed or the memo tells it
+unfoldable stepsIn : (List ℕ → ℕ) → (List Bool → Bool) → ℕ → ℕ → ℕ → ℕ → List Source → List (List ℕ) → List (List ℕ) → List ℕ
+    → List ℕ → Pen → ℕ
+unfolding fixed recallIn
+stepsIn hash op size zero i m xs μ t out w pen = 1
+stepsIn hash op size (suc d) i m xs μ t out w pen =
+    let p = pushAll w m (opener ∷ []) in
+    let ys = firstSources i xs in
+    let a = recallIn hash op size d (i + 1) (p .count) ys μ t out (p .bytes) pen in
+    let h = a .walked .half in
+    let turned = differ (h .complement) (op (turns (secondSources i xs))) in
+    let q = waitIn (a .walked .waits) (p .count) (h .wrote) (h .skipped) (h .number) in
+    let r = pushAll (q .bytes) (q .count) (tildeIf turned) in
+    let u = stepsIn hash op size d (i + 1) (p .count) ys μ t out (p .bytes) pen in
+    let v = stepsIn hash op size d (i + 1) (r .count) (secondSources i xs) (a .memo) (a .walked .table) (a .walked .output) (r .bytes)
+    (a .walked .pen) in
+    let both = 1 + u + v in
+    let one = 1 + u in
+    let c = cond (a .walked .pen .full || alikePart i xs h) one both in
+    let e = cond (lookIn hash μ xs t) 1 c in
+    cond (fixed op xs) 1 e
+
+-- ---- What is run -----------------------------------------------------------------------------
+
+-- parity of the last k options of n: number j is that of the last j
+abbrev parityRows : ℕ → ℕ → List Node
+parityRows n zero = []
+parityRows n (suc k) = parityRows n k ++ (newNode (n - k) k k true 1 ∷ [])
+
+abbrev parityOf : ℕ → Source
+parityOf n = record { table = noNode ∷ parityRows n n; number = n; turned = false }
+
+-- the last option
+abbrev lastOf : ℕ → Source
+lastOf n = record { table = noNode ∷ newNode n 0 0 true 1 ∷ []; number = 1; turned = false }
+
+-- two or more of three options
+abbrev majority : Source
+majority =
+    record {
+      table = noNode ∷ newNode 3 0 0 true 1 ∷ newNode 2 0 1 false 1 ∷ newNode 2 1 0 true 1 ∷ newNode 1 2 3 false 1 ∷ [];
+      number = 4;
+      turned = false;
+    }
+
+-- exclusive or
+abbrev xor : List Bool → Bool
+xor [] = false
+xor (b ∷ bs) = differ b (xor bs)
+
+-- and
+abbrev both : List Bool → Bool
+both [] = true
+both (b ∷ bs) = b && both bs
+
+-- records, output, memo
+abbrev records : List (List ℕ)
+records = replicate 1024 (replicate 12 0)
+
+abbrev rows : ℕ → List (List ℕ)
+rows c = replicate c (replicate 9 0)
+
+abbrev startPen : Pen
+startPen = record { given = 0; first = 0; last = 0; written = 0; full = false }
+
+-- what is sent without a memo, with one of c rows, and how many parts are then walked
+unfoldable plainly : (List Bool → Bool) → ℕ → ℕ → List Source → List ℕ
+unfolding applyIn digits decimal cell putCell leaveIn joinIn freeOf searchIn findIn shelveIn unshelveIn moreIn fewerIn orphanIn orphansIn releaseIn adoptIn noteIn placeIn storeIn nextIn pushAll waitIn closeIn sentTo writeNode giveIn knownIn meetIn fixed
+plainly op size n xs =
+    let x = endIn 0 (applyIn op size n 1 0 xs records (replicate 200 0) (replicate 300 0) startPen) in
+    take (x .written) (x .output)
+
+unfoldable recalled : ℕ → (List Bool → Bool) → ℕ → ℕ → List Source → List ℕ
+unfolding recallIn rememberIn mixed digits decimal cell putCell leaveIn joinIn freeOf searchIn findIn shelveIn unshelveIn moreIn fewerIn orphanIn orphansIn releaseIn adoptIn noteIn placeIn storeIn nextIn pushAll waitIn closeIn sentTo writeNode giveIn knownIn meetIn fixed
+recalled c op size n xs =
+    let x = endIn 0 (recallIn (mixed c 0) op size n 1 0 xs (rows c) records (replicate 200 0) (replicate 300 0) startPen .walked) in
+    take (x .written) (x .output)
+
+unfoldable steps : ℕ → (List Bool → Bool) → ℕ → ℕ → List Source → ℕ
+unfolding stepsIn recallIn rememberIn mixed digits decimal cell putCell leaveIn joinIn freeOf searchIn findIn shelveIn unshelveIn moreIn fewerIn orphanIn orphansIn releaseIn adoptIn noteIn placeIn storeIn nextIn pushAll waitIn closeIn sentTo writeNode giveIn knownIn meetIn fixed
+steps c op size n xs = stepsIn (mixed c 0) op size n 1 0 xs (rows c) records (replicate 200 0) (replicate 300 0) startPen
+
+-- ---- Examples --------------------------------------------------------------------------------
+
+-- all of three options: without a memo, with 64 rows, and with one row that each note overwrites
+all-three-plain : plainly both 4 3 (majority ∷ parityOf 3 ∷ []) ≡ text "(0(0(0~0):1):2):3."
+unfolding plainly text
+all-three-plain = refl
+
+all-three : recalled 64 both 4 3 (majority ∷ parityOf 3 ∷ []) ≡ text "(0(0(0~0):1):2):3."
+unfolding recalled text
+all-three = refl
+
+all-three-one-row : recalled 1 both 4 3 (majority ∷ parityOf 3 ∷ []) ≡ text "(0(0(0~0):1):2):3."
+unfolding recalled text
+all-three-one-row = refl
+
+-- with fewer numbers
+two-numbers-plain : plainly both 2 3 (majority ∷ parityOf 3 ∷ []) ≡ text "(0(0(0~0):1):2)."
+unfolding plainly text
+two-numbers-plain = refl
+
+two-numbers : recalled 64 both 2 3 (majority ∷ parityOf 3 ∷ []) ≡ text "(0(0(0~0):1):2)."
+unfolding recalled text
+two-numbers = refl
+
+two-numbers-one-row : recalled 1 both 2 3 (majority ∷ parityOf 3 ∷ []) ≡ text "(0(0(0~0):1):2)."
+unfolding recalled text
+two-numbers-one-row = refl
+
+one-number-plain : plainly both 1 3 (majority ∷ parityOf 3 ∷ []) ≡ text "(0(0(0~0):1))."
+unfolding plainly text
+one-number-plain = refl
+
+one-number : recalled 64 both 1 3 (majority ∷ parityOf 3 ∷ []) ≡ text "(0(0(0~0):1))."
+unfolding recalled text
+one-number = refl
+
+one-number-one-row : recalled 1 both 1 3 (majority ∷ parityOf 3 ∷ []) ≡ text "(0(0(0~0):1))."
+unfolding recalled text
+one-number-one-row = refl
+
+no-number-plain : plainly both 0 3 (majority ∷ parityOf 3 ∷ []) ≡ text "(0(0(0~0)))."
+unfolding plainly text
+no-number-plain = refl
+
+no-number : recalled 64 both 0 3 (majority ∷ parityOf 3 ∷ []) ≡ text "(0(0(0~0)))."
+unfolding recalled text
+no-number = refl
+
+no-number-one-row : recalled 1 both 0 3 (majority ∷ parityOf 3 ∷ []) ≡ text "(0(0(0~0)))."
+unfolding recalled text
+no-number-one-row = refl
+
+differ-four-plain : plainly xor 4 3 (majority ∷ parityOf 3 ∷ []) ≡ text "(((0~0):1~0):2~(0 1):3):4."
+unfolding plainly text
+differ-four-plain = refl
+
+differ-four : recalled 64 xor 4 3 (majority ∷ parityOf 3 ∷ []) ≡ text "(((0~0):1~0):2~(0 1):3):4."
+unfolding recalled text
+differ-four = refl
+
+differ-four-one-row : recalled 1 xor 4 3 (majority ∷ parityOf 3 ∷ []) ≡ text "(((0~0):1~0):2~(0 1):3):4."
+unfolding recalled text
+differ-four-one-row = refl
+
+-- number 2 is given out twice
+differ-two-plain : plainly xor 2 3 (majority ∷ parityOf 3 ∷ []) ≡ text "(((0~0):1~0):2~(0 1):2)."
+unfolding plainly text
+differ-two-plain = refl
+
+differ-two : recalled 64 xor 2 3 (majority ∷ parityOf 3 ∷ []) ≡ text "(((0~0):1~0):2~(0 1):2)."
+unfolding recalled text
+differ-two = refl
+
+differ-two-one-row : recalled 1 xor 2 3 (majority ∷ parityOf 3 ∷ []) ≡ text "(((0~0):1~0):2~(0 1):2)."
+unfolding recalled text
+differ-two-one-row = refl
+
+parity-four-plain : plainly xor 8 4 (parityOf 4 ∷ lastOf 4 ∷ []) ≡ text "(((0~0):1~1):2~2):3."
+unfolding plainly text
+parity-four-plain = refl
+
+parity-four : recalled 64 xor 8 4 (parityOf 4 ∷ lastOf 4 ∷ []) ≡ text "(((0~0):1~1):2~2):3."
+unfolding recalled text
+parity-four = refl
+
+parity-four-one-row : recalled 1 xor 8 4 (parityOf 4 ∷ lastOf 4 ∷ []) ≡ text "(((0~0):1~1):2~2):3."
+unfolding recalled text
+parity-four-one-row = refl
+
+parity-eight : recalled 64 xor 8 8 (parityOf 8 ∷ lastOf 8 ∷ []) ≡ text "(((((((0~0):1~1):2~2):3~3):4~4):5~5):6~6):7."
+unfolding recalled text
+parity-eight = refl
+
+-- parity of n options with the last: 4 n - 1 parts, where all words are 2 ^ (n + 1) - 1
+parity-steps-four : steps 64 xor 8 4 (parityOf 4 ∷ lastOf 4 ∷ []) ≡ 15
+unfolding steps
+parity-steps-four = refl
+
+parity-steps-five : steps 64 xor 8 5 (parityOf 5 ∷ lastOf 5 ∷ []) ≡ 19
+unfolding steps
+parity-steps-five = refl
+
+parity-steps-six : steps 64 xor 8 6 (parityOf 6 ∷ lastOf 6 ∷ []) ≡ 23
+unfolding steps
+parity-steps-six = refl
+
+parity-steps-eight : steps 64 xor 8 8 (parityOf 8 ∷ lastOf 8 ∷ []) ≡ 31
+unfolding steps
+parity-steps-eight = refl
+
+-- levels that all inputs pass over, above a constant
+passed-steps : steps 64 xor 8 8 (lastOf 8 ∷ lastOf 8 ∷ []) ≡ 10
+unfolding steps
+passed-steps = refl
