@@ -202,7 +202,7 @@ demand-3 z o n op size x y x₊ y₊ out out′ t u t′ u′ v v′ r r′ l e 
 
 -- ---- The calls ---------------------------------------------------------------------------------
 
--- What the contract of `combine` in crate writer says of a call: its answer, the three work tables and the output afterwards. There R is a record
+-- What the contract of `combine` in crate combiner says of a call: its answer, the three work tables and the output afterwards. There R is a record
 -- of 6 cells and S one of 12; z and o are all zero.
 abbrev pub Called : {R S : Type 0} → R → S → ℕ → ℕ → ℕ → List ℕ → List ℕ → List ℕ → List R → List R → List S → Result Answer → List R → List R → List S → List ℕ → Type 0
 Called z o n op size x y out t u v a p q w bytes = record { answer = a; first = p; second = q; third = w; output = bytes } ≡ combine z o n op size x y out t u v

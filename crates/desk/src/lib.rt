@@ -1,10 +1,10 @@
 // Writing and combining for C, as `include/rule.h` declares it.
 ghost use mathlib.Core.Path.{_≡_};
 ghost use Prim.Native.Nat.{ℕ};
-ghost use Rattle.writer.specs.Cite.{endingsOf, writingOf};
+ghost use Rattle.meeting.specs.Cite.{endingsOf, writingOf};
 ghost use Rattle.desk.specs.Numbers.{endingNumber, writtenNumbers, writeGiven, combineGiven};
-use writer::Ending;
-use writer::Writing;
+use meeting::Ending;
+use meeting::Writing;
 
 #[repr(C)]
 pub struct RuleWritten {
@@ -87,7 +87,7 @@ pub extern "C" fn rule_combine(
 ) -> RuleWritten
     ensures { λ r. ⌜ record { answer = r; first = now (table1 .exit); second = now (table2 .exit); third = now (table3 .exit); output = now (output .exit) } ≡ combineGiven n op size (now (stream1 .entry)) (now (stream2 .entry)) (now (output .entry)) (now (table1 .entry)) (now (table2 .entry)) (now (table3 .entry)) ⌝ }
 {
-    written_numbers(writer::combine(
+    written_numbers(combiner::combine(
         n,
         op,
         size,

@@ -1,5 +1,6 @@
 -- The writer as code has it: on lists of cells and bytes
 pub mod Cells
+pub mod Hashing
 pub mod Recycling
 pub mod Pending
 pub mod Engine

@@ -8,6 +8,7 @@ use lib.Dec.{eqb, ltb}
 use Rattle.reading.specs.Limits.{tableLimit}
 use Rattle.writing.specs.Links.{stops}
 use Rattle.engine.specs.Cells.{cell, putCell}
+use Rattle.engine.specs.Hashing.{stir}
 
 -- ---- Numbers linked both ways ----------------------------------------------------------------
 
@@ -41,7 +42,7 @@ freeOf t x a b =
 
 -- the bucket of a node with this level, these children, this complement: 1 .. tableLimit
 abbrev pub bucketOf : ℕ → ℕ → ℕ → ℕ → ℕ
-bucketOf i a b c = (a * 269 + b * 31 + i * 7 + c) % tableLimit + 1
+bucketOf i a b c = stir 2246822519 (stir 2654435769 (((a * 2048 + b) * 64 + i) * 2 + c)) % tableLimit + 1
 
 -- that of the node which has number k
 abbrev pub bucketAt : List (List ℕ) → ℕ → ℕ

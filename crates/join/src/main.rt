@@ -9,17 +9,17 @@ ghost use Rattle.reader.specs.Answers.{refusalOf};
 ghost use Rattle.writing.specs.Texts.{decimal};
 ghost use Rattle.writing.specs.Join.{pieces, sameBytes, operatorNames, operatorOf, valueOn, numberOf, fiveLines, endingName, report, badJob, answered, join};
 ghost use Rattle.engine.specs.Pending.{pushAll};
-ghost use Rattle.writer.specs.Cite.{endingsOf, writtenOf, writingOf};
+ghost use Rattle.meeting.specs.Cite.{endingsOf, writtenOf, writingOf};
 ghost use Rattle.join.specs.Cite.{fieldOf, Heads, unknownHeading, jobIn, Ordered, otherLines, operatorRows, rowOf, namedAt, nameAt};
 ghost use Rattle.join.specs.Cuts.{cutAt};
 ghost use Rattle.join.specs.Printing.{refusedText, wordsText, doneText, Settled};
 ghost use Rattle.join.specs.Got.{Within};
 use libc::STDIN_FILENO;
 use libc::STDOUT_FILENO;
+use meeting::Ending;
+use meeting::Writing;
+use meeting::Written;
 use reader::Refusal;
-use writer::Ending;
-use writer::Writing;
-use writer::Written;
 
 // ---- Lines and fields
 
@@ -381,7 +381,7 @@ fn run(n: u32, op: u32, size: u32, x: &[u8], y: &[u8], w: &mut [u8]) -> usize
     let mut t = [[0u32; 6]; 1024];
     let mut u = [[0u32; 6]; 1024];
     let mut v = [[0u32; 12]; 1024];
-    let a = writer::combine(n, op, size, x, y, &mut out, &mut t, &mut u, &mut v);
+    let a = combiner::combine(n, op, size, x, y, &mut out, &mut t, &mut u, &mut v);
     print(n, a, &out, w)
 }
 

@@ -1,2 +1,2 @@
-# crates/writer/src/lib.rt
+# crates/combiner/src/lib.rt
 /^fn finish/,/^}/s/^    if covered == 1u64 << n {/    if covered <= 1u64 << n {/

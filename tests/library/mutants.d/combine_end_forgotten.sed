@@ -1,2 +1,2 @@
-# crates/writer/src/lib.rt
+# crates/combiner/src/lib.rt
 /^fn texts/,/^}/s/return ended_at(a);/return a;/

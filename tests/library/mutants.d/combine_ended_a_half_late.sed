@@ -1,2 +1,2 @@
-# crates/writer/src/lib.rt
+# crates/combiner/src/lib.rt
 /^fn texts/,/^}/s/^    if k\.covered <= mid {/    if k.covered < mid {/

@@ -1,2 +1,2 @@
-# crates/writer/src/lib.rt
-/^fn after_first/,/^}/s/stream: 2,/stream: 1,/
+# crates/combiner/src/lib.rt
+/^fn in_second/,/^}/s/stream: 2,/stream: 1,/

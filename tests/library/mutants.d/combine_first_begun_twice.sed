@@ -1,2 +1,2 @@
-# crates/writer/src/lib.rt
+# crates/combiner/src/lib.rt
 /^fn nodes/,/^}/s/begun(k\.n, y, t2)/begun(k.n, x, t2)/

@@ -1,2 +1,2 @@
-# crates/writer/src/lib.rt
+# crates/combiner/src/lib.rt
 /^fn first_edge/,/^}/s/number: r\.first,/number: r.second,/

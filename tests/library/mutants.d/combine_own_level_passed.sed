@@ -1,2 +1,2 @@
-# crates/writer/src/lib.rt
+# crates/combiner/src/lib.rt
 /^fn is_passed/,/^}/s/^    i < r\.level/    i <= r.level/

@@ -1,2 +1,2 @@
-# crates/writer/src/lib.rt
+# crates/combiner/src/lib.rt
 s/^    let z = both_checked(a, b);/    let z = both_checked(b, a);/

@@ -1,2 +1,2 @@
-# crates/writer/src/lib.rt
+# crates/combiner/src/lib.rt
 /^fn second_edge/,/^}/s/turned: differs(r\.complement, x\.turned),/turned: x.turned,/

@@ -1,4 +1,4 @@
-# crates/writer/src/lib.rt
+# crates/combiner/src/lib.rt
 /^    let b = check(n, y, t2);/{
 n
 s/^    clear(t);/    \/\/ clear(t);/

@@ -1,2 +1,2 @@
-# crates/writer/src/lib.rt
+# crates/combiner/src/lib.rt
 /^pub fn combine/,/^}/s/^    if t\.len() < 1024 {/    if t.len() < 1023 {/

@@ -1,2 +1,2 @@
-# crates/writer/src/lib.rt
+# crates/combiner/src/lib.rt
 /^fn turn_of/,/^}/s/return b\.turned;/return f.turned;/

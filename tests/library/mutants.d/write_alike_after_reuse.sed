@@ -1,2 +1,2 @@
-# crates/writer/src/lib.rt
+# crates/meeting/src/lib.rt
 /^fn alike_number/,/^}/s/^    if is_stale(t, a) {/    if is_stale(t, b) {/

@@ -1,2 +1,2 @@
-# crates/writer/src/lib.rt
+# crates/unique_table/src/lib.rt
 /^fn orphans/,/^}/s/^    if x == y {/    if x == 0 {/

@@ -1,2 +1,2 @@
-# crates/writer/src/lib.rt
+# crates/pending_text/src/lib.rt
 s/^        full: room < c,/        full: room <= c,/

@@ -1,2 +1,2 @@
-# crates/writer/src/lib.rt
-/^fn send(/,/^}/s/^    let room = less(out.len(), at);/    let room = less(out.len(), at + 1);/
+# crates/pending_text/src/lib.rt
+/^pub fn send(/,/^}/s/^    let room = less(out.len(), at);/    let room = less(out.len(), at + 1);/

@@ -1,2 +1,2 @@
-# crates/writer/src/lib.rt
-/^fn known/,/^}/s/^    let g = get(t, 4, k);/    let g = get(t, 4, k); let e = Ends { first: pen.first, last: pen.last }; let e = if get(t, 5, k) == 0 { leave(t, 6, e, k) } else { e }; let e = if get(t, 5, k) == 0 { join(t, 6, e, k) } else { e }; let pen = Pen { written: pen.written, given: pen.given, first: e.first, last: e.last, full: pen.full };/
+# crates/meeting/src/lib.rt
+/^fn known/,/^}/s/^    let g = stamp_of(t, k);/    let g = stamp_of(t, k); let q = (k - 1) as usize; let pen = if t[q][5] == 0 \&\& pen.last != k { let l = pen.last; let p = t[q][7]; let x = t[q][6]; if p != 0 { t[(p - 1) as usize][6] = x; } t[(x - 1) as usize][7] = p; t[(l - 1) as usize][6] = k; t[q][7] = l; t[q][6] = 0; Pen { written: pen.written, given: pen.given, first: either(p == 0, x, pen.first), last: k, full: pen.full } } else { pen };/

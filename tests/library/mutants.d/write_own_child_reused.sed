@@ -1,2 +1,2 @@
-# crates/writer/src/lib.rt
+# crates/unique_table/src/lib.rt
 /^fn is_free/,/^}/s/^    b != x$/    true/

@@ -1,2 +1,2 @@
-# crates/writer/src/lib.rt
+# crates/unique_table/src/lib.rt
 /^fn release/,/^}/s/^    orphans(t, f, x, y)/    orphans(t, f, y, x)/

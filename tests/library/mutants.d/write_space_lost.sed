@@ -1,2 +1,2 @@
-# crates/writer/src/lib.rt
+# crates/meeting/src/lib.rt
 /^fn is_spaced/,/^}/s/^    if a.skipped != 0 {/    if a.wrote {/

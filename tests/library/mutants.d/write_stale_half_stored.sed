@@ -1,2 +1,2 @@
-# crates/writer/src/lib.rt
+# crates/meeting/src/lib.rt
 /^fn is_stale/,/^}/s/!= a\.stamp$/< a.stamp/

@@ -1,2 +1,2 @@
-# crates/writer/src/lib.rt
+# crates/unique_table/src/lib.rt
 /^fn free/,/^}/s/^    get(t, 6, y)/    0/

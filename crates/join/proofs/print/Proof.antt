@@ -8,7 +8,7 @@ use lib.ListN.{length}
 use Rattle.reading.specs.Causes.{Result}
 use Rattle.writing.specs.Run.{Answer}
 use Rattle.writing.specs.Join.{report}
-use Rattle.writer.specs.Cite.{writingOf}
+use Rattle.meeting.specs.Cite.{writingOf}
 use Rattle.join.specs.Printing.{Settled, report-refused, report-done}
 
 enum-known-a : tie.Need-enum-known-a

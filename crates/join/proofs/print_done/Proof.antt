@@ -5,7 +5,7 @@ use Rattle.join.proofs.print_done.Statement.{statement}
 use Rattle.join.proofs.print_done.Tie as tie
 use mathlib.Core.Path.{sym}
 use lib.Seq.{length-take-le}
-use Rattle.writer.specs.Cite.{writtenOf}
+use Rattle.meeting.specs.Cite.{writtenOf}
 use Rattle.join.specs.Printing.{done-there}
 
 slice-aggregate-push-text : tie.Need-slice-aggregate-push-text

@@ -4,7 +4,7 @@ use borrow.Author.Needs.{needs}
 use Rattle.join.proofs.push_words.Statement.{statement}
 use Rattle.join.proofs.push_words.Tie as tie
 use Rattle.reading.specs.Bytes.{text}
-use Rattle.writer.specs.Cite.{writtenOf}
+use Rattle.meeting.specs.Cite.{writtenOf}
 use Rattle.join.specs.Printing.{all-words, words-made, words-length}
 
 slice-aggregate-push-text : tie.Need-slice-aggregate-push-text

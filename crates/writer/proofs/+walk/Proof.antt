@@ -8,18 +8,18 @@ use Rattle.writer.proofs.walk.Reads as walk
 use Rattle.writer.proofs.walk.Kinds as walk-kinds
 use Rattle.writer.proofs.+walk.Lts-walk as walk-lts
 use Rattle.writer.proofs.all_bytes.Reads as all-bytes-reads
-use Rattle.writer.proofs.constant.Reads as constant-reads
-use Rattle.writer.proofs.differs.Reads as differs-reads
-use Rattle.writer.proofs.half_of.Reads as half-of-reads
+use Rattle.meeting.proofs.constant.Reads as constant-reads
+use Rattle.meeting.proofs.differs.Reads as differs-reads
+use Rattle.meeting.proofs.half_of.Reads as half-of-reads
 use Rattle.writer.proofs.is_again.Reads as is-again-reads
-use Rattle.writer.proofs.kept.Reads as kept-reads
-use Rattle.writer.proofs.numbered.Reads as numbered-reads
-use Rattle.writer.proofs.pen_of.Reads as pen-of-reads
-use Rattle.writer.proofs.push.Reads as push-reads
-use Rattle.writer.proofs.push_turn.Reads as push-turn-reads
-use Rattle.writer.proofs.second.Reads as second-reads
+use Rattle.meeting.proofs.kept.Reads as kept-reads
+use Rattle.meeting.proofs.numbered.Reads as numbered-reads
+use Rattle.meeting.proofs.pen_of.Reads as pen-of-reads
+use Rattle.pending_text.proofs.push.Reads as push-reads
+use Rattle.pending_text.proofs.push_turn.Reads as push-turn-reads
+use Rattle.meeting.proofs.second.Reads as second-reads
 use Rattle.writer.proofs.truth.Reads as truth-reads
-use Rattle.writer.proofs.wait.Reads as wait-reads
+use Rattle.pending_text.proofs.wait.Reads as wait-reads
 use Rattle.writer.proofs.+walk.{statement}
 use Rattle.writer.proofs.+walk.Tie.{close}
 use mathlib.Core.Path.{_≡_, sym, ap, _∙_}
@@ -28,1503 +28,361 @@ use Prim.Native.Nat.{suc, _+_, _*_, _-_, _%_, _≤_, _^_}
 use Rattle.lists.specs.Lists.{differ}
 use Rattle.engine.specs.PendingMade.{few-words}
 use Rattle.engine.specs.EngineMade.{walk-word, walk-no, walk-yes, walk-full, walk-on, walk-repeat}
-use Rattle.writer.specs.Cite.{halfOf, penOf, again-as}
+use Rattle.meeting.specs.Cite.{halfOf, penOf, again-as}
 use Rattle.reader.specs.TruthLaws.{both-halves}
 
 abbrev μ-walk : Measures 4 walk-kinds.ps ℕ
 μ-walk κs a = a .1 .1 .0
 
-abbrev walk-at : ℕ → In 4 walk-kinds.ps
-walk-at t = and 4 walk-kinds.ps (is 4 walk-kinds.ps μ-walk t) walk.Pre
+abbrev at : ℕ → In 4 walk-kinds.ps
+at t = and 4 walk-kinds.ps (is 4 walk-kinds.ps μ-walk t) walk.Pre
 
-abbrev walk-below : ℕ → In 4 walk-kinds.ps
-walk-below t = and 4 walk-kinds.ps (falls 4 walk-kinds.ps _<_ μ-walk t) walk.Pre
+abbrev below : ℕ → In 4 walk-kinds.ps
+below t = and 4 walk-kinds.ps (falls 4 walk-kinds.ps _<_ μ-walk t) walk.Pre
 
-walk-truth-requires : (t : ℕ) → walk-lts.Need-truth-requires (
-  truth-reads.Asked,
-  truth-reads.Learnt,
-  constant-reads.Asked,
-  constant-reads.Learnt,
-  kept-reads.Asked,
-  kept-reads.Learnt,
-  all-bytes-reads.Asked,
-  all-bytes-reads.Learnt,
-  push-reads.Asked,
-  push-reads.Learnt,
-  walk-below t,
-  walk.Post,
-  pen-of-reads.Asked,
-  pen-of-reads.Learnt,
-  half-of-reads.Asked,
-  half-of-reads.Learnt,
-  differs-reads.Asked,
-  differs-reads.Learnt,
-  wait-reads.Asked,
-  wait-reads.Learnt,
-  push-turn-reads.Asked,
-  push-turn-reads.Learnt,
-  is-again-reads.Asked,
-  is-again-reads.Learnt,
-  numbered-reads.Asked,
-  numbered-reads.Learnt,
-  second-reads.Asked,
-  second-reads.Learnt,
-) (walk-at t) walk.Post
-walk-truth-requires t c κs = search needs
+module _ (t : ℕ) where
+  -- what each callee asks, and what it gives
+  abbrev K : walk-lts.Claims
+  K = (
+    truth-reads.Asked,
+    truth-reads.Learnt,
+    constant-reads.Asked,
+    constant-reads.Learnt,
+    kept-reads.Asked,
+    kept-reads.Learnt,
+    all-bytes-reads.Asked,
+    all-bytes-reads.Learnt,
+    push-reads.Asked,
+    push-reads.Learnt,
+    below t,
+    walk.Post,
+    pen-of-reads.Asked,
+    pen-of-reads.Learnt,
+    half-of-reads.Asked,
+    half-of-reads.Learnt,
+    differs-reads.Asked,
+    differs-reads.Learnt,
+    wait-reads.Asked,
+    wait-reads.Learnt,
+    push-turn-reads.Asked,
+    push-turn-reads.Learnt,
+    is-again-reads.Asked,
+    is-again-reads.Learnt,
+    numbered-reads.Asked,
+    numbered-reads.Learnt,
+    second-reads.Asked,
+    second-reads.Learnt,
+  )
 
-walk-constant-requires : (t : ℕ) → walk-lts.Need-constant-requires (
-  truth-reads.Asked,
-  truth-reads.Learnt,
-  constant-reads.Asked,
-  constant-reads.Learnt,
-  kept-reads.Asked,
-  kept-reads.Learnt,
-  all-bytes-reads.Asked,
-  all-bytes-reads.Learnt,
-  push-reads.Asked,
-  push-reads.Learnt,
-  walk-below t,
-  walk.Post,
-  pen-of-reads.Asked,
-  pen-of-reads.Learnt,
-  half-of-reads.Asked,
-  half-of-reads.Learnt,
-  differs-reads.Asked,
-  differs-reads.Learnt,
-  wait-reads.Asked,
-  wait-reads.Learnt,
-  push-turn-reads.Asked,
-  push-turn-reads.Learnt,
-  is-again-reads.Asked,
-  is-again-reads.Learnt,
-  numbered-reads.Asked,
-  numbered-reads.Learnt,
-  second-reads.Asked,
-  second-reads.Learnt,
-) (walk-at t) walk.Post
-walk-constant-requires t c κs = search needs
+  truth-requires : walk-lts.Need-truth-requires K (at t) walk.Post
+  truth-requires c κs = tt
 
-walk-kept-requires : (t : ℕ) → walk-lts.Need-kept-requires (
-  truth-reads.Asked,
-  truth-reads.Learnt,
-  constant-reads.Asked,
-  constant-reads.Learnt,
-  kept-reads.Asked,
-  kept-reads.Learnt,
-  all-bytes-reads.Asked,
-  all-bytes-reads.Learnt,
-  push-reads.Asked,
-  push-reads.Learnt,
-  walk-below t,
-  walk.Post,
-  pen-of-reads.Asked,
-  pen-of-reads.Learnt,
-  half-of-reads.Asked,
-  half-of-reads.Learnt,
-  differs-reads.Asked,
-  differs-reads.Learnt,
-  wait-reads.Asked,
-  wait-reads.Learnt,
-  push-turn-reads.Asked,
-  push-turn-reads.Learnt,
-  is-again-reads.Asked,
-  is-again-reads.Learnt,
-  numbered-reads.Asked,
-  numbered-reads.Learnt,
-  second-reads.Asked,
-  second-reads.Learnt,
-) (walk-at t) walk.Post
-walk-kept-requires t c κs = search needs
+  constant-requires : walk-lts.Need-constant-requires K (at t) walk.Post
+  constant-requires c κs = tt
 
-walk-returns : (t : ℕ) → walk-lts.Need-returns (
-  truth-reads.Asked,
-  truth-reads.Learnt,
-  constant-reads.Asked,
-  constant-reads.Learnt,
-  kept-reads.Asked,
-  kept-reads.Learnt,
-  all-bytes-reads.Asked,
-  all-bytes-reads.Learnt,
-  push-reads.Asked,
-  push-reads.Learnt,
-  walk-below t,
-  walk.Post,
-  pen-of-reads.Asked,
-  pen-of-reads.Learnt,
-  half-of-reads.Asked,
-  half-of-reads.Learnt,
-  differs-reads.Asked,
-  differs-reads.Learnt,
-  wait-reads.Asked,
-  wait-reads.Learnt,
-  push-turn-reads.Asked,
-  push-turn-reads.Learnt,
-  is-again-reads.Asked,
-  is-again-reads.Learnt,
-  numbered-reads.Asked,
-  numbered-reads.Learnt,
-  second-reads.Asked,
-  second-reads.Learnt,
-) (walk-at t) walk.Post
-walk-returns t c = let a = c .before .before .before .before .before .before .before .args in
-    rw (c .kept .ensures, c .before .constant .ensures, c .before .before .truth .ensures)
-    (walk-word (a .v .now) (a .size) (a .d) (a .i) (a .at) (a .m) (a .t .now) (a .out .now) (a .w .now) (penOf (a .pen)) (c .before .before .before .if1 .taken))
+  kept-requires : walk-lts.Need-kept-requires K (at t) walk.Post
+  kept-requires c κs = tt
 
-walk-all-bytes-requires : (t : ℕ) → walk-lts.Need-all-bytes-requires (
-  truth-reads.Asked,
-  truth-reads.Learnt,
-  constant-reads.Asked,
-  constant-reads.Learnt,
-  kept-reads.Asked,
-  kept-reads.Learnt,
-  all-bytes-reads.Asked,
-  all-bytes-reads.Learnt,
-  push-reads.Asked,
-  push-reads.Learnt,
-  walk-below t,
-  walk.Post,
-  pen-of-reads.Asked,
-  pen-of-reads.Learnt,
-  half-of-reads.Asked,
-  half-of-reads.Learnt,
-  differs-reads.Asked,
-  differs-reads.Learnt,
-  wait-reads.Asked,
-  wait-reads.Learnt,
-  push-turn-reads.Asked,
-  push-turn-reads.Learnt,
-  is-again-reads.Asked,
-  is-again-reads.Learnt,
-  numbered-reads.Asked,
-  numbered-reads.Learnt,
-  second-reads.Asked,
-  second-reads.Learnt,
-) (walk-at t) walk.Post
-walk-all-bytes-requires t c κs = search needs
+  returns : walk-lts.Need-returns K (at t) walk.Post
+  returns c =
+      let c3 = c .before .before .before in
+      let c7 = c3 .before .before .before .before in
+      let a = c7 .args in
+      rw (c .kept .ensures, c .before .constant .ensures, c .before .before .truth .ensures)
+      (walk-word (a .v .now) (a .size) (a .d) (a .i) (a .at) (a .m) (a .t .now) (a .out .now) (a .w .now) (penOf (a .pen)) (c3 .if1 .taken))
 
-walk-constant-requires-2 : (t : ℕ) → walk-lts.Need-constant-requires-2 (
-  truth-reads.Asked,
-  truth-reads.Learnt,
-  constant-reads.Asked,
-  constant-reads.Learnt,
-  kept-reads.Asked,
-  kept-reads.Learnt,
-  all-bytes-reads.Asked,
-  all-bytes-reads.Learnt,
-  push-reads.Asked,
-  push-reads.Learnt,
-  walk-below t,
-  walk.Post,
-  pen-of-reads.Asked,
-  pen-of-reads.Learnt,
-  half-of-reads.Asked,
-  half-of-reads.Learnt,
-  differs-reads.Asked,
-  differs-reads.Learnt,
-  wait-reads.Asked,
-  wait-reads.Learnt,
-  push-turn-reads.Asked,
-  push-turn-reads.Learnt,
-  is-again-reads.Asked,
-  is-again-reads.Learnt,
-  numbered-reads.Asked,
-  numbered-reads.Learnt,
-  second-reads.Asked,
-  second-reads.Learnt,
-) (walk-at t) walk.Post
-walk-constant-requires-2 t c κs = search needs
+  all-bytes-requires : walk-lts.Need-all-bytes-requires K (at t) walk.Post
+  all-bytes-requires c κs = search needs
 
-walk-kept-requires-2 : (t : ℕ) → walk-lts.Need-kept-requires-2 (
-  truth-reads.Asked,
-  truth-reads.Learnt,
-  constant-reads.Asked,
-  constant-reads.Learnt,
-  kept-reads.Asked,
-  kept-reads.Learnt,
-  all-bytes-reads.Asked,
-  all-bytes-reads.Learnt,
-  push-reads.Asked,
-  push-reads.Learnt,
-  walk-below t,
-  walk.Post,
-  pen-of-reads.Asked,
-  pen-of-reads.Learnt,
-  half-of-reads.Asked,
-  half-of-reads.Learnt,
-  differs-reads.Asked,
-  differs-reads.Learnt,
-  wait-reads.Asked,
-  wait-reads.Learnt,
-  push-turn-reads.Asked,
-  push-turn-reads.Learnt,
-  is-again-reads.Asked,
-  is-again-reads.Learnt,
-  numbered-reads.Asked,
-  numbered-reads.Learnt,
-  second-reads.Asked,
-  second-reads.Learnt,
-) (walk-at t) walk.Post
-walk-kept-requires-2 t c κs = search needs
+  constant-requires-2 : walk-lts.Need-constant-requires-2 K (at t) walk.Post
+  constant-requires-2 c κs = tt
 
-walk-returns-2 : (t : ℕ) → walk-lts.Need-returns-2 (
-  truth-reads.Asked,
-  truth-reads.Learnt,
-  constant-reads.Asked,
-  constant-reads.Learnt,
-  kept-reads.Asked,
-  kept-reads.Learnt,
-  all-bytes-reads.Asked,
-  all-bytes-reads.Learnt,
-  push-reads.Asked,
-  push-reads.Learnt,
-  walk-below t,
-  walk.Post,
-  pen-of-reads.Asked,
-  pen-of-reads.Learnt,
-  half-of-reads.Asked,
-  half-of-reads.Learnt,
-  differs-reads.Asked,
-  differs-reads.Learnt,
-  wait-reads.Asked,
-  wait-reads.Learnt,
-  push-turn-reads.Asked,
-  push-turn-reads.Learnt,
-  is-again-reads.Asked,
-  is-again-reads.Learnt,
-  numbered-reads.Asked,
-  numbered-reads.Learnt,
-  second-reads.Asked,
-  second-reads.Learnt,
-) (walk-at t) walk.Post
-walk-returns-2 t c = let a = c .before .before .before .before .before .before .before .before .args in
-    let e : a .d ≡ suc (a .d - 1) = omega (arith, c .before .before .before .before .if1 .left) in
-    rw (c .kept2 .ensures, c .before .constant2 .ensures)
-    (walk-no (a .v .now) (a .size) (a .d - 1) (a .i) (a .at) (a .m) (a .t .now) (a .out .now) (a .w .now) (penOf (a .pen)) (a .d) e (sym (c .before .before .before .all-bytes .ensures) ∙ c .before .before .if2 .taken))
+  kept-requires-2 : walk-lts.Need-kept-requires-2 K (at t) walk.Post
+  kept-requires-2 c κs = tt
 
-walk-all-bytes-requires-2 : (t : ℕ) → walk-lts.Need-all-bytes-requires-2 (
-  truth-reads.Asked,
-  truth-reads.Learnt,
-  constant-reads.Asked,
-  constant-reads.Learnt,
-  kept-reads.Asked,
-  kept-reads.Learnt,
-  all-bytes-reads.Asked,
-  all-bytes-reads.Learnt,
-  push-reads.Asked,
-  push-reads.Learnt,
-  walk-below t,
-  walk.Post,
-  pen-of-reads.Asked,
-  pen-of-reads.Learnt,
-  half-of-reads.Asked,
-  half-of-reads.Learnt,
-  differs-reads.Asked,
-  differs-reads.Learnt,
-  wait-reads.Asked,
-  wait-reads.Learnt,
-  push-turn-reads.Asked,
-  push-turn-reads.Learnt,
-  is-again-reads.Asked,
-  is-again-reads.Learnt,
-  numbered-reads.Asked,
-  numbered-reads.Learnt,
-  second-reads.Asked,
-  second-reads.Learnt,
-) (walk-at t) walk.Post
-walk-all-bytes-requires-2 t c κs = search needs
+  returns-2 : walk-lts.Need-returns-2 K (at t) walk.Post
+  returns-2 c =
+      let c3 = c .before .before .before in
+      let c4 = c3 .before in
+      let c8 = c4 .before .before .before .before in
+      let a = c8 .args in
+      let e : a .d ≡ suc (a .d - 1) = omega (arith, c4 .if1 .left) in
+      rw (c .kept2 .ensures, c .before .constant2 .ensures)
+      (walk-no (a .v .now) (a .size) (a .d - 1) (a .i) (a .at) (a .m) (a .t .now) (a .out .now) (a .w .now) (penOf (a .pen)) (a .d) e (sym (c3 .all-bytes .ensures) ∙ c .before .before .if2 .taken))
 
-walk-constant-requires-3 : (t : ℕ) → walk-lts.Need-constant-requires-3 (
-  truth-reads.Asked,
-  truth-reads.Learnt,
-  constant-reads.Asked,
-  constant-reads.Learnt,
-  kept-reads.Asked,
-  kept-reads.Learnt,
-  all-bytes-reads.Asked,
-  all-bytes-reads.Learnt,
-  push-reads.Asked,
-  push-reads.Learnt,
-  walk-below t,
-  walk.Post,
-  pen-of-reads.Asked,
-  pen-of-reads.Learnt,
-  half-of-reads.Asked,
-  half-of-reads.Learnt,
-  differs-reads.Asked,
-  differs-reads.Learnt,
-  wait-reads.Asked,
-  wait-reads.Learnt,
-  push-turn-reads.Asked,
-  push-turn-reads.Learnt,
-  is-again-reads.Asked,
-  is-again-reads.Learnt,
-  numbered-reads.Asked,
-  numbered-reads.Learnt,
-  second-reads.Asked,
-  second-reads.Learnt,
-) (walk-at t) walk.Post
-walk-constant-requires-3 t c κs = search needs
+  all-bytes-requires-2 : walk-lts.Need-all-bytes-requires-2 K (at t) walk.Post
+  all-bytes-requires-2 c κs = search needs
 
-walk-kept-requires-3 : (t : ℕ) → walk-lts.Need-kept-requires-3 (
-  truth-reads.Asked,
-  truth-reads.Learnt,
-  constant-reads.Asked,
-  constant-reads.Learnt,
-  kept-reads.Asked,
-  kept-reads.Learnt,
-  all-bytes-reads.Asked,
-  all-bytes-reads.Learnt,
-  push-reads.Asked,
-  push-reads.Learnt,
-  walk-below t,
-  walk.Post,
-  pen-of-reads.Asked,
-  pen-of-reads.Learnt,
-  half-of-reads.Asked,
-  half-of-reads.Learnt,
-  differs-reads.Asked,
-  differs-reads.Learnt,
-  wait-reads.Asked,
-  wait-reads.Learnt,
-  push-turn-reads.Asked,
-  push-turn-reads.Learnt,
-  is-again-reads.Asked,
-  is-again-reads.Learnt,
-  numbered-reads.Asked,
-  numbered-reads.Learnt,
-  second-reads.Asked,
-  second-reads.Learnt,
-) (walk-at t) walk.Post
-walk-kept-requires-3 t c κs = search needs
+  constant-requires-3 : walk-lts.Need-constant-requires-3 K (at t) walk.Post
+  constant-requires-3 c κs = tt
 
-walk-returns-3 : (t : ℕ) → walk-lts.Need-returns-3 (
-  truth-reads.Asked,
-  truth-reads.Learnt,
-  constant-reads.Asked,
-  constant-reads.Learnt,
-  kept-reads.Asked,
-  kept-reads.Learnt,
-  all-bytes-reads.Asked,
-  all-bytes-reads.Learnt,
-  push-reads.Asked,
-  push-reads.Learnt,
-  walk-below t,
-  walk.Post,
-  pen-of-reads.Asked,
-  pen-of-reads.Learnt,
-  half-of-reads.Asked,
-  half-of-reads.Learnt,
-  differs-reads.Asked,
-  differs-reads.Learnt,
-  wait-reads.Asked,
-  wait-reads.Learnt,
-  push-turn-reads.Asked,
-  push-turn-reads.Learnt,
-  is-again-reads.Asked,
-  is-again-reads.Learnt,
-  numbered-reads.Asked,
-  numbered-reads.Learnt,
-  second-reads.Asked,
-  second-reads.Learnt,
-) (walk-at t) walk.Post
-walk-returns-3 t c = let a = c .before .before .before .before .before .before .before .before .before .before .args in
-    let e : a .d ≡ suc (a .d - 1) = omega (arith, c .before .before .before .before .before .before .if1 .left) in
-    rw (c .kept3 .ensures, c .before .constant3 .ensures)
-    (walk-yes (a .v .now) (a .size) (a .d - 1) (a .i) (a .at) (a .m) (a .t .now) (a .out .now) (a .w .now) (penOf (a .pen)) (a .d) e (sym (c .before .before .before .before .before .all-bytes .ensures) ∙ c .before .before .before .before .if2 .left) (sym (c .before .before .before .all-bytes2 .ensures) ∙ c .before .before .if3 .taken))
+  kept-requires-3 : walk-lts.Need-kept-requires-3 K (at t) walk.Post
+  kept-requires-3 c κs = tt
 
-walk-sub-e : (t : ℕ) → walk-lts.Need-sub-e (
-  truth-reads.Asked,
-  truth-reads.Learnt,
-  constant-reads.Asked,
-  constant-reads.Learnt,
-  kept-reads.Asked,
-  kept-reads.Learnt,
-  all-bytes-reads.Asked,
-  all-bytes-reads.Learnt,
-  push-reads.Asked,
-  push-reads.Learnt,
-  walk-below t,
-  walk.Post,
-  pen-of-reads.Asked,
-  pen-of-reads.Learnt,
-  half-of-reads.Asked,
-  half-of-reads.Learnt,
-  differs-reads.Asked,
-  differs-reads.Learnt,
-  wait-reads.Asked,
-  wait-reads.Learnt,
-  push-turn-reads.Asked,
-  push-turn-reads.Learnt,
-  is-again-reads.Asked,
-  is-again-reads.Learnt,
-  numbered-reads.Asked,
-  numbered-reads.Learnt,
-  second-reads.Asked,
-  second-reads.Learnt,
-) (walk-at t) walk.Post
-walk-sub-e t c = search needs
+  returns-3 : walk-lts.Need-returns-3 K (at t) walk.Post
+  returns-3 c =
+      let c3 = c .before .before .before in
+      let c4 = c3 .before in
+      let c5 = c4 .before in
+      let c6 = c5 .before in
+      let c10 = c6 .before .before .before .before in
+      let a = c10 .args in
+      let e : a .d ≡ suc (a .d - 1) = omega (arith, c6 .if1 .left) in
+      rw (c .kept3 .ensures, c .before .constant3 .ensures)
+      (walk-yes (a .v .now) (a .size) (a .d - 1) (a .i) (a .at) (a .m) (a .t .now) (a .out .now) (a .w .now) (penOf (a .pen)) (a .d) e (sym (c5 .all-bytes .ensures) ∙ c4 .if2 .left) (sym (c3 .all-bytes2 .ensures) ∙ c .before .before .if3 .taken))
 
-walk-add-j : (t : ℕ) → walk-lts.Need-add-j (
-  truth-reads.Asked,
-  truth-reads.Learnt,
-  constant-reads.Asked,
-  constant-reads.Learnt,
-  kept-reads.Asked,
-  kept-reads.Learnt,
-  all-bytes-reads.Asked,
-  all-bytes-reads.Learnt,
-  push-reads.Asked,
-  push-reads.Learnt,
-  walk-below t,
-  walk.Post,
-  pen-of-reads.Asked,
-  pen-of-reads.Learnt,
-  half-of-reads.Asked,
-  half-of-reads.Learnt,
-  differs-reads.Asked,
-  differs-reads.Learnt,
-  wait-reads.Asked,
-  wait-reads.Learnt,
-  push-turn-reads.Asked,
-  push-turn-reads.Learnt,
-  is-again-reads.Asked,
-  is-again-reads.Learnt,
-  numbered-reads.Asked,
-  numbered-reads.Learnt,
-  second-reads.Asked,
-  second-reads.Learnt,
-) (walk-at t) walk.Post
-walk-add-j t c = search needs
+  sub-e : walk-lts.Need-sub-e K (at t) walk.Post
+  sub-e c = search needs
 
-walk-cast-mid : (t : ℕ) → walk-lts.Need-cast-mid (
-  truth-reads.Asked,
-  truth-reads.Learnt,
-  constant-reads.Asked,
-  constant-reads.Learnt,
-  kept-reads.Asked,
-  kept-reads.Learnt,
-  all-bytes-reads.Asked,
-  all-bytes-reads.Learnt,
-  push-reads.Asked,
-  push-reads.Learnt,
-  walk-below t,
-  walk.Post,
-  pen-of-reads.Asked,
-  pen-of-reads.Learnt,
-  half-of-reads.Asked,
-  half-of-reads.Learnt,
-  differs-reads.Asked,
-  differs-reads.Learnt,
-  wait-reads.Asked,
-  wait-reads.Learnt,
-  push-turn-reads.Asked,
-  push-turn-reads.Learnt,
-  is-again-reads.Asked,
-  is-again-reads.Learnt,
-  numbered-reads.Asked,
-  numbered-reads.Learnt,
-  second-reads.Asked,
-  second-reads.Learnt,
-) (walk-at t) walk.Post
-walk-cast-mid t c = search needs
+  add-j : walk-lts.Need-add-j K (at t) walk.Post
+  add-j c = search needs
 
-walk-shl-mid : (t : ℕ) → walk-lts.Need-shl-mid (
-  truth-reads.Asked,
-  truth-reads.Learnt,
-  constant-reads.Asked,
-  constant-reads.Learnt,
-  kept-reads.Asked,
-  kept-reads.Learnt,
-  all-bytes-reads.Asked,
-  all-bytes-reads.Learnt,
-  push-reads.Asked,
-  push-reads.Learnt,
-  walk-below t,
-  walk.Post,
-  pen-of-reads.Asked,
-  pen-of-reads.Learnt,
-  half-of-reads.Asked,
-  half-of-reads.Learnt,
-  differs-reads.Asked,
-  differs-reads.Learnt,
-  wait-reads.Asked,
-  wait-reads.Learnt,
-  push-turn-reads.Asked,
-  push-turn-reads.Learnt,
-  is-again-reads.Asked,
-  is-again-reads.Learnt,
-  numbered-reads.Asked,
-  numbered-reads.Learnt,
-  second-reads.Asked,
-  second-reads.Learnt,
-) (walk-at t) walk.Post
-walk-shl-mid t c = search needs
+  cast-mid : walk-lts.Need-cast-mid K (at t) walk.Post
+  cast-mid c = search needs
 
-walk-add-mid : (t : ℕ) → walk-lts.Need-add-mid (
-  truth-reads.Asked,
-  truth-reads.Learnt,
-  constant-reads.Asked,
-  constant-reads.Learnt,
-  kept-reads.Asked,
-  kept-reads.Learnt,
-  all-bytes-reads.Asked,
-  all-bytes-reads.Learnt,
-  push-reads.Asked,
-  push-reads.Learnt,
-  walk-below t,
-  walk.Post,
-  pen-of-reads.Asked,
-  pen-of-reads.Learnt,
-  half-of-reads.Asked,
-  half-of-reads.Learnt,
-  differs-reads.Asked,
-  differs-reads.Learnt,
-  wait-reads.Asked,
-  wait-reads.Learnt,
-  push-turn-reads.Asked,
-  push-turn-reads.Learnt,
-  is-again-reads.Asked,
-  is-again-reads.Learnt,
-  numbered-reads.Asked,
-  numbered-reads.Learnt,
-  second-reads.Asked,
-  second-reads.Learnt,
-) (walk-at t) walk.Post
-walk-add-mid t c = let a = c .before .before .before .before .before .before .before .before .args in
-    omega (arith, c .before .before .before .before .before .before .before .before .pre, few-words (a .d - 1) (omega (arith, c .before .before .before .before .before .before .before .before .pre)), both-halves (a .d) (c .before .before .before .before .if1 .left))
+  shl-mid : walk-lts.Need-shl-mid K (at t) walk.Post
+  shl-mid c = search needs
 
-walk-push-requires : (t : ℕ) → walk-lts.Need-push-requires (
-  truth-reads.Asked,
-  truth-reads.Learnt,
-  constant-reads.Asked,
-  constant-reads.Learnt,
-  kept-reads.Asked,
-  kept-reads.Learnt,
-  all-bytes-reads.Asked,
-  all-bytes-reads.Learnt,
-  push-reads.Asked,
-  push-reads.Learnt,
-  walk-below t,
-  walk.Post,
-  pen-of-reads.Asked,
-  pen-of-reads.Learnt,
-  half-of-reads.Asked,
-  half-of-reads.Learnt,
-  differs-reads.Asked,
-  differs-reads.Learnt,
-  wait-reads.Asked,
-  wait-reads.Learnt,
-  push-turn-reads.Asked,
-  push-turn-reads.Learnt,
-  is-again-reads.Asked,
-  is-again-reads.Learnt,
-  numbered-reads.Asked,
-  numbered-reads.Learnt,
-  second-reads.Asked,
-  second-reads.Learnt,
-) (walk-at t) walk.Post
-walk-push-requires t c κs = search needs
+  add-mid : walk-lts.Need-add-mid K (at t) walk.Post
+  add-mid c =
+      let c4 = c .before .before .before .before in
+      let c8 = c4 .before .before .before .before in
+      let a = c8 .args in
+      omega (arith, c8 .pre, few-words (a .d - 1) (omega (arith, c8 .pre)), both-halves (a .d) (c4 .if1 .left))
 
-walk-walk-requires : (t : ℕ) → walk-lts.Need-walk-requires (
-  truth-reads.Asked,
-  truth-reads.Learnt,
-  constant-reads.Asked,
-  constant-reads.Learnt,
-  kept-reads.Asked,
-  kept-reads.Learnt,
-  all-bytes-reads.Asked,
-  all-bytes-reads.Learnt,
-  push-reads.Asked,
-  push-reads.Learnt,
-  walk-below t,
-  walk.Post,
-  pen-of-reads.Asked,
-  pen-of-reads.Learnt,
-  half-of-reads.Asked,
-  half-of-reads.Learnt,
-  differs-reads.Asked,
-  differs-reads.Learnt,
-  wait-reads.Asked,
-  wait-reads.Learnt,
-  push-turn-reads.Asked,
-  push-turn-reads.Learnt,
-  is-again-reads.Asked,
-  is-again-reads.Learnt,
-  numbered-reads.Asked,
-  numbered-reads.Learnt,
-  second-reads.Asked,
-  second-reads.Learnt,
-) (walk-at t) walk.Post
-walk-walk-requires t c κs = omega (arith, c .before .before .before .before .before .before .before .before .before .before .before .before .before .before .before .pre, both-halves (c .before .before .before .before .before .before .before .before .before .before .before .before .before .before .before .args .d) (c .before .before .before .before .before .before .before .before .before .before .before .if1 .left))
+  push-requires : walk-lts.Need-push-requires K (at t) walk.Post
+  push-requires c κs = tt
 
-walk-pen-of-requires : (t : ℕ) → walk-lts.Need-pen-of-requires (
-  truth-reads.Asked,
-  truth-reads.Learnt,
-  constant-reads.Asked,
-  constant-reads.Learnt,
-  kept-reads.Asked,
-  kept-reads.Learnt,
-  all-bytes-reads.Asked,
-  all-bytes-reads.Learnt,
-  push-reads.Asked,
-  push-reads.Learnt,
-  walk-below t,
-  walk.Post,
-  pen-of-reads.Asked,
-  pen-of-reads.Learnt,
-  half-of-reads.Asked,
-  half-of-reads.Learnt,
-  differs-reads.Asked,
-  differs-reads.Learnt,
-  wait-reads.Asked,
-  wait-reads.Learnt,
-  push-turn-reads.Asked,
-  push-turn-reads.Learnt,
-  is-again-reads.Asked,
-  is-again-reads.Learnt,
-  numbered-reads.Asked,
-  numbered-reads.Learnt,
-  second-reads.Asked,
-  second-reads.Learnt,
-) (walk-at t) walk.Post
-walk-pen-of-requires t c κs = search needs
+  walk-requires : walk-lts.Need-walk-requires K (at t) walk.Post
+  walk-requires c κs =
+      let c11 = c .before .before .before .before .before .before .before .before .before .before .before in
+      let c15 = c11 .before .before .before .before in
+      omega (arith, c15 .pre, both-halves (c15 .args .d) (c11 .if1 .left))
 
-walk-same-length : (t : ℕ) → walk-lts.Need-same-length (
-  truth-reads.Asked,
-  truth-reads.Learnt,
-  constant-reads.Asked,
-  constant-reads.Learnt,
-  kept-reads.Asked,
-  kept-reads.Learnt,
-  all-bytes-reads.Asked,
-  all-bytes-reads.Learnt,
-  push-reads.Asked,
-  push-reads.Learnt,
-  walk-below t,
-  walk.Post,
-  pen-of-reads.Asked,
-  pen-of-reads.Learnt,
-  half-of-reads.Asked,
-  half-of-reads.Learnt,
-  differs-reads.Asked,
-  differs-reads.Learnt,
-  wait-reads.Asked,
-  wait-reads.Learnt,
-  push-turn-reads.Asked,
-  push-turn-reads.Learnt,
-  is-again-reads.Asked,
-  is-again-reads.Learnt,
-  numbered-reads.Asked,
-  numbered-reads.Learnt,
-  second-reads.Asked,
-  second-reads.Learnt,
-) (walk-at t) walk.Post
-walk-same-length t c = search needs
+  pen-of-requires : walk-lts.Need-pen-of-requires K (at t) walk.Post
+  pen-of-requires c κs = tt
 
-walk-same-length-2 : (t : ℕ) → walk-lts.Need-same-length-2 (
-  truth-reads.Asked,
-  truth-reads.Learnt,
-  constant-reads.Asked,
-  constant-reads.Learnt,
-  kept-reads.Asked,
-  kept-reads.Learnt,
-  all-bytes-reads.Asked,
-  all-bytes-reads.Learnt,
-  push-reads.Asked,
-  push-reads.Learnt,
-  walk-below t,
-  walk.Post,
-  pen-of-reads.Asked,
-  pen-of-reads.Learnt,
-  half-of-reads.Asked,
-  half-of-reads.Learnt,
-  differs-reads.Asked,
-  differs-reads.Learnt,
-  wait-reads.Asked,
-  wait-reads.Learnt,
-  push-turn-reads.Asked,
-  push-turn-reads.Learnt,
-  is-again-reads.Asked,
-  is-again-reads.Learnt,
-  numbered-reads.Asked,
-  numbered-reads.Learnt,
-  second-reads.Asked,
-  second-reads.Learnt,
-) (walk-at t) walk.Post
-walk-same-length-2 t c = search needs
+  same-length : walk-lts.Need-same-length K (at t) walk.Post
+  same-length c = search needs
 
-walk-same-length-3 : (t : ℕ) → walk-lts.Need-same-length-3 (
-  truth-reads.Asked,
-  truth-reads.Learnt,
-  constant-reads.Asked,
-  constant-reads.Learnt,
-  kept-reads.Asked,
-  kept-reads.Learnt,
-  all-bytes-reads.Asked,
-  all-bytes-reads.Learnt,
-  push-reads.Asked,
-  push-reads.Learnt,
-  walk-below t,
-  walk.Post,
-  pen-of-reads.Asked,
-  pen-of-reads.Learnt,
-  half-of-reads.Asked,
-  half-of-reads.Learnt,
-  differs-reads.Asked,
-  differs-reads.Learnt,
-  wait-reads.Asked,
-  wait-reads.Learnt,
-  push-turn-reads.Asked,
-  push-turn-reads.Learnt,
-  is-again-reads.Asked,
-  is-again-reads.Learnt,
-  numbered-reads.Asked,
-  numbered-reads.Learnt,
-  second-reads.Asked,
-  second-reads.Learnt,
-) (walk-at t) walk.Post
-walk-same-length-3 t c = search needs
+  same-length-2 : walk-lts.Need-same-length-2 K (at t) walk.Post
+  same-length-2 c = search needs
 
-walk-returns-4 : (t : ℕ) → walk-lts.Need-returns-4 (
-  truth-reads.Asked,
-  truth-reads.Learnt,
-  constant-reads.Asked,
-  constant-reads.Learnt,
-  kept-reads.Asked,
-  kept-reads.Learnt,
-  all-bytes-reads.Asked,
-  all-bytes-reads.Learnt,
-  push-reads.Asked,
-  push-reads.Learnt,
-  walk-below t,
-  walk.Post,
-  pen-of-reads.Asked,
-  pen-of-reads.Learnt,
-  half-of-reads.Asked,
-  half-of-reads.Learnt,
-  differs-reads.Asked,
-  differs-reads.Learnt,
-  wait-reads.Asked,
-  wait-reads.Learnt,
-  push-turn-reads.Asked,
-  push-turn-reads.Learnt,
-  is-again-reads.Asked,
-  is-again-reads.Learnt,
-  numbered-reads.Asked,
-  numbered-reads.Learnt,
-  second-reads.Asked,
-  second-reads.Learnt,
-) (walk-at t) walk.Post
-walk-returns-4 t c = let a = c .before .before .before .before .before .before .before .before .before .before .before .before .before .before .before .before .before .before .before .before .before .before .before .args in
-    let e : a .d ≡ suc (a .d - 1) = omega (arith, c .before .before .before .before .before .before .before .before .before .before .before .before .before .before .before .before .before .before .before .if1 .left) in
-    walk-full (a .v .now) (a .size) (a .d - 1) (a .i) (a .at) (a .m) (a .t .now) (a .out .now) (a .w .now) (penOf (a .pen)) (a .d) e
-    (sym (c .before .before .before .before .before .before .before .before .before .before .before .before .before .before .before .before .before .before .all-bytes .ensures) ∙ c .before .before .before .before .before .before .before .before .before .before .before .before .before .before .before .before .before .if2 .left) (sym (c .before .before .before .before .before .before .before .before .before .before .before .before .before .before .before .before .all-bytes2 .ensures) ∙ c .before .before .before .before .before .before .before .before .before .before .before .before .before .before .before .if3 .left) _ _ (c .before .before .before .before .before .before .before .before .before .before .before .before .before .push .ensures) (c .before .before .before .before .before .before .before .walk .ensures)
-    (penOf (c .before .pen-of .result)) (ap penOf (c .before .pen-of .ensures)) (c .if4 .taken)
+  same-length-3 : walk-lts.Need-same-length-3 K (at t) walk.Post
+  same-length-3 c = search needs
 
-walk-half-of-requires : (t : ℕ) → walk-lts.Need-half-of-requires (
-  truth-reads.Asked,
-  truth-reads.Learnt,
-  constant-reads.Asked,
-  constant-reads.Learnt,
-  kept-reads.Asked,
-  kept-reads.Learnt,
-  all-bytes-reads.Asked,
-  all-bytes-reads.Learnt,
-  push-reads.Asked,
-  push-reads.Learnt,
-  walk-below t,
-  walk.Post,
-  pen-of-reads.Asked,
-  pen-of-reads.Learnt,
-  half-of-reads.Asked,
-  half-of-reads.Learnt,
-  differs-reads.Asked,
-  differs-reads.Learnt,
-  wait-reads.Asked,
-  wait-reads.Learnt,
-  push-turn-reads.Asked,
-  push-turn-reads.Learnt,
-  is-again-reads.Asked,
-  is-again-reads.Learnt,
-  numbered-reads.Asked,
-  numbered-reads.Learnt,
-  second-reads.Asked,
-  second-reads.Learnt,
-) (walk-at t) walk.Post
-walk-half-of-requires t c κs = search needs
+  returns-4 : walk-lts.Need-returns-4 K (at t) walk.Post
+  returns-4 c =
+      let c7 = c .before .before .before .before .before .before .before in
+      let c13 = c7 .before .before .before .before .before .before in
+      let c15 = c13 .before .before in
+      let c16 = c15 .before in
+      let c17 = c16 .before in
+      let c18 = c17 .before in
+      let c19 = c18 .before in
+      let c23 = c19 .before .before .before .before in
+      let a = c23 .args in
+      let e : a .d ≡ suc (a .d - 1) = omega (arith, c19 .if1 .left) in
+      walk-full (a .v .now) (a .size) (a .d - 1) (a .i) (a .at) (a .m) (a .t .now) (a .out .now) (a .w .now) (penOf (a .pen)) (a .d) e
+      (sym (c18 .all-bytes .ensures) ∙ c17 .if2 .left) (sym (c16 .all-bytes2 .ensures) ∙ c15 .if3 .left) _ _ (c13 .push .ensures) (c7 .walk .ensures)
+      (penOf (c .before .pen-of .result)) (ap penOf (c .before .pen-of .ensures)) (c .if4 .taken)
 
-walk-truth-requires-2 : (t : ℕ) → walk-lts.Need-truth-requires-2 (
-  truth-reads.Asked,
-  truth-reads.Learnt,
-  constant-reads.Asked,
-  constant-reads.Learnt,
-  kept-reads.Asked,
-  kept-reads.Learnt,
-  all-bytes-reads.Asked,
-  all-bytes-reads.Learnt,
-  push-reads.Asked,
-  push-reads.Learnt,
-  walk-below t,
-  walk.Post,
-  pen-of-reads.Asked,
-  pen-of-reads.Learnt,
-  half-of-reads.Asked,
-  half-of-reads.Learnt,
-  differs-reads.Asked,
-  differs-reads.Learnt,
-  wait-reads.Asked,
-  wait-reads.Learnt,
-  push-turn-reads.Asked,
-  push-turn-reads.Learnt,
-  is-again-reads.Asked,
-  is-again-reads.Learnt,
-  numbered-reads.Asked,
-  numbered-reads.Learnt,
-  second-reads.Asked,
-  second-reads.Learnt,
-) (walk-at t) walk.Post
-walk-truth-requires-2 t c κs = search needs
+  half-of-requires : walk-lts.Need-half-of-requires K (at t) walk.Post
+  half-of-requires c κs = tt
 
-walk-differs-requires : (t : ℕ) → walk-lts.Need-differs-requires (
-  truth-reads.Asked,
-  truth-reads.Learnt,
-  constant-reads.Asked,
-  constant-reads.Learnt,
-  kept-reads.Asked,
-  kept-reads.Learnt,
-  all-bytes-reads.Asked,
-  all-bytes-reads.Learnt,
-  push-reads.Asked,
-  push-reads.Learnt,
-  walk-below t,
-  walk.Post,
-  pen-of-reads.Asked,
-  pen-of-reads.Learnt,
-  half-of-reads.Asked,
-  half-of-reads.Learnt,
-  differs-reads.Asked,
-  differs-reads.Learnt,
-  wait-reads.Asked,
-  wait-reads.Learnt,
-  push-turn-reads.Asked,
-  push-turn-reads.Learnt,
-  is-again-reads.Asked,
-  is-again-reads.Learnt,
-  numbered-reads.Asked,
-  numbered-reads.Learnt,
-  second-reads.Asked,
-  second-reads.Learnt,
-) (walk-at t) walk.Post
-walk-differs-requires t c κs = search needs
+  truth-requires-2 : walk-lts.Need-truth-requires-2 K (at t) walk.Post
+  truth-requires-2 c κs = tt
 
-walk-wait-requires : (t : ℕ) → walk-lts.Need-wait-requires (
-  truth-reads.Asked,
-  truth-reads.Learnt,
-  constant-reads.Asked,
-  constant-reads.Learnt,
-  kept-reads.Asked,
-  kept-reads.Learnt,
-  all-bytes-reads.Asked,
-  all-bytes-reads.Learnt,
-  push-reads.Asked,
-  push-reads.Learnt,
-  walk-below t,
-  walk.Post,
-  pen-of-reads.Asked,
-  pen-of-reads.Learnt,
-  half-of-reads.Asked,
-  half-of-reads.Learnt,
-  differs-reads.Asked,
-  differs-reads.Learnt,
-  wait-reads.Asked,
-  wait-reads.Learnt,
-  push-turn-reads.Asked,
-  push-turn-reads.Learnt,
-  is-again-reads.Asked,
-  is-again-reads.Learnt,
-  numbered-reads.Asked,
-  numbered-reads.Learnt,
-  second-reads.Asked,
-  second-reads.Learnt,
-) (walk-at t) walk.Post
-walk-wait-requires t c κs = search needs
+  differs-requires : walk-lts.Need-differs-requires K (at t) walk.Post
+  differs-requires c κs = tt
 
-walk-push-turn-requires : (t : ℕ) → walk-lts.Need-push-turn-requires (
-  truth-reads.Asked,
-  truth-reads.Learnt,
-  constant-reads.Asked,
-  constant-reads.Learnt,
-  kept-reads.Asked,
-  kept-reads.Learnt,
-  all-bytes-reads.Asked,
-  all-bytes-reads.Learnt,
-  push-reads.Asked,
-  push-reads.Learnt,
-  walk-below t,
-  walk.Post,
-  pen-of-reads.Asked,
-  pen-of-reads.Learnt,
-  half-of-reads.Asked,
-  half-of-reads.Learnt,
-  differs-reads.Asked,
-  differs-reads.Learnt,
-  wait-reads.Asked,
-  wait-reads.Learnt,
-  push-turn-reads.Asked,
-  push-turn-reads.Learnt,
-  is-again-reads.Asked,
-  is-again-reads.Learnt,
-  numbered-reads.Asked,
-  numbered-reads.Learnt,
-  second-reads.Asked,
-  second-reads.Learnt,
-) (walk-at t) walk.Post
-walk-push-turn-requires t c κs = search needs
+  wait-requires : walk-lts.Need-wait-requires K (at t) walk.Post
+  wait-requires c κs = tt
 
-walk-is-again-requires : (t : ℕ) → walk-lts.Need-is-again-requires (
-  truth-reads.Asked,
-  truth-reads.Learnt,
-  constant-reads.Asked,
-  constant-reads.Learnt,
-  kept-reads.Asked,
-  kept-reads.Learnt,
-  all-bytes-reads.Asked,
-  all-bytes-reads.Learnt,
-  push-reads.Asked,
-  push-reads.Learnt,
-  walk-below t,
-  walk.Post,
-  pen-of-reads.Asked,
-  pen-of-reads.Learnt,
-  half-of-reads.Asked,
-  half-of-reads.Learnt,
-  differs-reads.Asked,
-  differs-reads.Learnt,
-  wait-reads.Asked,
-  wait-reads.Learnt,
-  push-turn-reads.Asked,
-  push-turn-reads.Learnt,
-  is-again-reads.Asked,
-  is-again-reads.Learnt,
-  numbered-reads.Asked,
-  numbered-reads.Learnt,
-  second-reads.Asked,
-  second-reads.Learnt,
-) (walk-at t) walk.Post
-walk-is-again-requires t c κs = let a = c .before .before .before .before .before .before .before .before .before .before .before .before .before .before .before .before .before .before .before .before .before .before .before .before .before .before .before .before .before .before .before .before .before .before .args in
-    let h : (a .d - 1 ≤ 16) × ((a .at ≤ 65536) × (a .at + 1 * 2 ^ (a .d - 1) % 18446744073709551616 ≤ 65536)) =
-    omega (arith, c .before .before .before .before .before .before .before .before .before .before .before .before .before .before .before .before .before .before .before .before .before .before .before .before .before .before .before .before .before .before .before .before .before .before .pre, c .before .before .before .before .before .before .before .before .before .before .before .before .before .before .before .before .before .before .before .before .before .before .before .before .before .before .before .before .before .before .if1 .left, few-words (a .d - 1) (omega (arith, c .before .before .before .before .before .before .before .before .before .before .before .before .before .before .before .before .before .before .before .before .before .before .before .before .before .before .before .before .before .before .before .before .before .before .pre)), both-halves (a .d) (c .before .before .before .before .before .before .before .before .before .before .before .before .before .before .before .before .before .before .before .before .before .before .before .before .before .before .before .before .before .before .if1 .left)) in
-    h
+  push-turn-requires : walk-lts.Need-push-turn-requires K (at t) walk.Post
+  push-turn-requires c κs = tt
 
-walk-numbered-requires : (t : ℕ) → walk-lts.Need-numbered-requires (
-  truth-reads.Asked,
-  truth-reads.Learnt,
-  constant-reads.Asked,
-  constant-reads.Learnt,
-  kept-reads.Asked,
-  kept-reads.Learnt,
-  all-bytes-reads.Asked,
-  all-bytes-reads.Learnt,
-  push-reads.Asked,
-  push-reads.Learnt,
-  walk-below t,
-  walk.Post,
-  pen-of-reads.Asked,
-  pen-of-reads.Learnt,
-  half-of-reads.Asked,
-  half-of-reads.Learnt,
-  differs-reads.Asked,
-  differs-reads.Learnt,
-  wait-reads.Asked,
-  wait-reads.Learnt,
-  push-turn-reads.Asked,
-  push-turn-reads.Learnt,
-  is-again-reads.Asked,
-  is-again-reads.Learnt,
-  numbered-reads.Asked,
-  numbered-reads.Learnt,
-  second-reads.Asked,
-  second-reads.Learnt,
-) (walk-at t) walk.Post
-walk-numbered-requires t c κs = search needs
+  is-again-requires : walk-lts.Need-is-again-requires K (at t) walk.Post
+  is-again-requires c κs =
+      let c30 = c .before .before .before .before .before .before .before .before .before .before .before .before .before .before .before .before .before .before .before .before .before .before .before .before .before .before .before .before .before .before in
+      let c34 = c30 .before .before .before .before in
+      let a = c34 .args in
+      let h : (a .d - 1 ≤ 16) × ((a .at ≤ 65536) × (a .at + 1 * 2 ^ (a .d - 1) % 18446744073709551616 ≤ 65536)) =
+      omega (arith, c34 .pre, c30 .if1 .left, few-words (a .d - 1) (omega (arith, c34 .pre)), both-halves (a .d) (c30 .if1 .left)) in
+      h
 
-walk-kept-requires-4 : (t : ℕ) → walk-lts.Need-kept-requires-4 (
-  truth-reads.Asked,
-  truth-reads.Learnt,
-  constant-reads.Asked,
-  constant-reads.Learnt,
-  kept-reads.Asked,
-  kept-reads.Learnt,
-  all-bytes-reads.Asked,
-  all-bytes-reads.Learnt,
-  push-reads.Asked,
-  push-reads.Learnt,
-  walk-below t,
-  walk.Post,
-  pen-of-reads.Asked,
-  pen-of-reads.Learnt,
-  half-of-reads.Asked,
-  half-of-reads.Learnt,
-  differs-reads.Asked,
-  differs-reads.Learnt,
-  wait-reads.Asked,
-  wait-reads.Learnt,
-  push-turn-reads.Asked,
-  push-turn-reads.Learnt,
-  is-again-reads.Asked,
-  is-again-reads.Learnt,
-  numbered-reads.Asked,
-  numbered-reads.Learnt,
-  second-reads.Asked,
-  second-reads.Learnt,
-) (walk-at t) walk.Post
-walk-kept-requires-4 t c κs = search needs
+  numbered-requires : walk-lts.Need-numbered-requires K (at t) walk.Post
+  numbered-requires c κs = tt
 
-walk-second-requires : (t : ℕ) → walk-lts.Need-second-requires (
-  truth-reads.Asked,
-  truth-reads.Learnt,
-  constant-reads.Asked,
-  constant-reads.Learnt,
-  kept-reads.Asked,
-  kept-reads.Learnt,
-  all-bytes-reads.Asked,
-  all-bytes-reads.Learnt,
-  push-reads.Asked,
-  push-reads.Learnt,
-  walk-below t,
-  walk.Post,
-  pen-of-reads.Asked,
-  pen-of-reads.Learnt,
-  half-of-reads.Asked,
-  half-of-reads.Learnt,
-  differs-reads.Asked,
-  differs-reads.Learnt,
-  wait-reads.Asked,
-  wait-reads.Learnt,
-  push-turn-reads.Asked,
-  push-turn-reads.Learnt,
-  is-again-reads.Asked,
-  is-again-reads.Learnt,
-  numbered-reads.Asked,
-  numbered-reads.Learnt,
-  second-reads.Asked,
-  second-reads.Learnt,
-) (walk-at t) walk.Post
-walk-second-requires t c κs = search needs
+  kept-requires-4 : walk-lts.Need-kept-requires-4 K (at t) walk.Post
+  kept-requires-4 c κs = tt
 
-walk-same-length-4 : (t : ℕ) → walk-lts.Need-same-length-4 (
-  truth-reads.Asked,
-  truth-reads.Learnt,
-  constant-reads.Asked,
-  constant-reads.Learnt,
-  kept-reads.Asked,
-  kept-reads.Learnt,
-  all-bytes-reads.Asked,
-  all-bytes-reads.Learnt,
-  push-reads.Asked,
-  push-reads.Learnt,
-  walk-below t,
-  walk.Post,
-  pen-of-reads.Asked,
-  pen-of-reads.Learnt,
-  half-of-reads.Asked,
-  half-of-reads.Learnt,
-  differs-reads.Asked,
-  differs-reads.Learnt,
-  wait-reads.Asked,
-  wait-reads.Learnt,
-  push-turn-reads.Asked,
-  push-turn-reads.Learnt,
-  is-again-reads.Asked,
-  is-again-reads.Learnt,
-  numbered-reads.Asked,
-  numbered-reads.Learnt,
-  second-reads.Asked,
-  second-reads.Learnt,
-) (walk-at t) walk.Post
-walk-same-length-4 t c = c .before .before .before .before .t2 .given ∙ c .before .before .before .before .before .before .before .before .before .before .before .before .before .before .before .before .before .before .before .before .before .before .before .before .before .before .before .before .before .before .t .given
+  second-requires : walk-lts.Need-second-requires K (at t) walk.Post
+  second-requires c κs = tt
 
-walk-same-length-5 : (t : ℕ) → walk-lts.Need-same-length-5 (
-  truth-reads.Asked,
-  truth-reads.Learnt,
-  constant-reads.Asked,
-  constant-reads.Learnt,
-  kept-reads.Asked,
-  kept-reads.Learnt,
-  all-bytes-reads.Asked,
-  all-bytes-reads.Learnt,
-  push-reads.Asked,
-  push-reads.Learnt,
-  walk-below t,
-  walk.Post,
-  pen-of-reads.Asked,
-  pen-of-reads.Learnt,
-  half-of-reads.Asked,
-  half-of-reads.Learnt,
-  differs-reads.Asked,
-  differs-reads.Learnt,
-  wait-reads.Asked,
-  wait-reads.Learnt,
-  push-turn-reads.Asked,
-  push-turn-reads.Learnt,
-  is-again-reads.Asked,
-  is-again-reads.Learnt,
-  numbered-reads.Asked,
-  numbered-reads.Learnt,
-  second-reads.Asked,
-  second-reads.Learnt,
-) (walk-at t) walk.Post
-walk-same-length-5 t c = c .before .before .before .out2 .given ∙ c .before .before .before .before .before .before .before .before .before .before .before .before .before .before .before .before .before .before .before .before .before .before .before .before .before .before .before .before .before .out .given
+  same-length-4 : walk-lts.Need-same-length-4 K (at t) walk.Post
+  same-length-4 c =
+      let c4 = c .before .before .before .before in
+      let c30 = c4 .before .before .before .before .before .before .before .before .before .before .before .before .before .before .before .before .before .before .before .before .before .before .before .before .before .before in
+      c4 .t2 .given ∙ c30 .t .given
 
-walk-same-length-6 : (t : ℕ) → walk-lts.Need-same-length-6 (
-  truth-reads.Asked,
-  truth-reads.Learnt,
-  constant-reads.Asked,
-  constant-reads.Learnt,
-  kept-reads.Asked,
-  kept-reads.Learnt,
-  all-bytes-reads.Asked,
-  all-bytes-reads.Learnt,
-  push-reads.Asked,
-  push-reads.Learnt,
-  walk-below t,
-  walk.Post,
-  pen-of-reads.Asked,
-  pen-of-reads.Learnt,
-  half-of-reads.Asked,
-  half-of-reads.Learnt,
-  differs-reads.Asked,
-  differs-reads.Learnt,
-  wait-reads.Asked,
-  wait-reads.Learnt,
-  push-turn-reads.Asked,
-  push-turn-reads.Learnt,
-  is-again-reads.Asked,
-  is-again-reads.Learnt,
-  numbered-reads.Asked,
-  numbered-reads.Learnt,
-  second-reads.Asked,
-  second-reads.Learnt,
-) (walk-at t) walk.Post
-walk-same-length-6 t c = c .before .w5 .given ∙ c .before .before .before .before .before .before .before .before .before .before .before .before .before .before .w4 .given ∙ c .before .before .before .before .before .before .before .before .before .before .before .before .before .before .before .before .before .before .w3 .given ∙ c .before .before .before .before .before .before .before .before .before .before .before .before .before .before .before .before .before .before .before .before .before .before .before .before .before .before .before .w2 .given ∙ c .before .before .before .before .before .before .before .before .before .before .before .before .before .before .before .before .before .before .before .before .before .before .before .before .before .before .before .before .before .before .before .before .before .before .before .before .w .given
+  same-length-5 : walk-lts.Need-same-length-5 K (at t) walk.Post
+  same-length-5 c =
+      let c3 = c .before .before .before in
+      let c29 = c3 .before .before .before .before .before .before .before .before .before .before .before .before .before .before .before .before .before .before .before .before .before .before .before .before .before .before in
+      c3 .out2 .given ∙ c29 .out .given
 
-walk-returns-5 : (t : ℕ) → walk-lts.Need-returns-5 (
-  truth-reads.Asked,
-  truth-reads.Learnt,
-  constant-reads.Asked,
-  constant-reads.Learnt,
-  kept-reads.Asked,
-  kept-reads.Learnt,
-  all-bytes-reads.Asked,
-  all-bytes-reads.Learnt,
-  push-reads.Asked,
-  push-reads.Learnt,
-  walk-below t,
-  walk.Post,
-  pen-of-reads.Asked,
-  pen-of-reads.Learnt,
-  half-of-reads.Asked,
-  half-of-reads.Learnt,
-  differs-reads.Asked,
-  differs-reads.Learnt,
-  wait-reads.Asked,
-  wait-reads.Learnt,
-  push-turn-reads.Asked,
-  push-turn-reads.Learnt,
-  is-again-reads.Asked,
-  is-again-reads.Learnt,
-  numbered-reads.Asked,
-  numbered-reads.Learnt,
-  second-reads.Asked,
-  second-reads.Learnt,
-) (walk-at t) walk.Post
-walk-returns-5 t c = let a = c .before .before .before .before .before .before .before .before .before .before .before .before .before .before .before .before .before .before .before .before .before .before .before .before .before .before .before .before .before .before .before .before .before .before .before .before .before .before .before .before .before .before .before .before .before .before .before .args in
-    let e : a .d ≡ suc (a .d - 1) = omega (arith, c .before .before .before .before .before .before .before .before .before .before .before .before .before .before .before .before .before .before .before .before .before .before .before .before .before .before .before .before .before .before .before .before .before .before .before .before .before .before .before .before .before .before .before .if1 .left) in
-    c .before .before .before .before .before .second .ensures
-    ∙ walk-repeat (a .v .now) (a .size) (a .d - 1) (a .i) (a .at) (a .m) (a .t .now) (a .out .now) (a .w .now) (penOf (a .pen)) (a .d) e
-    (sym (c .before .before .before .before .before .before .before .before .before .before .before .before .before .before .before .before .before .before .before .before .before .before .before .before .before .before .before .before .before .before .before .before .before .before .before .before .before .before .before .before .before .before .all-bytes .ensures) ∙ c .before .before .before .before .before .before .before .before .before .before .before .before .before .before .before .before .before .before .before .before .before .before .before .before .before .before .before .before .before .before .before .before .before .before .before .before .before .before .before .before .before .if2 .left) (sym (c .before .before .before .before .before .before .before .before .before .before .before .before .before .before .before .before .before .before .before .before .before .before .before .before .before .before .before .before .before .before .before .before .before .before .before .before .before .before .before .before .all-bytes2 .ensures) ∙ c .before .before .before .before .before .before .before .before .before .before .before .before .before .before .before .before .before .before .before .before .before .before .before .before .before .before .before .before .before .before .before .before .before .before .before .before .before .before .before .if3 .left) _ _ (c .before .before .before .before .before .before .before .before .before .before .before .before .before .before .before .before .before .before .before .before .before .before .before .before .before .before .before .before .before .before .before .before .before .before .before .before .before .push .ensures) (c .before .before .before .before .before .before .before .before .before .before .before .before .before .before .before .before .before .before .before .before .before .before .before .before .before .before .before .before .before .before .before .walk .ensures)
-    (halfOf (c .before .before .before .before .before .before .before .before .before .before .before .before .before .before .before .before .before .before .before .before .before .before .before .half-of .result)) (penOf (c .before .before .before .before .before .before .before .before .before .before .before .before .before .before .before .before .before .before .before .before .before .before .before .before .before .pen-of .result)) _ _ _ _ _ (ap halfOf (c .before .before .before .before .before .before .before .before .before .before .before .before .before .before .before .before .before .before .before .before .before .before .before .half-of .ensures)) (ap penOf (c .before .before .before .before .before .before .before .before .before .before .before .before .before .before .before .before .before .before .before .before .before .before .before .before .before .pen-of .ensures))
-    (few-words (a .d - 1) (omega (arith, c .before .before .before .before .before .before .before .before .before .before .before .before .before .before .before .before .before .before .before .before .before .before .before .before .before .before .before .before .before .before .before .before .before .before .before .before .before .before .before .before .before .before .before .before .before .before .before .pre))) (c .before .before .before .before .before .before .before .before .before .before .before .before .before .before .before .before .before .before .before .before .before .before .before .before .if4 .left)
-    (c .before .before .before .before .before .before .before .before .before .before .before .before .before .before .before .before .before .before .before .before .before .differs .ensures ∙ ap (differ (c .before .before .before .before .before .before .before .before .before .before .before .before .before .before .before .before .before .before .before .before .before .before .before .half-of .result .complement)) (c .before .before .before .before .before .before .before .before .before .before .before .before .before .before .before .before .before .before .before .before .before .before .truth2 .ensures)) (c .before .before .before .before .before .before .before .before .before .before .before .before .before .before .before .before .before .before .before .wait .ensures) (c .before .before .before .before .before .before .before .before .before .before .before .before .before .before .before .push-turn .ensures)
-    (sym (c .before .before .before .before .before .before .before .before .before .before .before .before .is-again .ensures) ∙ c .before .before .before .before .before .before .before .before .before .before .before .if5 .taken)
-    (again-as (c .before .before .before .before .before .before .before .before .before .kept4 .result) (c .before .before .before .before .before .before .before .before .before .before .numbered .result) (c .before .before .before .before .before .before .before .before .before .before .before .before .before .before .before .before .before .before .before .before .before .before .before .half-of .result) (c .before .before .before .before .before .before .before .before .before .before .before .before .before .before .before .before .before .before .before .before .before .before .before .before .before .pen-of .result) _ _ _ _ _ (c .before .before .before .before .before .before .before .before .before .kept4 .ensures) (c .before .before .before .before .before .before .before .before .before .before .numbered .ensures) (c .before .before .before .before .before .before .before .before .before .before .before .before .before .before .before .before .before .before .before .before .before .before .truth2 .ensures))
+  same-length-6 : walk-lts.Need-same-length-6 K (at t) walk.Post
+  same-length-6 c =
+      let c14 = c .before .before .before .before .before .before .before .before .before .before .before .before .before .before in
+      let c18 = c14 .before .before .before .before in
+      let c27 = c18 .before .before .before .before .before .before .before .before .before in
+      let c36 = c27 .before .before .before .before .before .before .before .before .before in
+      c .before .w5 .given ∙ c14 .w4 .given ∙ c18 .w3 .given ∙ c27 .w2 .given ∙ c36 .w .given
 
-walk-walk-requires-2 : (t : ℕ) → walk-lts.Need-walk-requires-2 (
-  truth-reads.Asked,
-  truth-reads.Learnt,
-  constant-reads.Asked,
-  constant-reads.Learnt,
-  kept-reads.Asked,
-  kept-reads.Learnt,
-  all-bytes-reads.Asked,
-  all-bytes-reads.Learnt,
-  push-reads.Asked,
-  push-reads.Learnt,
-  walk-below t,
-  walk.Post,
-  pen-of-reads.Asked,
-  pen-of-reads.Learnt,
-  half-of-reads.Asked,
-  half-of-reads.Learnt,
-  differs-reads.Asked,
-  differs-reads.Learnt,
-  wait-reads.Asked,
-  wait-reads.Learnt,
-  push-turn-reads.Asked,
-  push-turn-reads.Learnt,
-  is-again-reads.Asked,
-  is-again-reads.Learnt,
-  numbered-reads.Asked,
-  numbered-reads.Learnt,
-  second-reads.Asked,
-  second-reads.Learnt,
-) (walk-at t) walk.Post
-walk-walk-requires-2 t c κs = let a = c .before .before .before .before .before .before .before .before .before .before .before .before .before .before .before .before .before .before .before .before .before .before .before .before .before .before .before .before .before .before .before .before .before .before .before .before .before .before .before .args in
-    let h : (a .d - 1 < t) × ((a .d - 1 ≤ 16) × ((a .i + 1 + (a .d - 1) ≤ 64) × (a .at + 1 * 2 ^ (a .d - 1) % 18446744073709551616 + 2 ^ (a .d - 1) ≤ 65536))) =
-    omega (arith, c .before .before .before .before .before .before .before .before .before .before .before .before .before .before .before .before .before .before .before .before .before .before .before .before .before .before .before .before .before .before .before .before .before .before .before .before .before .before .before .pre, c .before .before .before .before .before .before .before .before .before .before .before .before .before .before .before .before .before .before .before .before .before .before .before .before .before .before .before .before .before .before .before .before .before .before .before .if1 .left, few-words (a .d - 1) (omega (arith, c .before .before .before .before .before .before .before .before .before .before .before .before .before .before .before .before .before .before .before .before .before .before .before .before .before .before .before .before .before .before .before .before .before .before .before .before .before .before .before .pre)), both-halves (a .d) (c .before .before .before .before .before .before .before .before .before .before .before .before .before .before .before .before .before .before .before .before .before .before .before .before .before .before .before .before .before .before .before .before .before .before .before .if1 .left)) in
-    h
+  returns-5 : walk-lts.Need-returns-5 K (at t) walk.Post
+  returns-5 c =
+      let c5 = c .before .before .before .before .before in
+      let c9 = c5 .before .before .before .before in
+      let c10 = c9 .before in
+      let c11 = c10 .before in
+      let c12 = c11 .before in
+      let c15 = c12 .before .before .before in
+      let c19 = c15 .before .before .before .before in
+      let c21 = c19 .before .before in
+      let c22 = c21 .before in
+      let c23 = c22 .before in
+      let c24 = c23 .before in
+      let c25 = c24 .before in
+      let c31 = c25 .before .before .before .before .before .before in
+      let c37 = c31 .before .before .before .before .before .before in
+      let c39 = c37 .before .before in
+      let c40 = c39 .before in
+      let c41 = c40 .before in
+      let c42 = c41 .before in
+      let c43 = c42 .before in
+      let c47 = c43 .before .before .before .before in
+      let a = c47 .args in
+      let e : a .d ≡ suc (a .d - 1) = omega (arith, c43 .if1 .left) in
+      c5 .second .ensures
+      ∙ walk-repeat (a .v .now) (a .size) (a .d - 1) (a .i) (a .at) (a .m) (a .t .now) (a .out .now) (a .w .now) (penOf (a .pen)) (a .d) e
+      (sym (c42 .all-bytes .ensures) ∙ c41 .if2 .left) (sym (c40 .all-bytes2 .ensures) ∙ c39 .if3 .left) _ _ (c37 .push .ensures) (c31 .walk .ensures)
+      (halfOf (c23 .half-of .result)) (penOf (c25 .pen-of .result)) _ _ _ _ _ (ap halfOf (c23 .half-of .ensures)) (ap penOf (c25 .pen-of .ensures))
+      (few-words (a .d - 1) (omega (arith, c47 .pre))) (c24 .if4 .left)
+      (c21 .differs .ensures ∙ ap (differ (c23 .half-of .result .complement)) (c22 .truth2 .ensures)) (c19 .wait .ensures) (c15 .push-turn .ensures)
+      (sym (c12 .is-again .ensures) ∙ c11 .if5 .taken)
+      (again-as (c9 .kept4 .result) (c10 .numbered .result) (c23 .half-of .result) (c25 .pen-of .result) _ _ _ _ _ (c9 .kept4 .ensures) (c10 .numbered .ensures) (c22 .truth2 .ensures))
 
-walk-second-requires-2 : (t : ℕ) → walk-lts.Need-second-requires-2 (
-  truth-reads.Asked,
-  truth-reads.Learnt,
-  constant-reads.Asked,
-  constant-reads.Learnt,
-  kept-reads.Asked,
-  kept-reads.Learnt,
-  all-bytes-reads.Asked,
-  all-bytes-reads.Learnt,
-  push-reads.Asked,
-  push-reads.Learnt,
-  walk-below t,
-  walk.Post,
-  pen-of-reads.Asked,
-  pen-of-reads.Learnt,
-  half-of-reads.Asked,
-  half-of-reads.Learnt,
-  differs-reads.Asked,
-  differs-reads.Learnt,
-  wait-reads.Asked,
-  wait-reads.Learnt,
-  push-turn-reads.Asked,
-  push-turn-reads.Learnt,
-  is-again-reads.Asked,
-  is-again-reads.Learnt,
-  numbered-reads.Asked,
-  numbered-reads.Learnt,
-  second-reads.Asked,
-  second-reads.Learnt,
-) (walk-at t) walk.Post
-walk-second-requires-2 t c κs = search needs
+  walk-requires-2 : walk-lts.Need-walk-requires-2 K (at t) walk.Post
+  walk-requires-2 c κs =
+      let c35 = c .before .before .before .before .before .before .before .before .before .before .before .before .before .before .before .before .before .before .before .before .before .before .before .before .before .before .before .before .before .before .before .before .before .before .before in
+      let c39 = c35 .before .before .before .before in
+      let a = c39 .args in
+      let h : (a .d - 1 < t) × ((a .d - 1 ≤ 16) × ((a .i + 1 + (a .d - 1) ≤ 64) × (a .at + 1 * 2 ^ (a .d - 1) % 18446744073709551616 + 2 ^ (a .d - 1) ≤ 65536))) =
+      omega (arith, c39 .pre, c35 .if1 .left, few-words (a .d - 1) (omega (arith, c39 .pre)), both-halves (a .d) (c35 .if1 .left)) in
+      h
 
-walk-same-length-7 : (t : ℕ) → walk-lts.Need-same-length-7 (
-  truth-reads.Asked,
-  truth-reads.Learnt,
-  constant-reads.Asked,
-  constant-reads.Learnt,
-  kept-reads.Asked,
-  kept-reads.Learnt,
-  all-bytes-reads.Asked,
-  all-bytes-reads.Learnt,
-  push-reads.Asked,
-  push-reads.Learnt,
-  walk-below t,
-  walk.Post,
-  pen-of-reads.Asked,
-  pen-of-reads.Learnt,
-  half-of-reads.Asked,
-  half-of-reads.Learnt,
-  differs-reads.Asked,
-  differs-reads.Learnt,
-  wait-reads.Asked,
-  wait-reads.Learnt,
-  push-turn-reads.Asked,
-  push-turn-reads.Learnt,
-  is-again-reads.Asked,
-  is-again-reads.Learnt,
-  numbered-reads.Asked,
-  numbered-reads.Learnt,
-  second-reads.Asked,
-  second-reads.Learnt,
-) (walk-at t) walk.Post
-walk-same-length-7 t c = c .before .before .before .before .t4 .given ∙ c .before .before .before .before .before .before .before .before .before .before .before .before .before .t3 .given ∙ c .before .before .before .before .before .before .before .before .before .before .before .before .before .before .before .before .before .before .before .before .before .before .before .before .before .before .before .before .before .before .before .before .before .before .before .before .before .t .given
+  second-requires-2 : walk-lts.Need-second-requires-2 K (at t) walk.Post
+  second-requires-2 c κs = tt
 
-walk-same-length-8 : (t : ℕ) → walk-lts.Need-same-length-8 (
-  truth-reads.Asked,
-  truth-reads.Learnt,
-  constant-reads.Asked,
-  constant-reads.Learnt,
-  kept-reads.Asked,
-  kept-reads.Learnt,
-  all-bytes-reads.Asked,
-  all-bytes-reads.Learnt,
-  push-reads.Asked,
-  push-reads.Learnt,
-  walk-below t,
-  walk.Post,
-  pen-of-reads.Asked,
-  pen-of-reads.Learnt,
-  half-of-reads.Asked,
-  half-of-reads.Learnt,
-  differs-reads.Asked,
-  differs-reads.Learnt,
-  wait-reads.Asked,
-  wait-reads.Learnt,
-  push-turn-reads.Asked,
-  push-turn-reads.Learnt,
-  is-again-reads.Asked,
-  is-again-reads.Learnt,
-  numbered-reads.Asked,
-  numbered-reads.Learnt,
-  second-reads.Asked,
-  second-reads.Learnt,
-) (walk-at t) walk.Post
-walk-same-length-8 t c = c .before .before .before .out4 .given ∙ c .before .before .before .before .before .before .before .before .before .before .before .before .out3 .given ∙ c .before .before .before .before .before .before .before .before .before .before .before .before .before .before .before .before .before .before .before .before .before .before .before .before .before .before .before .before .before .before .before .before .before .before .before .before .out .given
+  same-length-7 : walk-lts.Need-same-length-7 K (at t) walk.Post
+  same-length-7 c =
+      let c4 = c .before .before .before .before in
+      let c13 = c4 .before .before .before .before .before .before .before .before .before in
+      let c37 = c13 .before .before .before .before .before .before .before .before .before .before .before .before .before .before .before .before .before .before .before .before .before .before .before .before in
+      c4 .t4 .given ∙ c13 .t3 .given ∙ c37 .t .given
 
-walk-same-length-9 : (t : ℕ) → walk-lts.Need-same-length-9 (
-  truth-reads.Asked,
-  truth-reads.Learnt,
-  constant-reads.Asked,
-  constant-reads.Learnt,
-  kept-reads.Asked,
-  kept-reads.Learnt,
-  all-bytes-reads.Asked,
-  all-bytes-reads.Learnt,
-  push-reads.Asked,
-  push-reads.Learnt,
-  walk-below t,
-  walk.Post,
-  pen-of-reads.Asked,
-  pen-of-reads.Learnt,
-  half-of-reads.Asked,
-  half-of-reads.Learnt,
-  differs-reads.Asked,
-  differs-reads.Learnt,
-  wait-reads.Asked,
-  wait-reads.Learnt,
-  push-turn-reads.Asked,
-  push-turn-reads.Learnt,
-  is-again-reads.Asked,
-  is-again-reads.Learnt,
-  numbered-reads.Asked,
-  numbered-reads.Learnt,
-  second-reads.Asked,
-  second-reads.Learnt,
-) (walk-at t) walk.Post
-walk-same-length-9 t c = c .before .w7 .given ∙ c .before .before .before .before .before .before .before .before .before .before .w6 .given ∙ c .before .before .before .before .before .before .before .before .before .before .before .before .before .before .before .before .before .before .before .before .before .w4 .given ∙ c .before .before .before .before .before .before .before .before .before .before .before .before .before .before .before .before .before .before .before .before .before .before .before .before .before .w3 .given ∙ c .before .before .before .before .before .before .before .before .before .before .before .before .before .before .before .before .before .before .before .before .before .before .before .before .before .before .before .before .before .before .before .before .before .before .w2 .given ∙ c .before .before .before .before .before .before .before .before .before .before .before .before .before .before .before .before .before .before .before .before .before .before .before .before .before .before .before .before .before .before .before .before .before .before .before .before .before .before .before .before .before .before .before .w .given
+  same-length-8 : walk-lts.Need-same-length-8 K (at t) walk.Post
+  same-length-8 c =
+      let c3 = c .before .before .before in
+      let c12 = c3 .before .before .before .before .before .before .before .before .before in
+      let c36 = c12 .before .before .before .before .before .before .before .before .before .before .before .before .before .before .before .before .before .before .before .before .before .before .before .before in
+      c3 .out4 .given ∙ c12 .out3 .given ∙ c36 .out .given
 
-walk-returns-6 : (t : ℕ) → walk-lts.Need-returns-6 (
-  truth-reads.Asked,
-  truth-reads.Learnt,
-  constant-reads.Asked,
-  constant-reads.Learnt,
-  kept-reads.Asked,
-  kept-reads.Learnt,
-  all-bytes-reads.Asked,
-  all-bytes-reads.Learnt,
-  push-reads.Asked,
-  push-reads.Learnt,
-  walk-below t,
-  walk.Post,
-  pen-of-reads.Asked,
-  pen-of-reads.Learnt,
-  half-of-reads.Asked,
-  half-of-reads.Learnt,
-  differs-reads.Asked,
-  differs-reads.Learnt,
-  wait-reads.Asked,
-  wait-reads.Learnt,
-  push-turn-reads.Asked,
-  push-turn-reads.Learnt,
-  is-again-reads.Asked,
-  is-again-reads.Learnt,
-  numbered-reads.Asked,
-  numbered-reads.Learnt,
-  second-reads.Asked,
-  second-reads.Learnt,
-) (walk-at t) walk.Post
-walk-returns-6 t c = let a = c .before .before .before .before .before .before .before .before .before .before .before .before .before .before .before .before .before .before .before .before .before .before .before .before .before .before .before .before .before .before .before .before .before .before .before .before .before .before .before .before .before .before .before .before .before .before .before .before .before .before .before .before .before .before .args in
-    let e : a .d ≡ suc (a .d - 1) = omega (arith, c .before .before .before .before .before .before .before .before .before .before .before .before .before .before .before .before .before .before .before .before .before .before .before .before .before .before .before .before .before .before .before .before .before .before .before .before .before .before .before .before .before .before .before .before .before .before .before .before .before .before .if1 .left) in
-    c .before .before .before .before .before .second2 .ensures
-    ∙ walk-on (a .v .now) (a .size) (a .d - 1) (a .i) (a .at) (a .m) (a .t .now) (a .out .now) (a .w .now) (penOf (a .pen)) (a .d) e
-    (sym (c .before .before .before .before .before .before .before .before .before .before .before .before .before .before .before .before .before .before .before .before .before .before .before .before .before .before .before .before .before .before .before .before .before .before .before .before .before .before .before .before .before .before .before .before .before .before .before .before .before .all-bytes .ensures) ∙ c .before .before .before .before .before .before .before .before .before .before .before .before .before .before .before .before .before .before .before .before .before .before .before .before .before .before .before .before .before .before .before .before .before .before .before .before .before .before .before .before .before .before .before .before .before .before .before .before .if2 .left) (sym (c .before .before .before .before .before .before .before .before .before .before .before .before .before .before .before .before .before .before .before .before .before .before .before .before .before .before .before .before .before .before .before .before .before .before .before .before .before .before .before .before .before .before .before .before .before .before .before .all-bytes2 .ensures) ∙ c .before .before .before .before .before .before .before .before .before .before .before .before .before .before .before .before .before .before .before .before .before .before .before .before .before .before .before .before .before .before .before .before .before .before .before .before .before .before .before .before .before .before .before .before .before .before .if3 .left) _ _ (c .before .before .before .before .before .before .before .before .before .before .before .before .before .before .before .before .before .before .before .before .before .before .before .before .before .before .before .before .before .before .before .before .before .before .before .before .before .before .before .before .before .before .before .before .push .ensures) (c .before .before .before .before .before .before .before .before .before .before .before .before .before .before .before .before .before .before .before .before .before .before .before .before .before .before .before .before .before .before .before .before .before .before .before .before .before .before .walk .ensures)
-    (halfOf (c .before .before .before .before .before .before .before .before .before .before .before .before .before .before .before .before .before .before .before .before .before .before .before .before .before .before .before .before .before .before .half-of .result)) (penOf (c .before .before .before .before .before .before .before .before .before .before .before .before .before .before .before .before .before .before .before .before .before .before .before .before .before .before .before .before .before .before .before .before .pen-of .result)) _ _ _ _ _ (ap halfOf (c .before .before .before .before .before .before .before .before .before .before .before .before .before .before .before .before .before .before .before .before .before .before .before .before .before .before .before .before .before .before .half-of .ensures)) (ap penOf (c .before .before .before .before .before .before .before .before .before .before .before .before .before .before .before .before .before .before .before .before .before .before .before .before .before .before .before .before .before .before .before .before .pen-of .ensures))
-    (few-words (a .d - 1) (omega (arith, c .before .before .before .before .before .before .before .before .before .before .before .before .before .before .before .before .before .before .before .before .before .before .before .before .before .before .before .before .before .before .before .before .before .before .before .before .before .before .before .before .before .before .before .before .before .before .before .before .before .before .before .before .before .before .pre))) (c .before .before .before .before .before .before .before .before .before .before .before .before .before .before .before .before .before .before .before .before .before .before .before .before .before .before .before .before .before .before .before .if4 .left)
-    (c .before .before .before .before .before .before .before .before .before .before .before .before .before .before .before .before .before .before .before .before .before .before .before .before .before .before .before .before .differs .ensures ∙ ap (differ (c .before .before .before .before .before .before .before .before .before .before .before .before .before .before .before .before .before .before .before .before .before .before .before .before .before .before .before .before .before .before .half-of .result .complement)) (c .before .before .before .before .before .before .before .before .before .before .before .before .before .before .before .before .before .before .before .before .before .before .before .before .before .before .before .before .before .truth2 .ensures)) (c .before .before .before .before .before .before .before .before .before .before .before .before .before .before .before .before .before .before .before .before .before .before .before .before .before .before .wait .ensures) (c .before .before .before .before .before .before .before .before .before .before .before .before .before .before .before .before .before .before .before .before .before .before .push-turn .ensures)
-    (sym (c .before .before .before .before .before .before .before .before .before .before .before .before .before .before .before .before .before .before .before .is-again .ensures) ∙ c .before .before .before .before .before .before .before .before .before .before .before .before .before .before .before .before .before .before .if5 .left) (c .before .before .before .before .before .before .before .before .before .before .before .before .before .before .walk2 .ensures)
+  same-length-9 : walk-lts.Need-same-length-9 K (at t) walk.Post
+  same-length-9 c =
+      let c10 = c .before .before .before .before .before .before .before .before .before .before in
+      let c21 = c10 .before .before .before .before .before .before .before .before .before .before .before in
+      let c25 = c21 .before .before .before .before in
+      let c34 = c25 .before .before .before .before .before .before .before .before .before in
+      let c43 = c34 .before .before .before .before .before .before .before .before .before in
+      c .before .w7 .given ∙ c10 .w6 .given ∙ c21 .w4 .given ∙ c25 .w3 .given ∙ c34 .w2 .given ∙ c43 .w .given
+
+  returns-6 : walk-lts.Need-returns-6 K (at t) walk.Post
+  returns-6 c =
+      let c5 = c .before .before .before .before .before in
+      let c14 = c5 .before .before .before .before .before .before .before .before .before in
+      let c18 = c14 .before .before .before .before in
+      let c19 = c18 .before in
+      let c22 = c19 .before .before .before in
+      let c26 = c22 .before .before .before .before in
+      let c28 = c26 .before .before in
+      let c29 = c28 .before in
+      let c30 = c29 .before in
+      let c31 = c30 .before in
+      let c32 = c31 .before in
+      let c38 = c32 .before .before .before .before .before .before in
+      let c44 = c38 .before .before .before .before .before .before in
+      let c46 = c44 .before .before in
+      let c47 = c46 .before in
+      let c48 = c47 .before in
+      let c49 = c48 .before in
+      let c50 = c49 .before in
+      let c54 = c50 .before .before .before .before in
+      let a = c54 .args in
+      let e : a .d ≡ suc (a .d - 1) = omega (arith, c50 .if1 .left) in
+      c5 .second2 .ensures
+      ∙ walk-on (a .v .now) (a .size) (a .d - 1) (a .i) (a .at) (a .m) (a .t .now) (a .out .now) (a .w .now) (penOf (a .pen)) (a .d) e
+      (sym (c49 .all-bytes .ensures) ∙ c48 .if2 .left) (sym (c47 .all-bytes2 .ensures) ∙ c46 .if3 .left) _ _ (c44 .push .ensures) (c38 .walk .ensures)
+      (halfOf (c30 .half-of .result)) (penOf (c32 .pen-of .result)) _ _ _ _ _ (ap halfOf (c30 .half-of .ensures)) (ap penOf (c32 .pen-of .ensures))
+      (few-words (a .d - 1) (omega (arith, c54 .pre))) (c31 .if4 .left)
+      (c28 .differs .ensures ∙ ap (differ (c30 .half-of .result .complement)) (c29 .truth2 .ensures)) (c26 .wait .ensures) (c22 .push-turn .ensures)
+      (sym (c19 .is-again .ensures) ∙ c18 .if5 .left) (c14 .walk2 .ensures)
 
 pub +walk-spec : {M : Type 1} → statement M
-+walk-spec = close μ-walk λ t. walk-lts.spec (
-  truth-reads.Asked,
-  truth-reads.Learnt,
-  constant-reads.Asked,
-  constant-reads.Learnt,
-  kept-reads.Asked,
-  kept-reads.Learnt,
-  all-bytes-reads.Asked,
-  all-bytes-reads.Learnt,
-  push-reads.Asked,
-  push-reads.Learnt,
-  walk-below t,
-  walk.Post,
-  pen-of-reads.Asked,
-  pen-of-reads.Learnt,
-  half-of-reads.Asked,
-  half-of-reads.Learnt,
-  differs-reads.Asked,
-  differs-reads.Learnt,
-  wait-reads.Asked,
-  wait-reads.Learnt,
-  push-turn-reads.Asked,
-  push-turn-reads.Learnt,
-  is-again-reads.Asked,
-  is-again-reads.Learnt,
-  numbered-reads.Asked,
-  numbered-reads.Learnt,
-  second-reads.Asked,
-  second-reads.Learnt,
-)
-    (walk-at t)
++walk-spec = close μ-walk λ t. walk-lts.spec (K t)
+    (at t)
     walk.Post
-    (walk-truth-requires t)
-    (walk-constant-requires t)
-    (walk-kept-requires t)
-    (walk-returns t)
-    (walk-all-bytes-requires t)
-    (walk-constant-requires-2 t)
-    (walk-kept-requires-2 t)
-    (walk-returns-2 t)
-    (walk-all-bytes-requires-2 t)
-    (walk-constant-requires-3 t)
-    (walk-kept-requires-3 t)
-    (walk-returns-3 t)
-    (walk-sub-e t)
-    (walk-add-j t)
-    (walk-cast-mid t)
-    (walk-shl-mid t)
-    (walk-add-mid t)
-    (walk-push-requires t)
-    (walk-walk-requires t)
-    (walk-pen-of-requires t)
-    (walk-same-length t)
-    (walk-same-length-2 t)
-    (walk-same-length-3 t)
-    (walk-returns-4 t)
-    (walk-half-of-requires t)
-    (walk-truth-requires-2 t)
-    (walk-differs-requires t)
-    (walk-wait-requires t)
-    (walk-push-turn-requires t)
-    (walk-is-again-requires t)
-    (walk-numbered-requires t)
-    (walk-kept-requires-4 t)
-    (walk-second-requires t)
-    (walk-same-length-4 t)
-    (walk-same-length-5 t)
-    (walk-same-length-6 t)
-    (walk-returns-5 t)
-    (walk-walk-requires-2 t)
-    (walk-second-requires-2 t)
-    (walk-same-length-7 t)
-    (walk-same-length-8 t)
-    (walk-same-length-9 t)
-    (walk-returns-6 t)
+    (truth-requires t)
+    (constant-requires t)
+    (kept-requires t)
+    (returns t)
+    (all-bytes-requires t)
+    (constant-requires-2 t)
+    (kept-requires-2 t)
+    (returns-2 t)
+    (all-bytes-requires-2 t)
+    (constant-requires-3 t)
+    (kept-requires-3 t)
+    (returns-3 t)
+    (sub-e t)
+    (add-j t)
+    (cast-mid t)
+    (shl-mid t)
+    (add-mid t)
+    (push-requires t)
+    (walk-requires t)
+    (pen-of-requires t)
+    (same-length t)
+    (same-length-2 t)
+    (same-length-3 t)
+    (returns-4 t)
+    (half-of-requires t)
+    (truth-requires-2 t)
+    (differs-requires t)
+    (wait-requires t)
+    (push-turn-requires t)
+    (is-again-requires t)
+    (numbered-requires t)
+    (kept-requires-4 t)
+    (second-requires t)
+    (same-length-4 t)
+    (same-length-5 t)
+    (same-length-6 t)
+    (returns-5 t)
+    (walk-requires-2 t)
+    (second-requires-2 t)
+    (same-length-7 t)
+    (same-length-8 t)
+    (same-length-9 t)
+    (returns-6 t)

@@ -8,7 +8,7 @@ use mathlib.Core.Bool.{Bool}
 use Rattle.writing.specs.Texts.{tildeIf}
 use Rattle.engine.specs.Pending.{pushAll}
 use Rattle.engine.specs.EngineMade.{body-made}
-use Rattle.writer.specs.Cite.{penOf}
+use Rattle.meeting.specs.Cite.{penOf}
 use native.Mathlib.Omega.{arith}
 use Prim.Native.Nat.{_^_, _≤_, _+_}
 use lib.Pow.{pow-mono}
