@@ -1,19 +1,20 @@
 -- What a combiner remembers of parts that it walked: rows of cells, each with what a part came to and with the edges at which its inputs
 -- stood. A later entry overwrites one of the same row. Definitions only; MemoLaws says what is true of them. Assumes nothing.
 use mathlib.Core.Bool.{Bool, true, false, cond, not, _&&_, _||_}
-use mathlib.Core.List.{List, [], _∷_, _++_}
+use mathlib.Core.List.{List, [], _∷_}
 use Prim.Native.Nat.{ℕ, _+_, _-_, _*_, _%_}
 use lib.Dec.{eqb}
-use lib.ListN.{length, getD, set, drop}
+use lib.ListN.{getD, set, drop}
 use Rattle.lists.specs.Lists.{bit}
 use Rattle.reading.specs.Nodes.{stamp}
 use Rattle.engine.specs.Cells.{cell}
+use Rattle.engine.specs.Hashing.{stir}
 use Rattle.engine.specs.Engine.{Half, constantHalf, numberHalf}
 use Rattle.engine.specs.Applying.{Source}
 
 -- A row: 0 if it is empty, else 1, and 2 if the part is complemented; the number that the part came to (0: the constant) and its stamp;
 -- then three cells of each input: the number at which it stood (0: the constant), the stamp of that in its table, and 1 if it is turned
--- about. Further cells are not asked.
+-- about.
 
 -- ---- The key ---------------------------------------------------------------------------------
 
@@ -67,19 +68,31 @@ rowFor hash μ xs = getD μ (hash (keyOf xs)) []
 abbrev pub lookIn : (List ℕ → ℕ) → List (List ℕ) → List Source → List (List ℕ) → Bool
 lookIn hash μ xs t = tells (rowFor hash μ xs) xs t
 
--- the row r with what the part came to
-abbrev pub noteRow : List ℕ → List Source → Half → List ℕ
-noteRow r xs h =
-    let z = keyOf xs in
-    (bit (h .complement) + 1) ∷ h .number ∷ h .stamp ∷ (z ++ drop (length z + 3) r)
+-- the row with what the part came to
+abbrev pub noteRow : List Source → Half → List ℕ
+noteRow xs h = (bit (h .complement) + 1) ∷ h .number ∷ h .stamp ∷ keyOf xs
 
 -- it came to h; a temporary node is not remembered
 unfoldable pub rememberIn : (List ℕ → ℕ) → List (List ℕ) → List Source → Half → List (List ℕ)
-rememberIn hash μ xs h = cond (h .temporary) μ (set μ (hash (keyOf xs)) (noteRow (rowFor hash μ xs) xs h))
+rememberIn hash μ xs h = cond (h .temporary) μ (set μ (hash (keyOf xs)) (noteRow xs h))
 
--- ---- A hash ----------------------------------------------------------------------------------
+-- ---- The place of a key ----------------------------------------------------------------------
 
--- one of c rows by the cells z, from the sum v on
-unfoldable pub mixed : ℕ → ℕ → List ℕ → ℕ
-mixed c v [] = v
-mixed c v (z ∷ zs) = mixed c ((v * 269 + z) % c) zs
+-- How many rows there are. No law depends on it, nor on where a key has its place
+abbrev pub cacheRows : ℕ
+cacheRows = 2048
+
+-- the inputs' cells mixed, one input after the other, from v on
+unfoldable pub slotFrom : ℕ → List ℕ → ℕ
+unfolding stir
+slotFrom v [] = v
+slotFrom v (k ∷ []) = v
+slotFrom v (k ∷ g ∷ []) = v
+slotFrom v (k ∷ g ∷ u ∷ zs) = slotFrom (stir 2654435769 (v % 4294967296 + (g * 4096 + k * 2 + u))) zs
+
+-- one of c rows
+abbrev pub slotIn : ℕ → List ℕ → ℕ
+slotIn c z = slotFrom 0 z % c
+
+abbrev pub slotOf : List ℕ → ℕ
+slotOf z = slotIn cacheRows z

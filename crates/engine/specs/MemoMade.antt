@@ -12,22 +12,9 @@ use Rattle.lists.specs.Lists.{bit}
 use Rattle.reading.specs.Nodes.{stamp}
 use Rattle.engine.specs.Engine.{Half}
 use Rattle.engine.specs.Applying.{Source}
-use Rattle.engine.specs.Memo.{keyOf, sameKey, noteRow, mixed}
+use Rattle.engine.specs.Memo.{sameKey}
 
 -- ---- A row -----------------------------------------------------------------------------------
-
-drop-past : (k : ℕ) (r : List ℕ) → length r ≤ k → drop k r ≡ []
-drop-past zero [] h = refl
-drop-past zero (x ∷ r) h = absurd (omega (arith, h))
-drop-past (suc k) [] h = refl
-drop-past (suc k) (x ∷ r) h = drop-past k r (omega (arith, h))
-
--- where a row has no more cells than the key of the inputs wants, a note is all of it
-pub note-whole : (r : List ℕ) (xs : List Source) (h : Half) → length r ≤ length (keyOf xs) + 3
-    → noteRow r xs h ≡ (bit (h .complement) + 1) ∷ h .number ∷ h .stamp ∷ keyOf xs
-note-whole r xs h l =
-    ap (λ (z : List ℕ). (bit (h .complement) + 1) ∷ h .number ∷ h .stamp ∷ (keyOf xs ++ z)) (drop-past (length (keyOf xs) + 3) r l)
-    ∙ ap (λ (z : List ℕ). (bit (h .complement) + 1) ∷ h .number ∷ h .stamp ∷ z) (append-nil (keyOf xs))
 
 -- the key of an input, in the cells a, b and c
 abbrev pub fitsEdge : Source → ℕ → ℕ → ℕ → Bool → Bool
@@ -52,11 +39,3 @@ key-pair r x y = first ∙ ap (λ (l : List ℕ). second l) (drop-drop 3 3 r) �
         (getD-drop 6 r 0 0)
         ∙ ap₂ (λ (b c : ℕ). fitsEdge x (getD r 3 0) (getD r 4 0) (getD r 5 0) (fitsEdge y (getD r 6 0) b c true)) (getD-drop 6 r 1 0)
         (getD-drop 6 r 2 0)
-
--- ---- A hash ----------------------------------------------------------------------------------
-
--- it is one of the rows
-pub mixed-small : (c v : ℕ) (zs : List ℕ) → v < c → mixed c v zs < c
-unfolding mixed
-mixed-small c v [] h = h
-mixed-small c v (z ∷ zs) h = mixed-small c ((v * 269 + z) % c) zs (mod-lt (v * 269 + z) (omega (arith, h)))

@@ -98,34 +98,32 @@ source-same x y a b c =
     ∙ ap (λ (u : Bool). record { table = y .table; number = y .number; turned = u }) c
 
 -- the inputs that fit the key of others in the same tables are those
-key-same : (xs ys : List Source) (z : List ℕ) → tablesOf ys ≡ tablesOf xs → sameKey (keyOf xs ++ z) ys ≡ true → ys ≡ xs
-key-same [] [] z t e = refl
-key-same [] (y ∷ ys) z t e = cc
-key-same (x ∷ xs) [] z t e = cc
-key-same (x ∷ xs) (y ∷ ys) z t e =
-    let k = keyed (keyOf (x ∷ xs) ++ z) y ys e in
+key-same : (xs ys : List Source) → tablesOf ys ≡ tablesOf xs → sameKey (keyOf xs) ys ≡ true → ys ≡ xs
+key-same [] [] t e = refl
+key-same [] (y ∷ ys) t e = cc
+key-same (x ∷ xs) [] t e = cc
+key-same (x ∷ xs) (y ∷ ys) t e =
+    let k = keyed (keyOf (x ∷ xs)) y ys e in
     let a : y .table ≡ x .table = cc in
     let b : tablesOf ys ≡ tablesOf xs = cc in
-    ap₂ _∷_ (source-same y x a (sym (k .number)) (sym (bit-same (x .turned) (y .turned) (k .turned)))) (key-same xs ys z b (k .rest))
+    ap₂ _∷_ (source-same y x a (sym (k .number)) (sym (bit-same (x .turned) (y .turned) (k .turned)))) (key-same xs ys b (k .rest))
 
 -- its stamps are those in the tables
-key-now : (xs : List Source) (z : List ℕ) → KeyPast (keyOf xs ++ z) (tablesOf xs)
-key-now [] z = tt
-key-now (x ∷ xs) z = (omega arith, key-now xs z)
+key-now : (xs : List Source) → KeyPast (keyOf xs) (tablesOf xs)
+key-now [] = tt
+key-now (x ∷ xs) = (omega arith, key-now xs)
 
 -- what a part came to, told of its edges
-note-entry : (n : ℕ) (op : List Bool → Bool) (s : State) (r : List ℕ) (xs : List Source) (h : Half)
+note-entry : (n : ℕ) (op : List Bool → Bool) (s : State) (xs : List Source) (h : Half)
     → (0 < h .number → stamp (s .table) (h .number) ≡ h .stamp) → Tells n op s (h .number) (h .complement) xs
-    → Entry n op (tablesOf xs) s (noteRow r xs h)
-note-entry n op s r xs h now told =
-    let z = drop (length (keyOf xs) + 3) r in
-    record {
-      past = λ l. omega (arith, now l);
-      key-past = key-now xs z;
-      told = λ e ys t k.
-          subst⁻¹ (λ (ys : List Source). Tells n op s (h .number) (eqb (bit (h .complement) + 1) 2) ys) (key-same xs ys z t k)
-          (subst⁻¹ (λ (c : Bool). Tells n op s (h .number) c xs) (bit-back (h .complement)) told);
-    }
+    → Entry n op (tablesOf xs) s (noteRow xs h)
+note-entry n op s xs h now told = record {
+  past = λ l. omega (arith, now l);
+  key-past = key-now xs;
+  told = λ e ys t k.
+      subst⁻¹ (λ (ys : List Source). Tells n op s (h .number) (eqb (bit (h .complement) + 1) 2) ys) (key-same xs ys t k)
+      (subst⁻¹ (λ (c : Bool). Tells n op s (h .number) c xs) (bit-back (h .complement)) told);
+}
 
 -- a memo stays true
 pub memory-note : (hash : List ℕ → ℕ) (n : ℕ) (op : List Bool → Bool) (s : State) (μ : List (List ℕ)) (xs : List Source) (h : Half)
@@ -135,12 +133,12 @@ unfolding rememberIn
 memory-note hash n op s μ xs h told mem = go (h .temporary) refl
   where
     row : List ℕ
-    row = noteRow (rowFor hash μ xs) xs h
+    row = noteRow xs h
 
     go : (u : Bool) → h .temporary ≡ u → Memory n op (tablesOf xs) s (cond u μ (set μ (hash (keyOf xs)) row))
     go true e = mem
     go false e = λ p. getD-set-either (λ (r : List ℕ). isEmpty r ≡ false → Entry n op (tablesOf xs) s r) μ (hash (keyOf xs)) p row []
-        (λ z. note-entry n op s (rowFor hash μ xs) xs h (told e .0) (told e .1)) (mem p)
+        (λ z. note-entry n op s xs h (told e .0) (told e .1)) (mem p)
 
 -- ---- What a part came to ---------------------------------------------------------------------
 

@@ -13,7 +13,8 @@ use Rattle.engine.specs.Recycling.{leaveIn, joinIn, freeOf, searchIn, fi
 use Rattle.engine.specs.Pending.{pushAll, waitIn, closeIn, sentTo}
 use Rattle.engine.specs.Engine.{Pen, endIn, writeNode, giveIn, knownIn, meetIn}
 use Rattle.engine.specs.Applying.{Source, firstSources, secondSources, turns, fixed, applyIn}
-use Rattle.engine.specs.Memo.{lookIn, rememberIn, mixed}
+use Rattle.engine.specs.Memo.{lookIn, rememberIn, slotFrom, slotIn}
+use Rattle.engine.specs.Hashing.{stir}
 use Rattle.engine.specs.Recalling.{alikePart, recallIn}
 
 -- ---- Steps -----------------------------------------------------------------------------------
@@ -85,20 +86,20 @@ startPen = record { given = 0; first = 0; last = 0; written = 0; full = false }
 
 -- what is sent without a memo, with one of c rows, and how many parts are then walked
 unfoldable plainly : (List Bool → Bool) → ℕ → ℕ → List Source → List ℕ
-unfolding applyIn digits decimal cell putCell leaveIn joinIn freeOf searchIn findIn shelveIn unshelveIn moreIn fewerIn orphanIn orphansIn releaseIn adoptIn noteIn placeIn storeIn nextIn pushAll waitIn closeIn sentTo writeNode giveIn knownIn meetIn fixed
+unfolding applyIn stir digits decimal cell putCell leaveIn joinIn freeOf searchIn findIn shelveIn unshelveIn moreIn fewerIn orphanIn orphansIn releaseIn adoptIn noteIn placeIn storeIn nextIn pushAll waitIn closeIn sentTo writeNode giveIn knownIn meetIn fixed
 plainly op size n xs =
     let x = endIn 0 (applyIn op size n 1 0 xs records (replicate 200 0) (replicate 300 0) startPen) in
     take (x .written) (x .output)
 
 unfoldable recalled : ℕ → (List Bool → Bool) → ℕ → ℕ → List Source → List ℕ
-unfolding recallIn rememberIn mixed digits decimal cell putCell leaveIn joinIn freeOf searchIn findIn shelveIn unshelveIn moreIn fewerIn orphanIn orphansIn releaseIn adoptIn noteIn placeIn storeIn nextIn pushAll waitIn closeIn sentTo writeNode giveIn knownIn meetIn fixed
+unfolding recallIn rememberIn slotFrom stir digits decimal cell putCell leaveIn joinIn freeOf searchIn findIn shelveIn unshelveIn moreIn fewerIn orphanIn orphansIn releaseIn adoptIn noteIn placeIn storeIn nextIn pushAll waitIn closeIn sentTo writeNode giveIn knownIn meetIn fixed
 recalled c op size n xs =
-    let x = endIn 0 (recallIn (mixed c 0) op size n 1 0 xs (rows c) records (replicate 200 0) (replicate 300 0) startPen .walked) in
+    let x = endIn 0 (recallIn (slotIn c) op size n 1 0 xs (rows c) records (replicate 200 0) (replicate 300 0) startPen .walked) in
     take (x .written) (x .output)
 
 unfoldable steps : ℕ → (List Bool → Bool) → ℕ → ℕ → List Source → ℕ
-unfolding stepsIn recallIn rememberIn mixed digits decimal cell putCell leaveIn joinIn freeOf searchIn findIn shelveIn unshelveIn moreIn fewerIn orphanIn orphansIn releaseIn adoptIn noteIn placeIn storeIn nextIn pushAll waitIn closeIn sentTo writeNode giveIn knownIn meetIn fixed
-steps c op size n xs = stepsIn (mixed c 0) op size n 1 0 xs (rows c) records (replicate 200 0) (replicate 300 0) startPen
+unfolding stepsIn recallIn rememberIn slotFrom stir digits decimal cell putCell leaveIn joinIn freeOf searchIn findIn shelveIn unshelveIn moreIn fewerIn orphanIn orphansIn releaseIn adoptIn noteIn placeIn storeIn nextIn pushAll waitIn closeIn sentTo writeNode giveIn knownIn meetIn fixed
+steps c op size n xs = stepsIn (slotIn c) op size n 1 0 xs (rows c) records (replicate 200 0) (replicate 300 0) startPen
 
 -- ---- Examples --------------------------------------------------------------------------------
 

@@ -346,3 +346,10 @@ pub fn stamp_of(t: &[[u32; 12]], k: u32) -> u32
 {
     get(t, 4, k)
 }
+
+// The level of number k
+pub fn level_of(t: &[[u32; 12]], k: u32) -> u32
+    ensures { λ x. ⌜ x ≡ cell (now (t .entry)) 0 k ⌝ }
+{
+    get(t, 0, k)
+}

@@ -1,0 +1,232 @@
+-- One law for each way through code that walks the stored nodes of two inputs with an operation cache. Assumes nothing.
+use mathlib.Core.Path.{_≡_, refl, sym, ap, ap₂, _∙_}
+use mathlib.Core.Bool.{Bool, true, false, cond, not, _&&_, _||_, false≢true}
+use mathlib.Core.List.{List, [], _∷_}
+use Prim.Native.Nat.{ℕ, suc, _+_, _-_, _<_, _≤_}
+use native.Mathlib.Omega.{arith}
+use lib.Dec.{eqb, ltb}
+use lib.ListN.{getD, set}
+use borrow.Author.Tests.{lt-ltb, le-ltb}
+use Rattle.lists.specs.Lists.{differ, bit}
+use Rattle.reading.specs.Nodes.{Node, node, stamp}
+use Rattle.reading.specs.Bytes.{opener}
+use Rattle.writing.specs.Texts.{tildeIf}
+use Rattle.writing.specs.Run.{operate}
+use Rattle.engine.specs.Pending.{Waiting, pushAll, waitIn}
+use Rattle.engine.specs.Engine as E
+use Rattle.engine.specs.Applying.{Source, firstSource, secondSource, passes, allPass, fixed}
+use Rattle.engine.specs.Memo.{keyOf, tells, isEmpty, isYoung, toldHalf, rememberIn, slotOf, rowFor, lookIn}
+use Rattle.engine.specs.MemoMade.{key-pair}
+use Rattle.engine.specs.Recalling.{Recalled, unnoted, alikePart, recallIn}
+use Rattle.engine.specs.RecallMade.{recall-told, recall-full, recall-on, recall-again}
+use Rattle.combining.specs.EdgeMade.{and-none}
+use Rattle.reader.specs.Table.{getIn}
+use Rattle.reader.specs.TableLaws.{tableOf, table-node}
+use Rattle.reader.specs.Simulation.{rowNode}
+use Rattle.reader.specs.declared.Row.{Row}
+use Rattle.meeting.specs.Cite.{halfOf, penOf, kept-as, again-as}
+use Rattle.meeting.specs.declared.Half.{Half}
+use Rattle.meeting.specs.declared.Pen.{Pen}
+use Rattle.meeting.specs.declared.Walked.{Walked}
+use Rattle.applier.specs.Cite.{edgeIn, keyCells, holds, tellsBy, notedBy, recalledOf, applied}
+use Rattle.applier.specs.declared.Edge.{Edge}
+use Rattle.applier.specs.declared.Key.{Key}
+use Rattle.applier.specs.declared.Told.{Told}
+
+-- two inputs at their edges
+abbrev pub pair : Edge → List (List ℕ) → Edge → List (List ℕ) → List Source
+pair x t y u = edgeIn x t ∷ edgeIn y u ∷ []
+
+-- ---- What code reads of an edge --------------------------------------------------------------
+
+-- its record, r
+module _ (x : Edge) (t : List (List ℕ)) (r : Row) (read : r ≡ getIn t (x .size) (x .number)) where
+  same-node : rowNode r ≡ node (tableOf t (x .size)) (x .number)
+  same-node = ap rowNode read ∙ sym (table-node t (x .size) (x .number))
+
+  same-stamp : r .stamp ≡ stamp (tableOf t (x .size)) (x .number)
+  same-stamp = ap (λ (n : Node). n .stamp) same-node
+
+  same-passes : (i : ℕ) → (eqb (x .number) 0 || ltb i (r .level)) ≡ passes i (edgeIn x t)
+  same-passes i = ap (λ (n : Node). eqb (x .number) 0 || ltb i (n .level)) same-node
+
+-- ---- What is asked ---------------------------------------------------------------------------
+
+pub one-down : (d : ℕ) → (d ≡ 0 → ⊥) → d ≡ suc (d - 1)
+one-down d h = omega (arith, h)
+
+pub one-asks : (d : ℕ) → (d ≡ 0 → ⊥) → 1 ≤ d
+one-asks d h = omega (arith, h)
+
+-- what each half of a part of d options at level i asks; t: the measure
+pub half-asks : (d i t : ℕ) → (d ≡ t) × (i + d ≤ 65) → (d ≡ 0 → ⊥) → (d - 1 < t) × (i + 1 + (d - 1) ≤ 65)
+half-asks d i t p h = (omega (arith, p, h), omega (arith, p, h))
+
+-- ---- What is returned ------------------------------------------------------------------------
+
+-- a part of which the pen is as it was
+pub kept-in : (r : Walked) (h : Half) (x : Pen) (t : List (List ℕ)) (out w : List ℕ) (μ : List (List ℕ)) → r ≡ record { half = h; pen = x }
+    → recalledOf r t out w μ ≡ unnoted (E.kept (halfOf h) t out w (penOf x)) μ
+kept-in r h x t out w μ e = ap (λ (r : Walked). recalledOf r t out w μ) e
+
+-- the constant, v
+pub constant-in : (r : Walked) (h : Half) (x : Pen) (v : Bool) (t : List (List ℕ)) (out w : List ℕ) (μ : List (List ℕ))
+    → r ≡ record { half = h; pen = x }
+    → h ≡ record { number = 0; stamp = 0; skipped = 0; temporary = false; complement = v; wrote = false }
+    → recalledOf r t out w μ ≡ unnoted (E.kept (E.constantHalf v) t out w (penOf x)) μ
+constant-in r h x v t out w μ e f = ap (λ (w : E.Walked). record { walked = w; memo = μ }) (kept-as r h x v t out w e f)
+
+-- what the first half came to (h), again
+pub again-in : (r : Walked) (g h : Half) (x : Pen) (v : Bool) (t : List (List ℕ)) (out w : List ℕ) (μ : List (List ℕ))
+    → r ≡ record { half = g; pen = x }
+    → g ≡ record { number = h .number; stamp = h .stamp; skipped = h .skipped; temporary = false; complement = v; wrote = false }
+    → recalledOf r t out w μ ≡ unnoted (E.kept (E.numberHalf (h .number) (h .stamp) (h .skipped) v false) t out w (penOf x)) μ
+again-in r g h x v t out w μ e f = ap (λ (w : E.Walked). record { walked = w; memo = μ }) (again-as r g h x v v t out w e f refl)
+
+-- ---- The ways --------------------------------------------------------------------------------
+
+-- past the options or levels of a rule
+pub applied-past : (op size d i m : ℕ) (xs : List Source) (μ t : List (List ℕ)) (out w : List ℕ) (pen : E.Pen) (b : Bool)
+    → (ltb 32 d || ltb 33 i) ≡ b → b ≡ true
+    → unnoted (E.kept (E.constantHalf false) t out w pen) μ ≡ applied op size d i m xs μ t out w pen
+applied-past op size d i m xs μ t out w pen b e f =
+    sym (ap (λ (b : Bool). cond b (unnoted (E.kept (E.constantHalf false) t out w pen) μ)
+    (recallIn slotOf (operate op) size d i m xs μ t out w pen)) (e ∙ f))
+
+pub applied-within : (op size d i m : ℕ) (xs : List Source) (μ t : List (List ℕ)) (out w : List ℕ) (pen : E.Pen) → d ≤ 32 → i ≤ 33
+    → recallIn slotOf (operate op) size d i m xs μ t out w pen ≡ applied op size d i m xs μ t out w pen
+applied-within op size d i m xs μ t out w pen h k =
+    sym (ap (λ (b : Bool). cond b (unnoted (E.kept (E.constantHalf false) t out w pen) μ)
+    (recallIn slotOf (operate op) size d i m xs μ t out w pen)) (ap₂ _||_ (le-ltb 32 d h) (le-ltb 33 i k)))
+
+-- a part of e options, d + 1 of them; r₁, r₂: the records of the inputs' numbers, k: its key, s: the place of that
+module _ (op size d i m : ℕ) (x y : Edge) (t₁ t₂ μ t : List (List ℕ)) (out w : List ℕ) (pen : E.Pen) (e : ℕ) (n : e ≡ suc d)
+    (open′ : fixed (operate op) (pair x t₁ y t₂) ≡ false) (r₁ r₂ : Row) (read₁ : r₁ ≡ getIn t₁ (x .size) (x .number))
+    (read₂ : r₂ ≡ getIn t₂ (y .size) (y .number)) (k : Key)
+    (keyed : keyCells k ≡ x .number ∷ r₁ .stamp ∷ bit (x .turned) ∷ y .number ∷ r₂ .stamp ∷ bit (y .turned) ∷ []) (s : ℕ)
+    (placed : s ≡ slotOf (keyCells k)) (g : Told) (told : tellsBy g (getD μ s []) k i t) where
+  abbrev xs : List Source
+  xs = pair x t₁ y t₂
+
+  abbrev whole : Recalled
+  whole = recallIn slotOf (operate op) size e i m xs μ t out w pen
+
+  key-cells : keyCells k ≡ keyOf xs
+  key-cells =
+      keyed ∙ ap₂ (λ (a b : ℕ). x .number ∷ a ∷ bit (x .turned) ∷ y .number ∷ b ∷ bit (y .turned) ∷ []) (same-stamp x t₁ r₁ read₁)
+      (same-stamp y t₂ r₂ read₂)
+
+  place : s ≡ slotOf (keyOf xs)
+  place = placed ∙ ap slotOf key-cells
+
+  -- cell by cell, by the cells of a key
+  abbrev heldBy : List ℕ → List ℕ → Bool
+  heldBy r z =
+      not (isEmpty r) && (eqb (getD r 3 0) (getD z 0 0) && (eqb (getD r 4 0) (getD z 1 0) && (eqb (getD r 5 0) (getD z 2 0)
+      && (eqb (getD r 6 0) (getD z 3 0) && (eqb (getD r 7 0) (getD z 4 0) && eqb (getD r 8 0) (getD z 5 0))))))
+
+  and-assoc : (a b c : Bool) → (a && b && c) ≡ (a && (b && c))
+  and-assoc true b c = refl
+  and-assoc false b c = refl
+
+  same-tells : (r : List ℕ) → (holds r k && isYoung r t) ≡ tells r xs t
+  same-tells r =
+      and-assoc (not (isEmpty r)) _ (isYoung r t)
+      ∙ ap (λ (b : Bool). not (isEmpty r) && (b && isYoung r t)) (fits (keyCells k) key-cells ∙ sym (key-pair r (edgeIn x t₁) (edgeIn y t₂)))
+    where
+      fits : (z : List ℕ) → z ≡ keyOf xs
+          → (eqb (getD r 3 0) (getD z 0 0) && (eqb (getD r 4 0) (getD z 1 0) && (eqb (getD r 5 0) (getD z 2 0)
+          && (eqb (getD r 6 0) (getD z 3 0) && (eqb (getD r 7 0) (getD z 4 0) && eqb (getD r 8 0) (getD z 5 0))))))
+          ≡ (eqb (getD r 3 0) (x .number) && (eqb (getD r 4 0) (stamp (tableOf t₁ (x .size)) (x .number)) && (eqb (getD r 5 0) (bit (x .turned))
+          && (eqb (getD r 6 0) (y .number) && (eqb (getD r 7 0) (stamp (tableOf t₂ (y .size)) (y .number)) && (eqb (getD r 8 0) (bit (y .turned)) && true))))))
+      fits z h =
+          ap (λ (z : List ℕ). eqb (getD r 3 0) (getD z 0 0) && (eqb (getD r 4 0) (getD z 1 0) && (eqb (getD r 5 0) (getD z 2 0)
+          && (eqb (getD r 6 0) (getD z 3 0) && (eqb (getD r 7 0) (getD z 4 0) && eqb (getD r 8 0) (getD z 5 0)))))) h
+          ∙ ap (λ (b : Bool). eqb (getD r 3 0) (x .number) && (eqb (getD r 4 0) (stamp (tableOf t₁ (x .size)) (x .number)) && (eqb (getD r 5 0) (bit (x .turned))
+          && (eqb (getD r 6 0) (y .number) && (eqb (getD r 7 0) (stamp (tableOf t₂ (y .size)) (y .number)) && b)))))
+          (and-none (eqb (getD r 8 0) (bit (y .turned))))
+
+  row-same : getD μ s [] ≡ rowFor slotOf μ xs
+  row-same = ap (λ (s : ℕ). getD μ s []) place
+
+  looked : g .known ≡ lookIn slotOf μ xs t
+  looked = told .0 ∙ same-tells (getD μ s []) ∙ ap (λ (r : List ℕ). tells r xs t) row-same
+
+  -- the cache tells it: h
+  pub pair-told : (h : Half) → h ≡ g .half → g .known ≡ true → unnoted (E.kept (halfOf h) t out w pen) μ ≡ whole
+  pair-told h he f =
+      recall-told slotOf (operate op) size d i m xs μ t out w pen e (halfOf h) n open′ (sym looked ∙ f)
+      (ap halfOf he ∙ sym (ap (λ (b : Bool). cond b (halfOf (g .half)) (toldHalf (getD μ s []) i t)) f) ∙ told .1
+      ∙ ap (λ (r : List ℕ). toldHalf r i t) row-same)
+
+  -- it does not; x₁, y₁: the edges at the first half, p: what waits before it, a: what it came to
+  module _ (untold : g .known ≡ false) (x₁ y₁ : Edge) (p : Waiting) (a : Recalled)
+      (first₁ : (t : List (List ℕ)) → r₁ ≡ getIn t (x .size) (x .number) → edgeIn x₁ t ≡ firstSource i (edgeIn x t))
+      (first₂ : (t : List (List ℕ)) → r₂ ≡ getIn t (y .size) (y .number) → edgeIn y₁ t ≡ firstSource i (edgeIn y t))
+      (pushed : p ≡ pushAll w m (opener ∷ []))
+      (walked : a ≡ recallIn slotOf (operate op) size d (i + 1) (p .count) (pair x₁ t₁ y₁ t₂) μ t out (p .bytes) pen) where
+    went : pair x₁ t₁ y₁ t₂ ≡ firstSource i (edgeIn x t₁) ∷ firstSource i (edgeIn y t₂) ∷ []
+    went = ap₂ (λ (a b : Source). a ∷ b ∷ []) (first₁ t₁ read₁) (first₂ t₂ read₂)
+
+    unlooked : lookIn slotOf μ xs t ≡ false
+    unlooked = sym looked ∙ untold
+
+    -- more was sent in the first half than the output holds
+    pub pair-full : (z : E.Pen) → z ≡ a .walked .pen → z .full ≡ true → a ≡ whole
+    pair-full =
+        recall-full slotOf (operate op) size d i m xs μ t out w pen e n open′ unlooked (pair x₁ t₁ y₁ t₂) p a went pushed walked
+
+    -- h, z: what the first half came to, and the pen after it; b: both inputs pass; x₂, y₂: the edges at the second half; v: what its first
+    -- word comes to, u: the `~` between the halves; c: the second half, f: after both
+    module _ (h : E.Half) (z : E.Pen) (b : Bool) (x₂ y₂ : Edge) (v u : Bool) (q r : Waiting) (c : Recalled) (f : E.Walked)
+        (came : h ≡ a .walked .half) (left : z ≡ a .walked .pen) (goes : z .full ≡ false)
+        (pass : b ≡ ((eqb (x .number) 0 || ltb i (r₁ .level)) && ((eqb (y .number) 0 || ltb i (r₂ .level)) && true)))
+        (second₁ : (t : List (List ℕ)) → r₁ ≡ getIn t (x .size) (x .number) → edgeIn x₂ t ≡ secondSource i (edgeIn x t))
+        (second₂ : (t : List (List ℕ)) → r₂ ≡ getIn t (y .size) (y .number) → edgeIn y₂ t ≡ secondSource i (edgeIn y t))
+        (first : v ≡ operate op (x₂ .turned ∷ y₂ .turned ∷ [])) (turned : u ≡ differ (h .complement) v)
+        (waited : q ≡ waitIn (a .walked .waits) (p .count) (h .wrote) (h .skipped) (h .number))
+        (ready : r ≡ pushAll (q .bytes) (q .count) (tildeIf u)) (met : f ≡ E.secondIn size i (r .count) u h (c .walked)) where
+      gone : pair x₂ t₁ y₂ t₂ ≡ secondSource i (edgeIn x t₁) ∷ secondSource i (edgeIn y t₂) ∷ []
+      gone = ap₂ (λ (a b : Source). a ∷ b ∷ []) (second₁ t₁ read₁) (second₂ t₂ read₂)
+
+      all-pass : b ≡ allPass i xs
+      all-pass =
+          pass ∙ ap₂ (λ (a b : Bool). a && (b && true)) (same-passes x t₁ r₁ read₁ i) (same-passes y t₂ r₂ read₂ i)
+
+      -- what the cache holds after both
+      noted : notedBy (c .memo) s k (f .pen .full || b) (f .half) ≡ cond (f .pen .full || allPass i xs) (c .memo) (rememberIn slotOf (c .memo) xs (f .half))
+      unfolding rememberIn
+      noted =
+          ap₂ (λ (b : Bool) (r : List (List ℕ)). cond (f .pen .full || b) (c .memo) (cond (f .half .temporary) (c .memo) r)) all-pass
+          (ap₂ (λ (s : ℕ) (z : List ℕ). set (c .memo) s ((bit (f .half .complement) + 1) ∷ f .half .number ∷ f .half .stamp ∷ z)) place key-cells)
+
+      -- the second half is walked; o: as code tests it
+      pub pair-on : (o : Bool) → o ≡ (not (h .temporary) && b) → o ≡ false
+          → c ≡ recallIn slotOf (operate op) size d (i + 1) (r .count) (pair x₂ t₁ y₂ t₂) (a .memo) (a .walked .table) (a .walked .output) (r .bytes) z
+          → (ν : List (List ℕ)) → ν ≡ notedBy (c .memo) s k (f .pen .full || b) (f .half)
+          → record { walked = f; memo = ν } ≡ whole
+      pair-on o oe j l ν νe =
+          recall-on slotOf (operate op) size d i m xs μ t out w pen e n open′ unlooked (pair x₁ t₁ y₁ t₂) p a went pushed walked h z
+          (pair x₂ t₁ y₂ t₂) v u q r c f ν came left goes gone first turned waited ready met (νe ∙ noted)
+          (sym (oe ∙ ap (λ (b : Bool). not (h .temporary) && b) all-pass) ∙ j) l
+
+      -- it is like the first
+      pub pair-again : (o : Bool) → o ≡ (not (h .temporary) && b) → o ≡ true
+          → c ≡ unnoted (E.kept (E.numberHalf (h .number) (h .stamp) (h .skipped) v false) (a .walked .table) (a .walked .output) (r .bytes) z) (a .memo)
+          → record { walked = f; memo = c .memo } ≡ whole
+      pair-again o oe j l =
+          recall-again slotOf (operate op) size d i m xs μ t out w pen e n open′ unlooked (pair x₁ t₁ y₁ t₂) p a went pushed walked h z
+          (pair x₂ t₁ y₂ t₂) v u q r c f (c .memo) came left goes gone first turned waited ready met
+          (sym (ap (λ (b : Bool). cond b (c .memo) (rememberIn slotOf (c .memo) xs (f .half))) (all-true (f .pen .full) (allPass i xs) (passed (not (h .temporary)) (allPass i xs) alike))))
+          alike l
+        where
+          alike : (not (h .temporary) && allPass i xs) ≡ true
+          alike = sym (oe ∙ ap (λ (b : Bool). not (h .temporary) && b) all-pass) ∙ j
+
+          passed : (a b : Bool) → (a && b) ≡ true → b ≡ true
+          passed true b e = e
+          passed false b e = absurd (false≢true e)
+
+          all-true : (a b : Bool) → b ≡ true → (a || b) ≡ true
+          all-true true b e = refl
+          all-true false b e = e

@@ -1,0 +1,32 @@
+-- It settles in its text, or goes on from its edge. Assumes nothing.
+use Rattle.text_walk.specs.FeedMade.{second-inside, second-gone}
+use borrow.Author.Needs.{needs}
+use Rattle.text_walk.proofs.second_feed.Statement.{statement}
+use Rattle.text_walk.proofs.second_feed.Tie as tie
+
+add-settle : tie.Need-add-settle
+add-settle c = search needs
+
+settle-requires : tie.Need-settle-requires
+settle-requires c κs = tt
+
+returns : tie.Need-returns
+returns c = λ n s. second-inside n (c .before .before .args .i) s (c .before .before .args .t .now) (c .before .before .args .f) (c .settle .result) (c .before .before .args .b) (c .before .if1 .taken) (c .settle .ensures n s (c .before .before .args .t .now))
+
+edge-of-requires : tie.Need-edge-of-requires
+edge-of-requires c κs = tt
+
+row-at-requires : tie.Need-row-at-requires
+row-at-requires c κs = tt
+
+second-edge-requires : tie.Need-second-edge-requires
+second-edge-requires c κs = tt
+
+at-edge-requires : tie.Need-at-edge-requires
+at-edge-requires c κs = tt
+
+returns-2 : tie.Need-returns-2
+returns-2 c = λ n s. second-gone n (c .before .before .before .before .before .args .i) s (c .before .before .before .before .before .args .t .now) (c .before .before .before .before .before .args .f) (c .at-edge .result) (c .before .before .before .before .before .args .b) (c .before .second-edge .result) (c .before .before .before .edge-of .result) (c .at-edge .ensures) (c .before .before .before .before .if1 .left) (c .before .before .before .edge-of .ensures) (c .before .second-edge .ensures (c .before .before .before .before .before .args .t .now) (c .before .before .row-at .ensures))
+
+pub second-feed-spec : {M : Type 1} → statement M
+second-feed-spec = tie.close (tie.spec add-settle settle-requires returns edge-of-requires row-at-requires second-edge-requires at-edge-requires returns-2)
