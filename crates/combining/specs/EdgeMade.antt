@@ -15,7 +15,7 @@ use Rattle.engine.specs.Applying.{Source, passes, firstSource, secondSource, fi
 use Rattle.engine.specs.Taping.{Feed, onTape, atEdge, edgeOf, settle, firstFeed, secondFeed}
 use Rattle.combining.specs.Tapes.{Tape, tapeAt, deepOf, sourceOf, nextTape, begunFeed}
 use Rattle.reader.specs.ReadOn.{Next, firstCursor, nextBlock}
-use Rattle.reader.specs.declared.Cursor.{Cursor}
+use Rattle.reader.specs.Lent.{ReadCursor}
 use Rattle.reader.specs.Table.{getIn}
 use Rattle.reader.specs.Simulation.{rowNode}
 use Rattle.reader.specs.TableLaws.{tableOf, table-node}
@@ -150,11 +150,11 @@ module _ {Tape : Type 0} (deepOf : Tape → ℕ) (sourceOf : Tape → Source) (n
       (atEdge f (secondSource i (edgeOf deepOf sourceOf next f)))) (sym e)
 
 -- at the outermost node, from the first block
-pub begun-made : (n : ℕ) (s : List ℕ) (t : List (List ℕ)) (c : Cursor) (x : Next) → c ≡ firstCursor → x ≡ nextBlock n s c t
+pub begun-made : (n : ℕ) (s : List ℕ) (t : List (List ℕ)) (c : ReadCursor) (x : Next) → c ≡ firstCursor → x ≡ nextBlock n s c t
     → settle deepOf sourceOf (nextTape n) 1 (record { tape = tapeAt s x; inText = true; number = 0; turned = false }) ≡ begunFeed n s t
 begun-made n s t c x e h =
     ap (λ (x : Next). settle deepOf sourceOf (nextTape n) 1 (record { tape = tapeAt s x; inText = true; number = 0; turned = false }))
-    (h ∙ ap (λ (c : Cursor). nextBlock n s c t) e)
+    (h ∙ ap (λ (c : ReadCursor). nextBlock n s c t) e)
 
 -- the second of two, if there is no more
 pub and-none : (b : Bool) → b ≡ (b && true)

@@ -7,12 +7,12 @@ use Rattle.engine.specs.Applying.{Source}
 use Rattle.engine.specs.Taping.{Feed, settle}
 use Rattle.reader.specs.TableLaws.{tableOf}
 use Rattle.reader.specs.ReadOn.{Next, firstCursor, nextBlock}
-use Rattle.reader.specs.declared.Block.{Block}
+use Rattle.reader.specs.Lent.{ReadBlock}
 
 -- a stream, the block that was read last, and the lent table after it
 pub record Tape : Type 0 where
   pub stream : List ℕ
-  pub block : Block
+  pub block : ReadBlock
   pub table : List (List ℕ)
 
 -- the tape at the block of a call

@@ -19,14 +19,14 @@ use Rattle.reader.specs.Cite.{markOf}
 use Rattle.reader.specs.ReadOn.{Next, firstCursor, nextBlock}
 use Rattle.reader.specs.BlockLaws.{StandsAt, first-stands, stands-read, next-stands}
 use Rattle.reader.specs.BlockLaws.{block-from, block-covers, block-deep, block-aligned, block-later, block-ordered, block-lasts, block-sits, block-decides, block-last}
-use Rattle.reader.specs.declared.Cursor.{Cursor}
+use Rattle.reader.specs.Lent.{ReadCursor}
 use Rattle.combining.specs.Tapes.{Tape, tapeAt, deepOf, sourceOf, nextTape, firstTape}
 
 -- ---- Where a tape stands ---------------------------------------------------------------------
 
 -- τ has the stream `bytes`, and stands at a block of it that begins with word `at`
 pub record ReadsOf (n : ℕ) (bytes : List ℕ) (τ : Tape) (at : ℕ) : Type 0 where
-  pub cursor : Cursor
+  pub cursor : ReadCursor
   pub lent : List (List ℕ)
   pub stands : StandsAt n bytes cursor lent
   pub called : record { block = τ .block; table = τ .table } ≡ nextBlock n bytes cursor lent
@@ -45,12 +45,12 @@ pub record Reads (n c : ℕ) (τ : Tape) (at : ℕ) (x : Input) : Type 0 where
 -- ---- The input -------------------------------------------------------------------------------
 
 -- its covered count
-input-covered : (n : ℕ) (bytes : List ℕ) → inputOf n bytes .covered ≡ reading n bytes .state .covered
+pub input-covered : (n : ℕ) (bytes : List ℕ) → inputOf n bytes .covered ≡ reading n bytes .state .covered
 unfolding inputOf
 input-covered n bytes = refl
 
 -- a word that it covers is decided as it says
-input-decides : (n : ℕ) (bytes : List ℕ) (w : ℕ) → w < reading n bytes .state .covered
+pub input-decides : (n : ℕ) (bytes : List ℕ) (w : ℕ) → w < reading n bytes .state .covered
     → decision n bytes w ≡ decided (inputOf n bytes .decides w)
 unfolding inputOf
 input-decides n bytes w h =
@@ -117,7 +117,7 @@ of-lasts n few bytes τ at h e =
     (of-later n few bytes τ at h)
 
 -- Where more words are covered than a cursor has passed, there is a next block.
-more-blocks : (n : ℕ) → n ≤ 32 → (bytes : List ℕ) → reading n bytes .fault ≡ none → (c : Cursor) (t : List (List ℕ))
+more-blocks : (n : ℕ) → n ≤ 32 → (bytes : List ℕ) → reading n bytes .fault ≡ none → (c : ReadCursor) (t : List (List ℕ))
     → StandsAt n bytes c t → c .run .covered < reading n bytes .state .covered → nextBlock n bytes c t .block .halted ≡ false
 more-blocks n few bytes clean c t h l = go (y .block .halted) refl
   where
@@ -130,7 +130,7 @@ more-blocks n few bytes clean c t h l = go (y .block .halted) refl
 
 -- the tape at it
 tape-reads : (n c : ℕ) → n ≤ 32 → (bytes : List ℕ) → reading n bytes .fault ≡ none → (x : Input) → x ≡ inputOf n bytes
-    → c ≤ x .covered → (y : Cursor) (t : List (List ℕ)) → StandsAt n bytes y t → (at : ℕ) → y .run .covered ≡ at → at < c
+    → c ≤ x .covered → (y : ReadCursor) (t : List (List ℕ)) → StandsAt n bytes y t → (at : ℕ) → y .run .covered ≡ at → at < c
     → Reads n c (tapeAt bytes (nextBlock n bytes y t)) at x
 tape-reads n c few bytes clean x e k y t h at i l = record {
   bytes = bytes;

@@ -97,9 +97,13 @@ lentBy r d E.Closing x y t = t
 lentBy r d (E.Storing k) x y t = cond (y .stores) (storeAt t (r .size) k (rowTo r d x)) t
 lentBy r d E.End x y t = t
 
--- the open nodes after a turn: the innermost entry, and the one after it, stored
+-- the entries of d open nodes after a turn: the innermost, and the one after it, stored
+abbrev pub nodesTo : List Open → ℕ → Open → List Open
+nodesTo ns d low = set (set ns (highAt d) insideOpen) (lowAt d) low
+
+-- the open nodes after a turn
 abbrev pub opensTo : Opens → ℕ → Open → Opens
-opensTo o d low = record { nodes = set (set (o .nodes) (highAt (o .depth)) insideOpen) (lowAt (o .depth)) low; depth = d }
+opensTo o d low = record { nodes = nodesTo (o .nodes) (o .depth) low; depth = d }
 
 -- the row of an element's number
 abbrev pub rowIn : Run → List (List ℕ) → Element → Row
@@ -123,7 +127,7 @@ lowOf o = getD (o .nodes) (lowAt (o .depth)) insideOpen
 abbrev pub barsBy : List (List ℕ) → ℕ → Ref → Bool
 barsBy t z a = not (eqb (getIn t z (a .number) .stamp) (a .stamp))
 
-bars-row : (t : List (List ℕ)) (z : ℕ) (a : Ref) → bars (tableOf t z) (refOf a) ≡ barsBy t z a
+pub bars-row : (t : List (List ℕ)) (z : ℕ) (a : Ref) → bars (tableOf t z) (refOf a) ≡ barsBy t z a
 bars-row t z a = go (eqb (a .number) 0) refl (eqb (a .stamp) 0) refl
   where
     none : eqb (a .number) 0 ≡ true → getIn t z (a .number) .stamp ≡ 0

@@ -28,16 +28,14 @@ use Rattle.reader.specs.Advance.{stateAt, HaltsAt}
 use Rattle.reader.specs.Loop.{Stands, stands-first, stands-covered, PassedLast, Ends, ReachedBy}
 use Rattle.reader.specs.CallsMade.{word-passed}
 use Rattle.reader.specs.ReadOn.{firstCursor, blockOf, Next, nextBlock, nextOf, next-on, not-off, readAll, read-reaches, ReadTo}
-use Rattle.reader.specs.declared.Block.{Block}
-use Rattle.reader.specs.declared.Cursor.{Cursor}
 use Rattle.reader.specs.declared.Opens.{Opens}
 use Rattle.reader.specs.declared.Run.{Run}
-use Rattle.reader.specs.declared.Reached.{Reached}
+use Rattle.reader.specs.Lent.{ReadReached, ReadCursor, ReadBlock}
 
 -- ---- What the loop passes --------------------------------------------------------------------
 
 -- x: what the loop reaches from where r stands, with r's covered count as its stop
-module _ (n : ℕ) (bytes : List ℕ) (r : Run) (o : Opens) (t : List (List ℕ)) (h : Stands n bytes r o t) (x : Reached) (u : List (List ℕ)) (reached : ReachedBy n bytes (r .covered) x u) where
+module _ (n : ℕ) (bytes : List ℕ) (r : Run) (o : Opens) (t : List (List ℕ)) (h : Stands n bytes r o t) (x : ReadReached) (u : List (List ℕ)) (reached : ReachedBy n bytes (r .covered) x u) where
   abbrev s : State
   s = stateAt r o t
 
@@ -153,7 +151,7 @@ verdict-decision n bytes w d l e =
 -- ---- The next block --------------------------------------------------------------------------
 
 -- A cursor stands where reading does.
-abbrev pub StandsAt : ℕ → List ℕ → Cursor → List (List ℕ) → Type 0
+abbrev pub StandsAt : ℕ → List ℕ → ReadCursor → List (List ℕ) → Type 0
 StandsAt n bytes c t = Stands n bytes (c .run) (c .opens) t
 
 -- So the first one, whatever the table holds.
@@ -161,13 +159,13 @@ pub first-stands : (n : ℕ) (bytes : List ℕ) (t : List (List ℕ)) → 1024 �
 first-stands n bytes t h = stands-first n bytes t h
 
 -- It covers no more words than the stream does.
-pub stands-read : (n : ℕ) (bytes : List ℕ) (c : Cursor) (t : List (List ℕ)) → StandsAt n bytes c t
+pub stands-read : (n : ℕ) (bytes : List ℕ) (c : ReadCursor) (t : List (List ℕ)) → StandsAt n bytes c t
     → c .run .covered ≤ reading n bytes .state .covered
 stands-read n bytes c t h =
     omega (arith, at-all n bytes (h .steps) (stateAt (c .run) (c .opens) t) (h .here), trace-covered n bytes)
 
 -- b, u: the next block of a cursor that stands where reading does, and the table after it
-module _ (n : ℕ) (bytes : List ℕ) (few : n ≤ 32) (c : Cursor) (t : List (List ℕ)) (h : StandsAt n bytes c t) (b : Block) (u : List (List ℕ)) (called : record { block = b; table = u } ≡ nextBlock n bytes c t) where
+module _ (n : ℕ) (bytes : List ℕ) (few : n ≤ 32) (c : ReadCursor) (t : List (List ℕ)) (h : StandsAt n bytes c t) (b : ReadBlock) (u : List (List ℕ)) (called : record { block = b; table = u } ≡ nextBlock n bytes c t) where
   abbrev z : ReadTo
   z = readAll n bytes (c .run .covered) (c .run) (c .opens) t
 
@@ -186,32 +184,32 @@ module _ (n : ℕ) (bytes : List ℕ) (few : n ≤ 32) (c : Cursor) (t : List (L
 
   module _ (e : b .halted ≡ false) where
     on : z .reached .halted ≡ false
-    on = sym (ap (λ (y : Block). y .halted) same-block) ∙ e
+    on = sym (ap (λ (y : ReadBlock). y .halted) same-block) ∙ e
 
     -- the block begins at the covered count,
     pub block-from : b .from ≡ c .run .covered
-    block-from = ap (λ (y : Block). y .from) same-block ∙ passed-from n bytes (c .run) (c .opens) t h (z .reached) (z .table) reached on
+    block-from = ap (λ (y : ReadBlock). y .from) same-block ∙ passed-from n bytes (c .run) (c .opens) t h (z .reached) (z .table) reached on
 
     -- has the words of a node inside so many open ones,
     pub block-covers : b .cursor .run .covered ≡ b .from + 2 ^ (n - b .deep)
-    block-covers = subst (λ (y : Block). y .cursor .run .covered ≡ y .from + 2 ^ (n - y .deep)) (sym same-block) (passed-covers n bytes (c .run) (c .opens) t h (z .reached) (z .table) reached on)
+    block-covers = subst (λ (y : ReadBlock). y .cursor .run .covered ≡ y .from + 2 ^ (n - y .deep)) (sym same-block) (passed-covers n bytes (c .run) (c .opens) t h (z .reached) (z .table) reached on)
 
     -- no more than there are options,
     pub block-deep : b .deep ≤ n
     block-deep =
-        subst (λ (y : Block). y .deep ≤ n) (sym same-block)
+        subst (λ (y : ReadBlock). y .deep ≤ n) (sym same-block)
         (passed-nested n bytes (c .run) (c .opens) t h (z .reached) (z .table) reached on)
 
     -- after some nodes of as many words,
     pub block-aligned : (k : ℕ) × (b .from ≡ k * 2 ^ (n - b .deep))
     block-aligned =
-        subst (λ (y : Block). Multiple (n - y .deep) (y .from)) (sym same-block)
+        subst (λ (y : ReadBlock). Multiple (n - y .deep) (y .from)) (sym same-block)
         (passed-aligned n bytes (c .run) (c .opens) t h (z .reached) (z .table) reached on)
 
     -- The cursor after it has a table, which is ordered and lasts from the cursor before, if that has one;
     pub block-later : isStart (markOf (b .cursor .run .mark)) ≡ false
     block-later =
-        subst (λ (y : Block). isStart (markOf (y .cursor .run .mark)) ≡ false) (sym same-block)
+        subst (λ (y : ReadBlock). isStart (markOf (y .cursor .run .mark)) ≡ false) (sym same-block)
         (passed-later n bytes (c .run) (c .opens) t h (z .reached) (z .table) reached on)
 
     pub block-ordered : Ordered (tableOf u (b .cursor .run .size))
@@ -236,11 +234,11 @@ module _ (n : ℕ) (bytes : List ℕ) (few : n ≤ 32) (c : Cursor) (t : List (L
         → decision n bytes w ≡ complemented (b .turned) (rowWalk (tableOf u (b .cursor .run .size)) (b .deep + 1) (b .number) (options (n - b .deep) (w - b .from)))
     block-decides w l k =
         subst (λ (y : Next). decision n bytes w ≡ complemented (y .block .turned) (rowWalk (tableOf (y .table) (y .block .cursor .run .size)) (y .block .deep + 1) (y .block .number) (options (n - y .block .deep) (w - y .block .from)))) (sym same)
-        (let l′ : z .reached .from ≤ w = omega (arith, l, ap (λ (y : Block). y .from) same-block) in
-        let k′ : w < z .reached .run .covered = omega (arith, k, ap (λ (y : Block). y .cursor .run .covered) same-block) in
+        (let l′ : z .reached .from ≤ w = omega (arith, l, ap (λ (y : ReadBlock). y .from) same-block) in
+        let k′ : w < z .reached .run .covered = omega (arith, k, ap (λ (y : ReadBlock). y .cursor .run .covered) same-block) in
         verdict-decision n bytes w _ (omega (arith, k′, at-all n bytes (reached .stands .steps) (stateAt (z .reached .run) (z .reached .opens) (z .table)) (reached .stands .here)))
         (word-passed n bytes t w (z .reached) (z .table) (passed-word n bytes (c .run) (c .opens) t h (z .reached) (z .table) reached on w l′ k′) on))
 
   -- Where no block is left of a stream without a fault, its words are covered.
   pub block-last : b .halted ≡ true → reading n bytes .fault ≡ none → reading n bytes .state .covered ≡ c .run .covered
-  block-last e = halted-covers n bytes (c .run) (c .opens) t h (z .reached) (z .table) reached (sym (ap (λ (y : Block). y .halted) same-block) ∙ e)
+  block-last e = halted-covers n bytes (c .run) (c .opens) t h (z .reached) (z .table) reached (sym (ap (λ (y : ReadBlock). y .halted) same-block) ∙ e)

@@ -27,28 +27,28 @@ use Rattle.reader.specs.Table.{noRecord, clearTo}
 use Rattle.reader.specs.TableLaws.{tableOf}
 use Rattle.reader.specs.Simulation.{child-of}
 use Rattle.reader.specs.Advance.{stateAt, HaltsAt}
-use Rattle.reader.specs.Loop.{Stands, Ends, ReachedBy}
+use Rattle.reader.specs.Loop.{Ends, ReachedBy}
 use Rattle.reader.specs.declared.Edge.{Edge}
-use Rattle.reader.specs.declared.Reached.{Reached}
 use Rattle.reader.specs.declared.Verdict.{Verdict}
+use Rattle.reader.specs.Lent.{ReadReached}
 
 -- ---- What code answers -----------------------------------------------------------------------
 
-abbrev pub lateOf : Reached → C.Refusal
+abbrev pub lateOf : ReadReached → C.Refusal
 lateOf r = C.refusal (causeOf (r .cause)) 1 (r .byte)
 
-abbrev pub checkedBy : Reached → C.Result R.Checked
+abbrev pub checkedBy : ReadReached → C.Result R.Checked
 checkedBy r = cond (r .faulty) (C.refused (lateOf r)) (C.done (record { size = r .run .size; covered = r .run .covered; extent = R.extent (markOf (r .run .mark)) }))
 
-abbrev pub decidedBy : Reached → R.Verdict → C.Result R.Verdict
+abbrev pub decidedBy : ReadReached → R.Verdict → C.Result R.Verdict
 decidedBy r v = cond (r .faulty) (C.refused (lateOf r)) (C.done v)
 
 -- what the words passed last stand for
-abbrev pub edgeAt : Reached → Edge
+abbrev pub edgeAt : ReadReached → Edge
 edgeAt r = record { number = r .run .last .number; turned = differ (parity (openList (r .opens))) (r .run .complement) }
 
 -- the word w, which the loop's last element passed
-abbrev pub wordAt : List (List ℕ) → ℕ → Reached → ℕ → R.Verdict
+abbrev pub wordAt : List (List ℕ) → ℕ → ReadReached → ℕ → R.Verdict
 wordAt t n r w = R.verdictOf (complemented (edgeAt r .turned) (rowWalk (tableOf t (r .run .size)) (r .deep + 1) (edgeAt r .number) (options (n - r .deep) (w - r .from))))
 
 -- ---- Cleared tables --------------------------------------------------------------------------
@@ -77,7 +77,7 @@ pub cleared-long : (u t : List (List ℕ)) → AsLong u t → (s : List (List �
 cleared-long u t h s l z e = e ∙ clear-cleared u ∙ cleared-alike u s (h .same ∙ l)
 
 -- Clearing all records after the loop leaves what the paper says.
-pub cleared-after : (n : ℕ) (bytes : List ℕ) (stop : ℕ) (r : Reached) (u : List (List ℕ)) → ReachedBy n bytes stop r u → (t : List (List ℕ)) → length u ≡ length t
+pub cleared-after : (n : ℕ) (bytes : List ℕ) (stop : ℕ) (r : ReadReached) (u : List (List ℕ)) → ReachedBy n bytes stop r u → (t : List (List ℕ)) → length u ≡ length t
     → (z : List (List ℕ)) → z ≡ clearTo u (length u) → z ≡ C.cleared noRecord t
 cleared-after n bytes stop r u h t l z e = e ∙ clear-cleared u ∙ cleared-alike u t l
 
@@ -86,27 +86,23 @@ pub shifted : (n : ℕ) → n ≤ 32 → 1 * 2 ^ n % 18446744073709551616 ≡ 2 
 shifted n h = ap (λ (x : ℕ). x % 18446744073709551616) (one-mul (2 ^ n)) ∙ mod-eq-of-lt (omega (arith, pow-mono {i = n} {j = 32} h))
 
 -- what the loop's last element passed, inside how many nodes
-pub passed-bounds : (n : ℕ) (bytes : List ℕ) (stop : ℕ) (r : Reached) (u : List (List ℕ)) → ReachedBy n bytes stop r u → r .halted ≡ false → (r .deep ≤ 32) × (r .from ≤ stop)
+pub passed-bounds : (n : ℕ) (bytes : List ℕ) (stop : ℕ) (r : ReadReached) (u : List (List ℕ)) → ReachedBy n bytes stop r u → r .halted ≡ false → (r .deep ≤ 32) × (r .from ≤ stop)
 passed-bounds n bytes stop r u h e = let k = subst (Ends n bytes stop r u (h .stands .steps)) e (h .ends) in (k .1 .shallow, k .1 .low)
-
--- The loop can go on from what was reached, where the table was only looked at.
-pub stands-still : (n : ℕ) (bytes : List ℕ) (stop : ℕ) (r : Reached) (u v : List (List ℕ)) → ReachedBy n bytes stop r u → v ≡ u → Stands n bytes (r .run) (r .opens) v
-stands-still n bytes stop r u v h e = subst (Stands n bytes (r .run) (r .opens)) (sym e) (h .stands)
 
 -- ---- What was read ---------------------------------------------------------------------------
 
 -- the fault that a loop has met
-abbrev faultBy : Reached → Option Fault
+abbrev faultBy : ReadReached → Option Fault
 faultBy r = cond (r .faulty) (some (record { cause = causeOf (r .cause); byte = r .byte })) none
 
 -- The stream is read as far as the loop has come, and its fault is the loop's.
-abbrev pub Reads : ℕ → List ℕ → Reached → List (List ℕ) → Type 0
-Reads n bytes r u = reading n bytes ≡ record { state = stateAt (r .run) (r .opens) u; fault = faultBy r }
+pub record Reads (n : ℕ) (bytes : List ℕ) (r : ReadReached) (u : List (List ℕ)) : Type 0 where
+  pub same : reading n bytes ≡ record { state = stateAt (r .run) (r .opens) u; fault = faultBy r }
 
 module _ (n : ℕ) (bytes : List ℕ) where
   -- where reading halts, the stream is read
-  halts-reads : (r : Reached) (u : List (List ℕ)) (f : ℕ) → At n bytes f (stateAt (r .run) (r .opens) u) → HaltsAt n bytes (stateAt (r .run) (r .opens) u) (r .faulty) (r .cause) (r .byte) → Reads n bytes r u
-  halts-reads r u f h = go (r .faulty)
+  halts-reads : (r : ReadReached) (u : List (List ℕ)) (f : ℕ) → At n bytes f (stateAt (r .run) (r .opens) u) → HaltsAt n bytes (stateAt (r .run) (r .opens) u) (r .faulty) (r .cause) (r .byte) → Reads n bytes r u
+  halts-reads r u f h k = record { same = go (r .faulty) k }
     where
       go : (b : Bool) → HaltsAt n bytes (stateAt (r .run) (r .opens) u) b (r .cause) (r .byte)
           → reading n bytes ≡ record { state = stateAt (r .run) (r .opens) u; fault = cond b (some (record { cause = causeOf (r .cause); byte = r .byte })) none }
@@ -114,11 +110,11 @@ module _ (n : ℕ) (bytes : List ℕ) where
       go false e = at-end n bytes f (stateAt (r .run) (r .opens) u) h e
 
   -- A loop that halted has read the stream.
-  pub halted-reads : (stop : ℕ) (r : Reached) (u : List (List ℕ)) → ReachedBy n bytes stop r u → r .halted ≡ true → Reads n bytes r u
+  pub halted-reads : (stop : ℕ) (r : ReadReached) (u : List (List ℕ)) → ReachedBy n bytes stop r u → r .halted ≡ true → Reads n bytes r u
   halted-reads stop r u h e = halts-reads r u (h .stands .steps) (h .stands .here) (subst (Ends n bytes stop r u (h .stands .steps)) e (h .ends) .1)
 
   -- So has a loop whose stop no stream gets past.
-  pub all-reads : (r : Reached) (u : List (List ℕ)) → n ≤ 32 → ReachedBy n bytes 4294967296 r u → Reads n bytes r u
+  pub all-reads : (r : ReadReached) (u : List (List ℕ)) → n ≤ 32 → ReachedBy n bytes 4294967296 r u → Reads n bytes r u
   all-reads r u few h = go (r .halted) refl
     where
       go : (b : Bool) → r .halted ≡ b → Reads n bytes r u
@@ -128,21 +124,21 @@ module _ (n : ℕ) (bytes : List ℕ) where
           absurd (omega (arith, k .0, at-covered n bytes (h .stands .steps) (stateAt (r .run) (r .opens) u) few (h .stands .here)))
 
   -- Without a fault of the loop the stream has none.
-  pub reads-clean : (r : Reached) (u : List (List ℕ)) → Reads n bytes r u → r .faulty ≡ false → reading n bytes .fault ≡ none
-  reads-clean r u h e = ap (λ (x : Reading). x .fault) h ∙ ap (λ (b : Bool). cond b (some (record { cause = causeOf (r .cause); byte = r .byte })) none) e
+  pub reads-clean : (r : ReadReached) (u : List (List ℕ)) → Reads n bytes r u → r .faulty ≡ false → reading n bytes .fault ≡ none
+  reads-clean r u h e = ap (λ (x : Reading). x .fault) (h .same) ∙ ap (λ (b : Bool). cond b (some (record { cause = causeOf (r .cause); byte = r .byte })) none) e
 
   -- a fault names a place
-  named : (r : Reached) (u : List (List ℕ)) → Reads n bytes r u → r .faulty ≡ true → C.causeRow (causeOf (r .cause)) .names ≡ C.place
+  named : (r : ReadReached) (u : List (List ℕ)) → Reads n bytes r u → r .faulty ≡ true → C.causeRow (causeOf (r .cause)) .names ≡ C.place
   named r u h e =
       fault-place n bytes (record { cause = causeOf (r .cause); byte = r .byte })
-      (ap (λ (x : Reading). x .fault) h ∙ ap (λ (b : Bool). cond b (some (record { cause = causeOf (r .cause); byte = r .byte })) none) e)
+      (ap (λ (x : Reading). x .fault) (h .same) ∙ ap (λ (b : Bool). cond b (some (record { cause = causeOf (r .cause); byte = r .byte })) none) e)
 
   -- what is answered past the tests, and the table after it
-  module _ {A : Type 0} (r : Reached) (u : List (List ℕ)) (h : Reads n bytes r u) (x : A) where
+  module _ {A : Type 0} (r : ReadReached) (u : List (List ℕ)) (h : Reads n bytes r u) (x : A) where
     unless-read : (f : Reading → A) → f (record { state = stateAt (r .run) (r .opens) u; fault = faultBy r }) ≡ x
         → R.unlessFault 1 (reading n bytes .fault) (C.done (f (reading n bytes))) ≡ cond (r .faulty) (C.refused (lateOf r)) (C.done x)
     unless-read f e =
-        ap (λ (y : Reading). R.unlessFault 1 (y .fault) (C.done (f y))) h
+        ap (λ (y : Reading). R.unlessFault 1 (y .fault) (C.done (f y))) (h .same)
         ∙ ap (λ (y : A). R.unlessFault 1 (faultBy r) (C.done y)) e
         ∙ go (r .faulty)
       where
@@ -168,13 +164,13 @@ module _ (n : ℕ) (bytes : List ℕ) (t : List (List ℕ)) where
   unfolding R.check R.checkAnswer C.gate C.tableAfter
   check-table a few h e = rw (e, le-ltb 32 n few, lt-ltb (length t) 1024 h) refl
 
-  check-answer : (r : Reached) (u : List (List ℕ)) → n ≤ 32 → 1024 ≤ length t → Reads n bytes r u → R.checkAnswer n bytes (length t) ≡ checkedBy r
+  check-answer : (r : ReadReached) (u : List (List ℕ)) → n ≤ 32 → 1024 ≤ length t → Reads n bytes r u → R.checkAnswer n bytes (length t) ≡ checkedBy r
   unfolding R.checkAnswer C.gate
   check-answer r u few room h =
       rw (le-ltb 32 n few, le-ltb (length t) 1024 room)
       (unless-read n bytes r u h (record { size = r .run .size; covered = r .run .covered; extent = R.extent (markOf (r .run .mark)) }) (λ (x : Reading). R.checkedOf (x .state)) refl)
 
-  pub check-made : (a : C.Result R.Checked) (z : List (List ℕ)) (r : Reached) (u : List (List ℕ)) → n ≤ 32 → 1024 ≤ length t → Reads n bytes r u → a ≡ checkedBy r → z ≡ C.cleared noRecord t
+  pub check-made : (a : C.Result R.Checked) (z : List (List ℕ)) (r : ReadReached) (u : List (List ℕ)) → n ≤ 32 → 1024 ≤ length t → Reads n bytes r u → a ≡ checkedBy r → z ≡ C.cleared noRecord t
       → record { answer = a; table = z } ≡ R.check noRecord n bytes t
   unfolding R.check
   check-made a z r u few room h e k =
@@ -184,7 +180,7 @@ module _ (n : ℕ) (bytes : List ℕ) (t : List (List ℕ)) where
   -- ---- Deciding --------------------------------------------------------------------------------
 
   -- The word that the loop's last element passed, by the table.
-  pub word-passed : (w : ℕ) (r : Reached) (u : List (List ℕ)) → ReachedBy n bytes w r u → r .halted ≡ false → R.verdict n (trace n bytes) w ≡ wordAt u n r w
+  pub word-passed : (w : ℕ) (r : ReadReached) (u : List (List ℕ)) → ReachedBy n bytes w r u → r .halted ≡ false → R.verdict n (trace n bytes) w ≡ wordAt u n r w
   word-passed w r u h e =
       let k = subst (Ends n bytes w r u (h .stands .steps)) e (h .ends) in
       let p = k .1 in
@@ -208,19 +204,19 @@ module _ (n : ℕ) (bytes : List ℕ) (t : List (List ℕ)) where
   decide-word w a few room h e = rw (e, le-ltb 32 n few, le-ltb (length t) 1024 room, le-leb (2 ^ n) w h) refl
 
   -- v: the verdict, which counts where there is no fault
-  decide-answer : (w : ℕ) (r : Reached) (u : List (List ℕ)) (v : R.Verdict) → n ≤ 32 → 1024 ≤ length t → w < 2 ^ n → Reads n bytes r u → (r .faulty ≡ false → R.verdict n (trace n bytes) w ≡ v)
+  decide-answer : (w : ℕ) (r : ReadReached) (u : List (List ℕ)) (v : R.Verdict) → n ≤ 32 → 1024 ≤ length t → w < 2 ^ n → Reads n bytes r u → (r .faulty ≡ false → R.verdict n (trace n bytes) w ≡ v)
       → R.decideAnswer n bytes w (length t) ≡ decidedBy r v
   unfolding R.decideAnswer C.gate
   decide-answer w r u v few room l h known =
       rw (le-ltb 32 n few, le-ltb (length t) 1024 room, lt-leb (2 ^ n) w l)
-      (ap (λ (y : Reading). R.unlessFault 1 (y .fault) (C.done (R.verdict n (trace n bytes) w))) (trace-reading n bytes ∙ h) ∙ go (r .faulty) known)
+      (ap (λ (y : Reading). R.unlessFault 1 (y .fault) (C.done (R.verdict n (trace n bytes) w))) (trace-reading n bytes ∙ h .same) ∙ go (r .faulty) known)
     where
       go : (b : Bool) → (b ≡ false → R.verdict n (trace n bytes) w ≡ v)
           → R.unlessFault 1 (cond b (some (record { cause = causeOf (r .cause); byte = r .byte })) none) (C.done (R.verdict n (trace n bytes) w)) ≡ cond b (C.refused (lateOf r)) (C.done v)
       go true k = refl
       go false k = ap C.done (k refl)
 
-  pub decide-made : (w : ℕ) (a : C.Result R.Verdict) (z : List (List ℕ)) (r : Reached) (u : List (List ℕ)) (v : R.Verdict) → n ≤ 32 → 1024 ≤ length t → w < 2 ^ n → Reads n bytes r u
+  pub decide-made : (w : ℕ) (a : C.Result R.Verdict) (z : List (List ℕ)) (r : ReadReached) (u : List (List ℕ)) (v : R.Verdict) → n ≤ 32 → 1024 ≤ length t → w < 2 ^ n → Reads n bytes r u
       → (r .faulty ≡ false → R.verdict n (trace n bytes) w ≡ v) → a ≡ decidedBy r v → z ≡ C.cleared noRecord t → record { answer = a; table = z } ≡ R.decide noRecord n bytes w t
   unfolding R.decide
   decide-made w a z r u v few room l h known e k =
@@ -228,11 +224,11 @@ module _ (n : ℕ) (bytes : List ℕ) (t : List (List ℕ)) where
       ∙ sym (ap (λ (b : C.Result R.Verdict). record { answer = b; table = C.tableAfter noRecord b t }) (decide-answer w r u v few room l h known))
 
   -- A word that was not passed when reading halted is not decided.
-  pub word-not : (w : ℕ) (r : Reached) (u : List (List ℕ)) → ReachedBy n bytes w r u → r .halted ≡ true → r .faulty ≡ false → R.verdict n (trace n bytes) w ≡ R.notYet
+  pub word-not : (w : ℕ) (r : ReadReached) (u : List (List ℕ)) → ReachedBy n bytes w r u → r .halted ≡ true → r .faulty ≡ false → R.verdict n (trace n bytes) w ≡ R.notYet
   word-not w r u h e f =
       let k = subst (Ends n bytes w r u (h .stands .steps)) e (h .ends) in
       decided-not n bytes (stateAt (r .run) (r .opens) u) w
-      (halted-reads n bytes w r u h e ∙ ap (λ (b : Bool). record { state = stateAt (r .run) (r .opens) u; fault = cond b (some (record { cause = causeOf (r .cause); byte = r .byte })) none }) f)
+      (halted-reads n bytes w r u h e .same ∙ ap (λ (b : Bool). record { state = stateAt (r .run) (r .opens) u; fault = cond b (some (record { cause = causeOf (r .cause); byte = r .byte })) none }) f)
       (k .0)
 
 -- ---- Filling ---------------------------------------------------------------------------------
@@ -247,7 +243,7 @@ options-few n h = rw (lt-leb 3 n h) refl
 pub options-many : (n : ℕ) → 3 ≤ n → 16 < n → (leb 3 n && leb n 16) ≡ false
 options-many n h k = rw (le-leb 3 n h, lt-leb n 16 k) refl
 
-abbrev pub filledBy : Reached → C.Result ℕ
+abbrev pub filledBy : ReadReached → C.Result ℕ
 filledBy r = cond (r .faulty) (C.refused (lateOf r)) (C.done (r .run .covered))
 
 module _ (n : ℕ) (bytes old : List ℕ) (t : List (List ℕ)) where
@@ -263,14 +259,14 @@ module _ (n : ℕ) (bytes old : List ℕ) (t : List (List ℕ)) where
   unfolding R.fill R.fillAnswer C.gate C.tableAfter C.unlessRefused
   fill-length a few room h e = rw (e, few, le-ltb (length t) 1024 room, ne-eqb (length old) (2 ^ n / 8) h) refl
 
-  fill-answer : (r : Reached) (u : List (List ℕ)) → (leb 3 n && leb n 16) ≡ true → 1024 ≤ length t → length old ≡ 2 ^ n / 8 → Reads n bytes r u → R.fillAnswer n bytes old (length t) ≡ filledBy r
+  fill-answer : (r : ReadReached) (u : List (List ℕ)) → (leb 3 n && leb n 16) ≡ true → 1024 ≤ length t → length old ≡ 2 ^ n / 8 → Reads n bytes r u → R.fillAnswer n bytes old (length t) ≡ filledBy r
   unfolding R.fillAnswer C.gate
   fill-answer r u few room l h =
       rw (few, le-ltb (length t) 1024 room, eq-eqb (length old) (2 ^ n / 8) l)
       (unless-read n bytes r u h (r .run .covered) (λ (x : Reading). x .state .covered) refl)
 
   -- v: the truth table, as it was if there is a fault
-  pub fill-made : (a : C.Result ℕ) (z : List (List ℕ)) (v : List ℕ) (r : Reached) (u : List (List ℕ)) → (leb 3 n && leb n 16) ≡ true → 1024 ≤ length t → length old ≡ 2 ^ n / 8 → Reads n bytes r u
+  pub fill-made : (a : C.Result ℕ) (z : List (List ℕ)) (v : List ℕ) (r : ReadReached) (u : List (List ℕ)) → (leb 3 n && leb n 16) ≡ true → 1024 ≤ length t → length old ≡ 2 ^ n / 8 → Reads n bytes r u
       → a ≡ filledBy r → z ≡ C.cleared noRecord t → v ≡ cond (r .faulty) old (R.bytesFrom (2 ^ n / 8) n (trace n bytes) 0)
       → record { answer = a; table = z; truths = v } ≡ R.fill noRecord n bytes old t
   unfolding R.fill C.unlessRefused

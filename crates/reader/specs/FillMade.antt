@@ -30,7 +30,7 @@ use Rattle.reader.specs.BlockLaws.{passed-from, passed-covers}
 use Rattle.reader.specs.declared.Edge.{Edge}
 use Rattle.reader.specs.declared.Opens.{Opens}
 use Rattle.reader.specs.declared.Run.{Run}
-use Rattle.reader.specs.declared.Reached.{Reached}
+use Rattle.reader.specs.Lent.{ReadReached}
 
 -- What filling keeps: the truth table has the words that are covered where the loop stands.
 pub record FilledTo (n : ℕ) (bytes : List ℕ) (r : Run) (o : Opens) (t : List (List ℕ)) (v : List ℕ) : Type 0 where
@@ -43,12 +43,12 @@ unfolding stands-first
 filled-start n bytes t v room e = record { stands = stands-first n bytes t room; words = e ∙ sym (filled-first n bytes (2 ^ n / 8)) }
 
 -- So for code that begins there.
-pub filled-begun : (n : ℕ) (bytes : List ℕ) (t : List (List ℕ)) (v : List ℕ) (r : Run) (o : Opens) → 1024 ≤ length t → v ≡ replicate (2 ^ n / 8) 0 → r ≡ firstRun → o ≡ firstOpens → FilledTo n bytes r o t v
-filled-begun n bytes t v r o room e re oe = subst (λ (x : Run). FilledTo n bytes x o t v) (sym re) (subst (λ (y : Opens). FilledTo n bytes firstRun y t v) (sym oe) (filled-start n bytes t v room e))
+pub filled-begun : (n : ℕ) (bytes : List ℕ) (t : List (List ℕ)) (v : List ℕ) (r : Run) → 1024 ≤ length t → v ≡ replicate (2 ^ n / 8) 0 → r ≡ firstRun → FilledTo n bytes r firstOpens t v
+filled-begun n bytes t v r room e re = subst (λ (x : Run). FilledTo n bytes x firstOpens t v) (sym re) (filled-start n bytes t v room e)
 
 -- x: what the loop reaches from where r stands, with r's covered count as its stop
 module _ (n : ℕ) (bytes : List ℕ) (r : Run) (o : Opens) (t : List (List ℕ)) (v : List ℕ) (h : FilledTo n bytes r o t v) (few : n ≤ 32)
-    (x : Reached) (u : List (List ℕ)) (called : record { reached = x; table = u } ≡ readAll n bytes (r .covered) r o t) where
+    (x : ReadReached) (u : List (List ℕ)) (called : record { reached = x; table = u } ≡ readAll n bytes (r .covered) r o t) where
   reached : ReachedBy n bytes (r .covered) x u
   reached = read-called n bytes few (r .covered) r o t (h .stands) (omega arith) x u called
 
@@ -116,12 +116,11 @@ module _ (n : ℕ) (bytes : List ℕ) (r : Run) (o : Opens) (t : List (List ℕ)
             ∙ ap₂ (λ (d i : ℕ). N (tableOf u (x .run .size)) d (child (refOf (x .run .last))) i) (p .depth) (p .covered)
             ∙ ap (λ (a : ℕ). N (tableOf u (x .run .size)) (x .deep) a (x .from)) (sym (child-of (x .run .last)))
 
-    -- THE NODE THAT IS PASSED fills its words: what code has for the options below it, its edge and the tables after.
-    pub words-turn : (m : ℕ) (e : Edge) (w : List ℕ) (u′ : List (List ℕ)) → 3 ≤ n → m ≡ n - x .deep → e ≡ edgeAt x
-        → w ≡ putNodeIn m (tableOf u (x .run .size)) (x .deep + 1) (e .number) (e .turned) (x .from) v → u′ ≡ u → FilledTo n bytes (x .run) (x .opens) u′ w
-    words-turn m e w u′ three me ee k ue =
-        subst (λ (y : List (List ℕ)). FilledTo n bytes (x .run) (x .opens) y w) (sym ue)
-        (words-more w three (k ∙ ap₂ (λ (i : ℕ) (a : Edge). putNodeIn i (tableOf u (x .run .size)) (x .deep + 1) (a .number) (a .turned) (x .from) v) me ee))
+    -- THE NODE THAT IS PASSED fills its words: what code has for the options below it, its edge and the truth table after.
+    pub words-turn : (m : ℕ) (e : Edge) (w : List ℕ) → 3 ≤ n → m ≡ n - x .deep → e ≡ edgeAt x
+        → w ≡ putNodeIn m (tableOf u (x .run .size)) (x .deep + 1) (e .number) (e .turned) (x .from) v → FilledTo n bytes (x .run) (x .opens) u w
+    words-turn m e w three me ee k =
+        words-more w three (k ∙ ap₂ (λ (i : ℕ) (a : Edge). putNodeIn i (tableOf u (x .run .size)) (x .deep + 1) (a .number) (a .turned) (x .from) v) me ee)
 
     -- More words are covered.
     pub words-less : 2 ^ n - x .run .covered < 2 ^ n - r .covered

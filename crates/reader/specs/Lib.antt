@@ -13,6 +13,7 @@ pub mod TableLaws
 pub mod Advance
 pub mod Turn
 pub mod Turning
+pub mod Lent
 pub mod Loop
 pub mod Answers
 pub mod Truths
@@ -22,3 +23,5 @@ pub mod CallsMade
 pub mod ReadOn
 pub mod BlockLaws
 pub mod FillMade
+pub mod Load
+pub mod LoadLaws

@@ -16,9 +16,9 @@ use Rattle.reader.specs.declared.Mark.{Mark}
 use Rattle.reader.specs.declared.Mark.the-variants.{Start}
 use Rattle.reader.specs.declared.Run.{Run}
 use Rattle.reader.specs.declared.Turn.{Turn}
-use Rattle.reader.specs.declared.Reached.{Reached}
 use Rattle.reader.specs.Table.{getIn}
 use Rattle.reader.specs.Advance.{stateAt, Kept, Young, takenAt, lowOf, opensTo, TurnMade, past, barred, out, fault, took, HaltsAt, Comes, turn-went, turn-halts, list-length, length-lent}
+use Rattle.reader.specs.Lent.{ReadReached}
 
 -- ---- The first state -------------------------------------------------------------------------
 
@@ -51,16 +51,12 @@ stands-first n bytes t h = record {
 }
 
 -- So does code that begins there.
-pub stands-begun : (n : ℕ) (bytes : List ℕ) (t : List (List ℕ)) (r : Run) (o : Opens) → 1024 ≤ length t → r ≡ firstRun → o ≡ firstOpens → Stands n bytes r o t
-stands-begun n bytes t r o room re oe = subst (λ (x : Run). Stands n bytes x o t) (sym re) (subst (λ (y : Opens). Stands n bytes firstRun y t) (sym oe) (stands-first n bytes t room))
+pub stands-begun : (n : ℕ) (bytes : List ℕ) (t : List (List ℕ)) (r : Run) → 1024 ≤ length t → r ≡ firstRun → Stands n bytes r firstOpens t
+stands-begun n bytes t r room re = subst (λ (x : Run). Stands n bytes x firstOpens t) (sym re) (stands-first n bytes t room)
 
 -- No word is covered yet.
 pub first-none : (r : Run) (stop : ℕ) → r ≡ firstRun → r .covered ≤ stop
 first-none r stop e = let z : r .covered ≡ 0 = ap (λ (x : Run). x .covered) e in omega (arith, z)
-
--- No node is open yet.
-pub first-shallow : (o : Opens) → o ≡ firstOpens → o .depth ≤ 32
-first-shallow o e = let z : o .depth ≡ 0 = ap (λ (x : Opens). x .depth) e in omega (arith, z)
 
 -- ---- What is reached -------------------------------------------------------------------------
 
@@ -77,11 +73,11 @@ pub record PassedLast (n : ℕ) (bytes : List ℕ) (m : Mark) (steps stop from d
   pub later : isStart (markOf m) ≡ false
 
 -- Past the stop the last step passed it; else reading halts.
-abbrev pub Ends : (n : ℕ) (bytes : List ℕ) (stop : ℕ) (y : Reached) (u : List (List ℕ)) → ℕ → Bool → Type 0
+abbrev pub Ends : (n : ℕ) (bytes : List ℕ) (stop : ℕ) (y : ReadReached) (u : List (List ℕ)) → ℕ → Bool → Type 0
 Ends n bytes stop y u steps true = (y .run .covered ≤ stop) × HaltsAt n bytes (stateAt (y .run) (y .opens) u) (y .faulty) (y .cause) (y .byte)
 Ends n bytes stop y u steps false = (stop < y .run .covered) × PassedLast n bytes (y .run .mark) steps stop (y .from) (y .deep)
 
-pub record ReachedBy (n : ℕ) (bytes : List ℕ) (stop : ℕ) (y : Reached) (u : List (List ℕ)) : Type 0 where
+pub record ReachedBy (n : ℕ) (bytes : List ℕ) (stop : ℕ) (y : ReadReached) (u : List (List ℕ)) : Type 0 where
   pub stands : Stands n bytes (y .run) (y .opens) u
   pub ends : Ends n bytes stop y u (stands .steps) (y .halted)
 

@@ -7,38 +7,35 @@ use mathlib.Core.List.{List}
 use Prim.Native.Nat.{ℕ, zero, suc, _-_, _<_, _≤_}
 use native.Mathlib.Omega.{arith}
 use lib.Dec.{ltb}
-use lib.ListN.{length, getD, set}
+use lib.ListN.{length, replicate}
 use borrow.Author.Tests.{lt-ltb, le-ltb, ltb-false}
 use Rattle.lists.specs.Lists.{decide-le}
-use Rattle.reader.specs.Cite.{insideOpen, spotsOf}
-use Rattle.reader.specs.declared.Block.{Block}
 use Rattle.reader.specs.declared.Cause.{Cause}
 use Rattle.reader.specs.declared.Cause.the-variants.{WrongByte}
 use Rattle.reader.specs.declared.Cursor.{Cursor}
 use Rattle.reader.specs.declared.Open.{Open}
 use Rattle.reader.specs.declared.Opens.{Opens}
 use Rattle.reader.specs.declared.Run.{Run}
-use Rattle.reader.specs.declared.Spots.{Spots}
 use Rattle.reader.specs.declared.Turn.{Turn}
-use Rattle.reader.specs.declared.Reached.{Reached}
-use Rattle.reader.specs.Advance.{lowOf, opensTo, TurnMade}
+use Rattle.reader.specs.Advance.{lowOf, nodesTo, opensTo, TurnMade}
 use Rattle.reader.specs.Turning.{Turned, turnIn, turn-in, turn-made, turn-ahead}
-use Rattle.reader.specs.Loop.{firstRun, firstOpens, Stands, stands-begun, first-none, ReachedBy, Running, goes-here, halts-here, ahead-here, loop-past}
+use Rattle.reader.specs.Lent.{ReadReached, ReadCursor, ReadBlock, cursorIn}
+use Rattle.reader.specs.Loop.{firstRun, firstOpens, Stands, stands-begun, first-none, ReachedBy, Running, goes-here, halts-here, ahead-here, turn-length, loop-past}
 use Rattle.reader.specs.CallsMade.{edgeAt}
 
 -- ---- The loop --------------------------------------------------------------------------------
 
 -- what the loop reaches, and the lent table after it
 pub record ReadTo : Type 0 where
-  pub reached : Reached
+  pub reached : ReadReached
   pub table : List (List ℕ)
 
 -- it halts at r, with a fault if f
-abbrev pub haltedAt : Run → Opens → ℕ → ℕ → Bool → Cause → ℕ → Reached
+abbrev pub haltedAt : Run → Opens → ℕ → ℕ → Bool → Cause → ℕ → ReadReached
 haltedAt r o from deep f c b = record { run = r; opens = o; from = from; deep = deep; halted = true; faulty = f; cause = c; byte = b }
 
 -- it is past its stop
-abbrev pub passedAt : Run → Opens → ℕ → ℕ → Reached
+abbrev pub passedAt : Run → Opens → ℕ → ℕ → ReadReached
 passedAt r o from deep = record { run = r; opens = o; from = from; deep = deep; halted = false; faulty = false; cause = WrongByte; byte = 0 }
 
 -- "Reads on while no more than `stop` words are covered", at most so many turns
@@ -87,6 +84,29 @@ module _ (f n : ℕ) (bytes : List ℕ) (stop : ℕ) (r : Run) (o : Opens) (from
         read-made
         ∙ ap (λ (b : Bool). cond b (readOn f n bytes stop (y .run) (opensTo o (y .depth) (y .low)) (r .covered) (o .depth) u) (record { reached = haltedAt r o from deep (y .faulty) (y .cause) (y .byte); table = u })) e
 
+-- The lent table stays as long.
+pub read-length : (f n : ℕ) (bytes : List ℕ) (stop : ℕ) (r : Run) (o : Opens) (from deep : ℕ) (t : List (List ℕ)) → length (readOn f n bytes stop r o from deep t .table) ≡ length t
+unfolding readOn
+read-length zero n bytes stop r o from deep t = refl
+read-length (suc f) n bytes stop r o from deep t = ⊎-elim (λ k. on (λ a b c d e. read-length f n bytes stop a b c d e) k (x .turn .went) refl) over (decide-le (r .covered) stop)
+  where
+    x : Turned
+    x = turnIn n bytes r (o .depth) (lowOf o) t
+
+    made : TurnMade n bytes r (o .depth) (lowOf o) t (x .turn) (x .table)
+    made = turn-made n bytes r (o .depth) (lowOf o) t
+
+    long : length (x .table) ≡ length t
+    long = turn-length n bytes r (o .depth) (lowOf o) t (x .turn) (x .table) made
+
+    on : ((r : Run) (o : Opens) (from deep : ℕ) (t : List (List ℕ)) → length (readOn f n bytes stop r o from deep t .table) ≡ length t)
+        → r .covered ≤ stop → (b : Bool) → x .turn .went ≡ b → length (readOn (suc f) n bytes stop r o from deep t .table) ≡ length t
+    on again k true e = ap (λ (z : ReadTo). length (z .table)) (read-goes f n bytes stop r o from deep t (x .turn) (x .table) made k e) ∙ again _ _ _ _ _ ∙ long
+    on again k false e = ap (λ (z : ReadTo). length (z .table)) (read-halts f n bytes stop r o from deep t (x .turn) (x .table) made k e) ∙ long
+
+    over : stop < r .covered → length (readOn (suc f) n bytes stop r o from deep t .table) ≡ length t
+    over k = ap (λ (z : ReadTo). length (z .table)) (read-past f n bytes stop r o from deep t k)
+
 -- ---- It is what the loop reaches -------------------------------------------------------------
 
 abbrev Reaches : ℕ → List ℕ → ℕ → ReadTo → Type 0
@@ -133,13 +153,13 @@ read-reaches n bytes few stop r o t h l = read-running (suc (length bytes)) n by
 
 -- So for a call of the loop: y is what it reaches, u the table after it.
 pub read-called : (n : ℕ) (bytes : List ℕ) → n ≤ 32 → (stop : ℕ) (r : Run) (o : Opens) (t : List (List ℕ)) → Stands n bytes r o t → r .covered ≤ stop
-    → (y : Reached) (u : List (List ℕ)) → record { reached = y; table = u } ≡ readAll n bytes stop r o t → ReachedBy n bytes stop y u
+    → (y : ReadReached) (u : List (List ℕ)) → record { reached = y; table = u } ≡ readAll n bytes stop r o t → ReachedBy n bytes stop y u
 read-called n bytes few stop r o t h l y u e = subst (Reaches n bytes stop) (sym e) (read-reaches n bytes few stop r o t h l)
 
 -- So for a call from the start.
-pub read-begun : (n : ℕ) (bytes : List ℕ) → n ≤ 32 → (stop : ℕ) (r : Run) (o : Opens) (t : List (List ℕ)) → 1024 ≤ length t → r ≡ firstRun → o ≡ firstOpens
-    → (y : Reached) (u : List (List ℕ)) → record { reached = y; table = u } ≡ readAll n bytes stop r o t → ReachedBy n bytes stop y u
-read-begun n bytes few stop r o t room re oe = read-called n bytes few stop r o t (stands-begun n bytes t r o room re oe) (first-none r stop re)
+pub read-begun : (n : ℕ) (bytes : List ℕ) → n ≤ 32 → (stop : ℕ) (r : Run) (t : List (List ℕ)) → 1024 ≤ length t → r ≡ firstRun
+    → (y : ReadReached) (u : List (List ℕ)) → record { reached = y; table = u } ≡ readAll n bytes stop r firstOpens t → ReachedBy n bytes stop y u
+read-begun n bytes few stop r t room re = read-called n bytes few stop r firstOpens t (stands-begun n bytes t r room re) (first-none r stop re)
 
 -- ---- The code's loop -------------------------------------------------------------------------
 
@@ -154,15 +174,15 @@ pub record Leads (z : ReadTo) (n : ℕ) (bytes : List ℕ) (stop : ℕ) (r : Run
 pub leads-first : (n : ℕ) (bytes : List ℕ) (stop : ℕ) (r : Run) (o : Opens) (t : List (List ℕ)) → o .depth ≤ 32 → Leads (readAll n bytes stop r o t) n bytes stop r o 0 0 t
 leads-first n bytes stop r o t h = record { fuel = length bytes; enough = omega arith; same = refl; shallow = h }
 
--- p: the places of the innermost entry and of the one after it
 module _ (z : ReadTo) (n : ℕ) (bytes : List ℕ) (stop : ℕ) (r : Run) (o : Opens) (from deep : ℕ) (t : List (List ℕ)) (h : Leads z n bytes stop r o from deep t) where
   -- Past its stop the loop is done.
   pub leads-past : stop < r .covered → record { reached = passedAt r o from deep; table = t } ≡ z
   leads-past l = sym (read-past (h .fuel) n bytes stop r o from deep t l) ∙ h .same
 
-  module _ (l : r .covered ≤ stop) (p : Spots) (spots : p ≡ spotsOf (o .depth)) (y : Turn) (u : List (List ℕ)) (made : TurnMade n bytes r (o .depth) (getD (o .nodes) (p .low) insideOpen) t y u) where
+  -- low: the innermost entry, as code reads it
+  module _ (l : r .covered ≤ stop) (low : Open) (lowest : low ≡ lowOf o) (y : Turn) (u : List (List ℕ)) (made : TurnMade n bytes r (o .depth) low t y u) where
     made-low : TurnMade n bytes r (o .depth) (lowOf o) t y u
-    made-low = subst (λ (q : Spots). TurnMade n bytes r (o .depth) (getD (o .nodes) (q .low) insideOpen) t y u) spots made
+    made-low = subst (λ (x : Open). TurnMade n bytes r (o .depth) x t y u) lowest made
 
     -- It halts at a turn that does not go on.
     pub leads-halts : y .went ≡ false → record { reached = haltedAt r o from deep (y .faulty) (y .cause) (y .byte); table = u } ≡ z
@@ -180,45 +200,52 @@ module _ (z : ReadTo) (n : ℕ) (bytes : List ℕ) (stop : ℕ) (r : Run) (o : O
       leads-on zero m k = absurd (omega (arith, m, ahead .0))
       leads-on (suc f) m k = record { fuel = f; enough = omega (arith, m, leads-moves); same = sym (read-goes (suc f) n bytes stop r o from deep t y u made-low l e) ∙ k; shallow = ahead .1 .1 }
 
-      -- and leads on.
-      pub leads-goes : (w : Open) → w ≡ insideOpen → Leads z n bytes stop (y .run) (record { nodes = set (set (o .nodes) (p .high) w) (p .low) (y .low); depth = y .depth }) (r .covered) (o .depth) u
-      leads-goes w we =
-          subst (λ (x : Open). Leads z n bytes stop (y .run) (record { nodes = set (set (o .nodes) (p .high) x) (p .low) (y .low); depth = y .depth }) (r .covered) (o .depth) u) (sym we)
-          (subst (λ (q : Spots). Leads z n bytes stop (y .run) (record { nodes = set (set (o .nodes) (q .high) insideOpen) (q .low) (y .low); depth = y .depth }) (r .covered) (o .depth) u) (sym spots)
-          (leads-on (h .fuel) (h .enough) (h .same)))
+      -- and leads on; ns: the entries, as code stores them.
+      pub leads-goes : (ns : List Open) → ns ≡ nodesTo (o .nodes) (o .depth) (y .low) → Leads z n bytes stop (y .run) (record { nodes = ns; depth = y .depth }) (r .covered) (o .depth) u
+      leads-goes ns k =
+          subst (λ (ns : List Open). Leads z n bytes stop (y .run) (record { nodes = ns; depth = y .depth }) (r .covered) (o .depth) u) (sym k)
+          (leads-on (h .fuel) (h .enough) (h .same))
 
 -- ---- Blocks ----------------------------------------------------------------------------------
 
 -- where reading begins
-abbrev pub firstCursor : Cursor
+abbrev pub firstCursor : ReadCursor
 firstCursor = record { run = firstRun; opens = firstOpens }
 
+-- as code has it, without the open nodes
+abbrev pub startCursor : Cursor
+startCursor = record { run = firstRun; depth = 0 }
+
+-- It is that beside cells that are all zero.
+pub cursor-first : cursorIn startCursor (replicate 32 (replicate 4 0)) ≡ firstCursor
+cursor-first = refl
+
 -- more options, open nodes or words than any reading has
-abbrev pub offBy : ℕ → Cursor → Bool
+abbrev pub offBy : ℕ → ReadCursor → Bool
 offBy n c = ltb 32 n || (ltb 32 (c .opens .depth) || ltb 4294967296 (c .run .covered))
 
 -- nothing is read
-abbrev pub restingAt : Cursor → Reached
+abbrev pub restingAt : ReadCursor → ReadReached
 restingAt c = haltedAt (c .run) (c .opens) 0 0 false WrongByte 0
 
 -- the block that the loop's last element passed
-abbrev pub blockOf : Reached → Block
+abbrev pub blockOf : ReadReached → ReadBlock
 blockOf y = record { cursor = record { run = y .run; opens = y .opens }; from = y .from; deep = y .deep; number = edgeAt y .number; turned = edgeAt y .turned; halted = y .halted }
 
 -- a block, and the lent table after it
 pub record Next : Type 0 where
-  pub block : Block
+  pub block : ReadBlock
   pub table : List (List ℕ)
 
 abbrev pub nextOf : ReadTo → Next
 nextOf z = record { block = blockOf (z .reached); table = z .table }
 
 -- THE NEXT BLOCK: reads on until more words are covered
-unfoldable pub nextBlock : ℕ → List ℕ → Cursor → List (List ℕ) → Next
+unfoldable pub nextBlock : ℕ → List ℕ → ReadCursor → List (List ℕ) → Next
 unfolding readOn
 nextBlock n bytes c t = nextOf (cond (offBy n c) (record { reached = restingAt c; table = t }) (readAll n bytes (c .run .covered) (c .run) (c .opens) t))
 
-module _ (n : ℕ) (bytes : List ℕ) (c : Cursor) (t : List (List ℕ)) where
+module _ (n : ℕ) (bytes : List ℕ) (c : ReadCursor) (t : List (List ℕ)) where
   -- the block where nothing is read
   next-off : offBy n c ≡ true → nextBlock n bytes c t ≡ record { block = blockOf (restingAt c); table = t }
   unfolding nextBlock
@@ -230,15 +257,15 @@ module _ (n : ℕ) (bytes : List ℕ) (c : Cursor) (t : List (List ℕ)) where
   next-on h = ap (λ (b : Bool). nextOf (cond b (record { reached = restingAt c; table = t }) (readAll n bytes (c .run .covered) (c .run) (c .opens) t))) h
 
   -- So for calls: b is the block that is made of what is reached.
-  pub next-rests : (b : Block) → offBy n c ≡ true → b ≡ blockOf (restingAt c) → record { block = b; table = t } ≡ nextBlock n bytes c t
-  next-rests b h e = ap (λ (x : Block). record { block = x; table = t }) e ∙ sym (next-off h)
+  pub next-rests : (b : ReadBlock) → offBy n c ≡ true → b ≡ blockOf (restingAt c) → record { block = b; table = t } ≡ nextBlock n bytes c t
+  next-rests b h e = ap (λ (x : ReadBlock). record { block = x; table = t }) e ∙ sym (next-off h)
 
-  pub next-called : (b : Block) → offBy n c ≡ false → (y : Reached) (u : List (List ℕ)) → record { reached = y; table = u } ≡ readAll n bytes (c .run .covered) (c .run) (c .opens) t
+  pub next-called : (b : ReadBlock) → offBy n c ≡ false → (y : ReadReached) (u : List (List ℕ)) → record { reached = y; table = u } ≡ readAll n bytes (c .run .covered) (c .run) (c .opens) t
       → b ≡ blockOf y → record { block = b; table = u } ≡ nextBlock n bytes c t
-  next-called b h y u k e = ap (λ (x : Block). record { block = x; table = u }) e ∙ ap nextOf k ∙ sym (next-on h)
+  next-called b h y u k e = ap (λ (x : ReadBlock). record { block = x; table = u }) e ∙ ap nextOf k ∙ sym (next-on h)
 
 -- a cursor that is not past the limits keeps to them
-pub within : (n : ℕ) (c : Cursor) → offBy n c ≡ false → (n ≤ 32) × ((c .opens .depth ≤ 32) × (c .run .covered ≤ 4294967296))
+pub within : (n : ℕ) (c : ReadCursor) → offBy n c ≡ false → (n ≤ 32) × ((c .opens .depth ≤ 32) × (c .run .covered ≤ 4294967296))
 within n c = go (ltb 32 n) refl (ltb 32 (c .opens .depth)) refl (ltb 4294967296 (c .run .covered)) refl
   where
     go : (p : Bool) → ltb 32 n ≡ p → (q : Bool) → ltb 32 (c .opens .depth) ≡ q → (r : Bool) → ltb 4294967296 (c .run .covered) ≡ r → (p || (q || r)) ≡ false → (n ≤ 32) × ((c .opens .depth ≤ 32) × (c .run .covered ≤ 4294967296))
@@ -248,5 +275,5 @@ within n c = go (ltb 32 n) refl (ltb 32 (c .opens .depth)) refl (ltb 4294967296 
     go false e false f false g h = (ltb-false 32 n e, (ltb-false 32 (c .opens .depth) f, ltb-false 4294967296 (c .run .covered) g))
 
 -- and one that keeps to them is not past them
-pub not-off : (n : ℕ) (c : Cursor) → n ≤ 32 → c .opens .depth ≤ 32 → c .run .covered ≤ 4294967296 → offBy n c ≡ false
+pub not-off : (n : ℕ) (c : ReadCursor) → n ≤ 32 → c .opens .depth ≤ 32 → c .run .covered ≤ 4294967296 → offBy n c ≡ false
 not-off n c h k l = rw (le-ltb 32 n h, le-ltb 32 (c .opens .depth) k, le-ltb 4294967296 (c .run .covered) l) refl

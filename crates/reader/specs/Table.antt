@@ -87,16 +87,16 @@ module _ (t : List (List ℕ)) where
   put-past k x h p = rw (ne-eqb k 0 h) (sym (set-past t (k - 1) (listOf x) p))
 
 -- what `store` does, call by call
-pub store-made : (t a b c d e f : List (List ℕ)) (z k : ℕ) (x old : Row) → old ≡ getIn t z k → a ≡ t → b ≡ putAt a k x
+pub store-made : (t b c d e f : List (List ℕ)) (z k : ℕ) (x old : Row) → old ≡ getIn t z k → b ≡ putAt t k x
     → c ≡ countAt b z (old .first) false → d ≡ countAt c z (old .second) false
     → e ≡ countAt d z (x .first) true → f ≡ countAt e z (x .second) true → f ≡ storeAt t z k x
 unfolding storeAt
-store-made t a b c d e f z k x old oe ae be ce de ee fe =
+store-made t b c d e f z k x old oe be ce de ee fe =
     fe
     ∙ ap (λ (l : List (List ℕ)). countAt l z (x .second) true) (ee
     ∙ ap (λ (l : List (List ℕ)). countAt l z (x .first) true) (de
     ∙ ap (λ (l : List (List ℕ)). countAt l z (old .second) false) (ce
-    ∙ ap (λ (l : List (List ℕ)). countAt l z (old .first) false) (be ∙ ap (λ (l : List (List ℕ)). putAt l k x) ae))))
+    ∙ ap (λ (l : List (List ℕ)). countAt l z (old .first) false) be)))
     ∙ ap (λ (o : Row). countAt (countAt (countAt (countAt (putAt t k x) z (o .first) false) z (o .second) false) z (x .first) true) z (x .second) true) oe
 
 pub count-none : (t : List (List ℕ)) (z k : ℕ) (more : Bool) → k ≡ 0 → t ≡ countAt t z k more

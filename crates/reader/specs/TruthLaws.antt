@@ -162,17 +162,17 @@ both-halves (suc m) n =
     let d : suc m - 1 ≡ m = omega arith in
     rw d (omega arith)
 
--- a node as `fill_node` puts it; u, v: the table after its calls
-pub put-made : (m : ℕ) (t u v : List (List ℕ)) (z i : ℕ) (x : Row) (e f g : Edge) (w h : ℕ) (bs cs ds : List ℕ) → m ≤ 16 → (m ≡ 0 → ⊥)
-    → x ≡ getIn t z (e .number) → u ≡ t → f ≡ firstEdge x i e → g ≡ secondEdge x i e → h ≡ 1 * 2 ^ (m - 1) % 18446744073709551616
-    → cs ≡ putNodeIn (m - 1) (tableOf u z) (i + 1) (f .number) (f .turned) w bs → v ≡ u
-    → ds ≡ putNodeIn (m - 1) (tableOf v z) (i + 1) (g .number) (g .turned) (w + h) cs
+-- a node as `fill_node` puts it
+pub put-made : (m : ℕ) (t : List (List ℕ)) (z i : ℕ) (x : Row) (e f g : Edge) (w h : ℕ) (bs cs ds : List ℕ) → m ≤ 16 → (m ≡ 0 → ⊥)
+    → x ≡ getIn t z (e .number) → f ≡ firstEdge x i e → g ≡ secondEdge x i e → h ≡ 1 * 2 ^ (m - 1) % 18446744073709551616
+    → cs ≡ putNodeIn (m - 1) (tableOf t z) (i + 1) (f .number) (f .turned) w bs
+    → ds ≡ putNodeIn (m - 1) (tableOf t z) (i + 1) (g .number) (g .turned) (w + h) cs
     → ds ≡ putNodeIn m (tableOf t z) i (e .number) (e .turned) w bs
-put-made zero t u v z i x e f g w h bs cs ds l n xe ue fe ge he ce ve de = absurd (n refl)
-put-made (suc m) t u v z i x e f g w h bs cs ds l n xe ue fe ge he ce ve de =
+put-made zero t z i x e f g w h bs cs ds l n xe fe ge he ce de = absurd (n refl)
+put-made (suc m) t z i x e f g w h bs cs ds l n xe fe ge he ce de =
     let d : suc m - 1 ≡ m = omega arith in
-    let first = ce ∙ ap₂ (λ (k : ℕ) (y : List (List ℕ)). putNodeIn k (tableOf y z) (i + 1) (f .number) (f .turned) w bs) d ue in
-    let second = de ∙ ap₂ (λ (k : ℕ) (y : List (List ℕ)). putNodeIn k (tableOf y z) (i + 1) (g .number) (g .turned) (w + h) cs) d (ve ∙ ue) in
+    let first = ce ∙ ap (λ (k : ℕ). putNodeIn k (tableOf t z) (i + 1) (f .number) (f .turned) w bs) d in
+    let second = de ∙ ap (λ (k : ℕ). putNodeIn k (tableOf t z) (i + 1) (g .number) (g .turned) (w + h) cs) d in
     second
     ∙ ap₂ (λ (a : ℕ) (l : List ℕ). putNodeIn m (tableOf t z) (i + 1) (g .number) (g .turned) (w + a) l) (he ∙ few-words (suc m) 1 (omega (arith, l)) ∙ ap (λ (k : ℕ). 2 ^ k) d) first
     ∙ ap₂ (twoNodes m (tableOf t z) i w bs) (fe ∙ ap (λ (y : Row). firstEdge y i e) xe) (ge ∙ ap (λ (y : Row). secondEdge y i e) xe)

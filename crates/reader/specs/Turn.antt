@@ -40,25 +40,19 @@ module _ (t : List (List ℕ)) (r : Run) (b : ℕ) where
     barred-second e = rw (two, eq-eqb b colon here, e) refl
 
 -- what a call of `get` tells of a child
-pub bars-got : (t l : List (List ℕ)) (z : ℕ) (x : Row) (a : Ref) → l ≡ t → x ≡ getIn l z (a .number) → not (eqb (x .stamp) (a .stamp)) ≡ barsBy t z a
-bars-got t l z x a le xe = ap (λ (w : Row). not (eqb (w .stamp) (a .stamp))) (xe ∙ ap (λ (u : List (List ℕ)). getIn u z (a .number)) le)
+pub bars-got : (t : List (List ℕ)) (z : ℕ) (x : Row) (a : Ref) → x ≡ getIn t z (a .number) → not (eqb (x .stamp) (a .stamp)) ≡ barsBy t z a
+bars-got t z x a e = ap (λ (w : Row). not (eqb (w .stamp) (a .stamp))) e
 
 -- a storing puts its record
 pub lent-stored : (t : List (List ℕ)) (r : Run) (d k : ℕ) (x w : Row) (y : Taken) → y .stores ≡ true → w ≡ rowTo r d x → storeAt t (r .size) k w ≡ lentTo r d k x y t
 lent-stored t r d k x w y s e = rw s (ap (storeAt t (r .size) k) e)
 
--- What the calls of a turn that takes an element come to. l: the table after the call of `barred`, m: after that of `get`
-module _ (n : ℕ) (bytes : List ℕ) (r : Run) (d : ℕ) (low : Open) (t l m : List (List ℕ)) (x : Look) (e : Element) (first : l ≡ t) (second : m ≡ l)
-    (g : ℕ) (digit : g ≡ digitPlace (r .at) (getD bytes (r .at) 0)) (w : Row) (row : w ≡ getIn l (r .size) (x .number))
+-- What the calls of a turn that takes an element come to.
+module _ (n : ℕ) (bytes : List ℕ) (r : Run) (d : ℕ) (low : Open) (t : List (List ℕ)) (x : Look) (e : Element)
+    (g : ℕ) (digit : g ≡ digitPlace (r .at) (getD bytes (r .at) 0)) (w : Row) (row : w ≡ getIn t (r .size) (x .number))
     (y : Taken) (taken : y ≡ takenOf n r d low g e w (x .at) (x .mark)) where
-  row-first : w ≡ getIn t (r .size) (x .number)
-  row-first = row ∙ ap (λ (u : List (List ℕ)). getIn u (r .size) (x .number)) first
-
   pub turn-taken : y ≡ takenAt n bytes r d low t x e
-  turn-taken = taken ∙ ap₂ (λ (i : ℕ) (v : Row). takenOf n r d low i e v (x .at) (x .mark)) digit row-first
+  turn-taken = taken ∙ ap₂ (λ (i : ℕ) (v : Row). takenOf n r d low i e v (x .at) (x .mark)) digit row
 
-  pub turn-lent : (u : List (List ℕ)) → u ≡ lentTo r d (x .number) w y m → u ≡ lentAt n bytes r d low t x e
-  turn-lent u h =
-      h
-      ∙ ap₂ (λ (v : Row) (z : Taken). lentTo r d (x .number) v z m) row-first turn-taken
-      ∙ ap (lentTo r d (x .number) (getIn t (r .size) (x .number)) (takenAt n bytes r d low t x e)) (second ∙ first)
+  pub turn-lent : (u : List (List ℕ)) → u ≡ lentTo r d (x .number) w y t → u ≡ lentAt n bytes r d low t x e
+  turn-lent u h = h ∙ ap₂ (λ (v : Row) (z : Taken). lentTo r d (x .number) v z t) row turn-taken

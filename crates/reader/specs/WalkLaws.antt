@@ -1,5 +1,5 @@
 -- Going down the nodes of the table as code does: an edge to a child at a time; and the complements around a place. Assumes nothing.
-use mathlib.Core.Path.{_≡_, refl, sym, ap, ap₂, _∙_}
+use mathlib.Core.Path.{_≡_, refl, sym, ap, _∙_}
 use mathlib.Core.Logic.{⊎-elim}
 use mathlib.Core.Bool.{Bool, true, false, cond}
 use mathlib.Core.List.{List, _∷_}
@@ -82,18 +82,18 @@ module _ (t : List (List ℕ)) (z i : ℕ) (e : Edge) (x : Row) (some : e .numbe
     one-more : suc (m - 1) ≡ m
     one-more = omega (arith, more)
 
-    -- u, f: the table and the child as the calls before leave them
-    pub walk-low : (u : List (List ℕ)) (f : Edge) → u ≡ t → f ≡ firstEdge x i e → w < half
-        → edgeWalk (tableOf u z) (i + 1) f (options (m - 1) w) ≡ edgeWalk (tableOf t z) i e (options m w)
-    walk-low u f same child h =
-        ap₂ (λ (v : List (List ℕ)) (g : Edge). edgeWalk (tableOf v z) (i + 1) g (options (m - 1) w)) same child
+    -- f: the child as the call before has it
+    pub walk-low : (f : Edge) → f ≡ firstEdge x i e → w < half
+        → edgeWalk (tableOf t z) (i + 1) f (options (m - 1) w) ≡ edgeWalk (tableOf t z) i e (options m w)
+    walk-low f child h =
+        ap (λ (g : Edge). edgeWalk (tableOf t z) (i + 1) g (options (m - 1) w)) child
         ∙ sym (walk-first (options (m - 1) w))
         ∙ ap (edgeWalk (tableOf t z) i e) (sym (options-low (m - 1) w (omega (arith, few-words m 1 most, h))) ∙ ap (λ (k : ℕ). options k w) one-more)
 
-    pub walk-high : (u : List (List ℕ)) (f : Edge) → u ≡ t → f ≡ secondEdge x i e → half ≤ w
-        → edgeWalk (tableOf u z) (i + 1) f (options (m - 1) (w - half)) ≡ edgeWalk (tableOf t z) i e (options m w)
-    walk-high u f same child h =
-        ap₂ (λ (v : List (List ℕ)) (g : Edge). edgeWalk (tableOf v z) (i + 1) g (options (m - 1) (w - half))) same child
+    pub walk-high : (f : Edge) → f ≡ secondEdge x i e → half ≤ w
+        → edgeWalk (tableOf t z) (i + 1) f (options (m - 1) (w - half)) ≡ edgeWalk (tableOf t z) i e (options m w)
+    walk-high f child h =
+        ap (λ (g : Edge). edgeWalk (tableOf t z) (i + 1) g (options (m - 1) (w - half))) child
         ∙ ap (λ (k : ℕ). edgeWalk (tableOf t z) (i + 1) (secondEdge x i e) (options (m - 1) (w - k))) (few-words m 1 most)
         ∙ sym (walk-second (options (m - 1) (w - 2 ^ (m - 1))))
         ∙ ap (edgeWalk (tableOf t z) i e) (sym (options-high (m - 1) w (omega (arith, few-words m 1 most, h))) ∙ ap (λ (k : ℕ). options k w) one-more)

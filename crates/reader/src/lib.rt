@@ -1,5 +1,6 @@
 ghost use mathlib.Core.Path.{_≡_};
 ghost use mathlib.Core.Bool.{true, false, cond, _&&_, _||_};
+ghost use mathlib.Core.List.{List, []};
 ghost use lib.Dec.{eqb, ltb};
 ghost use Prim.Native.Nat.{ℕ, min, _+_, _*_, _-_, _<_, _≤_, _/_, _^_};
 ghost use lib.ListN.{length, getD, getElem?, replicate};
@@ -12,9 +13,9 @@ ghost use Rattle.reader.specs.Cite.{kindTable, elementIn, isFault, isOut
 ghost use Rattle.reader.specs.Taking.{goesOf, failsOf, movedTo, passedTo, turnedTo, sizedTo, foundTo, closedTwo, closedTo, isKeptOf, isBadOf, nextStamp, storedTo, takenOf};
 ghost use Rattle.reader.specs.Table.{noRow, noRecord, getIn, putAt, countedTo, countAt, storeAt, clearTo};
 ghost use Rattle.reading.specs.StepLaws.{digitPlace};
-ghost use Rattle.reader.specs.Advance.{barredBy, rowTo, lentTo, stayed, wentBy, TurnMade};
+ghost use Rattle.reader.specs.Advance.{barredBy, rowTo, lentTo, lowOf, nodesTo, stayed, wentBy, TurnMade};
 ghost use Rattle.lists.specs.Lists.{differ};
-ghost use Rattle.reading.specs.Deciding.{decided, complemented, options, trace};
+ghost use Rattle.reading.specs.Deciding.{decided, complemented, options, trace, ended};
 ghost use Rattle.reading.specs.Causes.{refusal};
 ghost use Rattle.reading.specs.Calls.{complete, cut, extent, verdictOf, bytesFrom, check, decide, fill};
 ghost use Rattle.reading.specs.Covered.{parity};
@@ -22,9 +23,11 @@ ghost use Rattle.reading.specs.TableWalk.{rowWalk};
 ghost use Rattle.reader.specs.TableLaws.{tableOf};
 ghost use Rattle.reader.specs.Answers.{refusalOf, checkingOf, verdictsOf, decidingOf, fillingOf};
 ghost use Rattle.reader.specs.Truths.{firstEdge, secondEdge, withWordIn, putNodeIn};
-ghost use Rattle.reader.specs.Loop.{firstRun, firstOpens};
-ghost use Rattle.reader.specs.ReadOn.{readAll, firstCursor, offBy, blockOf, nextBlock};
+ghost use Rattle.reader.specs.Lent.{nodesIn, opensIn, reachedIn, cursorIn, blockIn};
+ghost use Rattle.reader.specs.Loop.{firstRun};
+ghost use Rattle.reader.specs.ReadOn.{readAll, startCursor, offBy, blockOf, nextBlock};
 ghost use Rattle.reader.specs.CallsMade.{checkedBy, decidedBy, edgeAt, wordAt, AsLong};
+ghost use Rattle.reader.specs.Load.{loadIn, refusedLoad, wholeBy, load};
 ghost use mathlib.Core.Option.{none};
 
 // The kind of each byte: 0 digit, 1 bracket, 2 mark, 3 space, 4 line end, 5 point, 6 foreign.
@@ -1424,8 +1427,8 @@ fn no_row() -> Row
 }
 
 // THE RECORD of the number k in a table of z numbers.
-pub fn get(t: &mut [[u32; 6]], z: u32, k: u32) -> Row
-    ensures { λ x. ⌜ (x ≡ getIn (now (t .entry)) z k) × (now (t .exit) ≡ now (t .entry)) ⌝ }
+pub fn get(t: &[[u32; 6]], z: u32, k: u32) -> Row
+    ensures { λ x. ⌜ x ≡ getIn (now (t .entry)) z k ⌝ }
 {
     if k == 0 {
         return no_row();
@@ -1532,8 +1535,8 @@ fn least(a: usize, b: usize) -> usize
 // ---- One turn
 
 // A `:` at the place is barred by a child, whose number was given out again. b: the byte there
-fn barred(t: &mut [[u32; 6]], r: Run, b: u8) -> bool
-    ensures { λ x. ⌜ (x ≡ barredBy (now (t .entry)) r b) × (now (t .exit) ≡ now (t .entry)) ⌝ }
+fn barred(t: &[[u32; 6]], r: Run, b: u8) -> bool
+    ensures { λ x. ⌜ x ≡ barredBy (now (t .entry)) r b ⌝ }
 {
     let m = r.mark;
     if b != b':' {
@@ -1680,11 +1683,11 @@ fn take_turn(
 
 // ---- The loop
 
-// What the loop has reached: what reading has come to, with the open nodes; the covered count and the open nodes before the last element; whether it
-// halted, and the fault if there is one.
+// What the loop has reached: what reading has come to, and how many nodes are open; the covered count and the open nodes before the last element;
+// whether it halted, and the fault if there is one.
 struct Reached {
     run: Run,
-    opens: Opens,
+    depth: usize,
     from: u64,
     deep: usize,
     halted: bool,
@@ -1720,46 +1723,66 @@ fn first_run() -> Run
     }
 }
 
-fn first_opens() -> Opens
-    ensures { λ r. ⌜ r ≡ firstOpens ⌝ }
+// The innermost of d open nodes. o: the open nodes, the outermost first: the number and the stamp of what the first child was, then 1 or 0 for whether
+// the second child has begun, and whether a `~` stands before it.
+fn open_at(o: &[[u32; 4]; 32], d: usize) -> Open
+    ensures { λ r. ⌜ r ≡ lowOf (opensIn (now (o .entry)) d) ⌝ }
 {
-    let e = inside();
-    Opens {
-        nodes: [e; 32],
-        depth: 0,
+    let p = spots_of(d);
+    let i = p.low;
+    let a = o[i];
+    let r = Ref {
+        number: a[0],
+        stamp: a[1],
+    };
+    Open {
+        first: r,
+        second: a[2] != 0,
+        turned: a[3] != 0,
     }
 }
 
-// Reads on while no more than `stop` words are covered.
+// The innermost of d open nodes becomes e, and one that opens after it is in its first child.
+fn put_open(o: &mut [[u32; 4]; 32], d: usize, e: Open)
+    ensures { λ _. ⌜ nodesIn (now (o .exit)) ≡ nodesTo (nodesIn (now (o .entry))) d e ⌝ }
+{
+    let p = spots_of(d);
+    let i = p.low;
+    let j = p.high;
+    let r = e.first;
+    let a = [r.number, r.stamp, bit(e.second), bit(e.turned)];
+    o[j] = [0; 4];
+    o[i] = a;
+}
+
+// Reads on while no more than `stop` words are covered, inside the open nodes o, of which there are `around`.
 fn run_on(
     k: &[u8; 256],
     n: u32,
     s: &[u8],
     t: &mut [[u32; 6]],
+    o: &mut [[u32; 4]; 32],
     first: Run,
-    around: Opens,
+    around: usize,
     stop: u64,
 ) -> Reached
-    requires { ⌜ (now k ≡ kindTable) × ((n ≤ 32) × ((around .depth ≤ 32) × (stop ≤ 4294967296))) ⌝ }
-    ensures { λ y. ⌜ record { reached = y; table = now (t .exit) } ≡ readAll n (now (s .entry)) stop first around (now (t .entry)) ⌝ }
+    requires { ⌜ (now k ≡ kindTable) × ((n ≤ 32) × ((around ≤ 32) × (stop ≤ 4294967296))) ⌝ }
+    ensures { λ y. ⌜ record { reached = reachedIn y (now (o .exit)); table = now (t .exit) } ≡ readAll n (now (s .entry)) stop first (opensIn (now (o .entry)) around) (now (t .entry)) ⌝ }
 {
     let mut run = first;
-    let mut opens = around;
+    let mut depth = around;
     let mut from = 0;
     let mut deep = 0;
     while run.covered <= stop {
-        let d = opens.depth;
-        let p = spots_of(d);
-        let i = p.low;
-        let j = p.high;
-        let low = opens.nodes[i];
+        let d = depth;
+        let low = open_at(o, d);
         let x = take_turn(k, n, s, t, run, d, low);
         let w = x.went;
         if !w {
             let c = x.cause;
             return Reached {
                 run: run,
-                opens: opens,
+                depth: depth,
                 from: from,
                 deep: deep,
                 halted: true,
@@ -1773,13 +1796,12 @@ fn run_on(
         let q = x.run;
         run = q;
         let l = x.low;
-        opens.nodes[j] = inside();
-        opens.nodes[i] = l;
-        opens.depth = x.depth;
+        put_open(o, d, l);
+        depth = x.depth;
     }
     Reached {
         run: run,
-        opens: opens,
+        depth: depth,
         from: from,
         deep: deep,
         halted: false,
@@ -1843,18 +1865,17 @@ fn turned_about(t: bool, a: bool) -> bool
     if t { !a } else { a }
 }
 
-// The edges to second children that are complemented, of the open nodes: an odd number?
-fn parity_of(o: Opens) -> bool
-    ensures { λ r. ⌜ r ≡ parity (openList o) ⌝ }
+// The edges to second children that are complemented, of d open nodes: an odd number?
+fn parity_of(o: &[[u32; 4]; 32], d: usize) -> bool
+    ensures { λ r. ⌜ r ≡ parity (openList (opensIn (now (o .entry)) d)) ⌝ }
 {
-    let d = deep(o.depth);
+    let e = deep(d);
     let mut i = 0;
     let mut p = false;
-    while i < d {
-        let e = o.nodes[i];
-        let two = e.second;
-        if two {
-            p = turned_about(e.turned, p);
+    while i < e {
+        let a = o[i];
+        if a[2] != 0 {
+            p = turned_about(a[3] != 0, p);
         }
         i += 1;
     }
@@ -1904,9 +1925,9 @@ fn second_edge(x: Row, i: u32, e: Edge) -> Edge
 }
 
 // The word w of the node of level i, m options below it, that e stands for. z: how many numbers there are
-fn walk_down(t: &mut [[u32; 6]], z: u32, m: u32, i: u32, e: Edge, w: u64) -> Verdict
+fn walk_down(t: &[[u32; 6]], z: u32, m: u32, i: u32, e: Edge, w: u64) -> Verdict
     requires { ⌜ (m ≤ 32) × (i + m ≤ 64) ⌝ }
-    ensures { λ r. ⌜ (verdictsOf r ≡ verdictOf (complemented (e .turned) (rowWalk (tableOf (now (t .entry)) z) i (e .number) (options m w)))) × (now (t .exit) ≡ now (t .entry)) ⌝ }
+    ensures { λ r. ⌜ verdictsOf r ≡ verdictOf (complemented (e .turned) (rowWalk (tableOf (now (t .entry)) z) i (e .number) (options m w))) ⌝ }
 {
     if e.number == 0 {
         return verdict_of(e.turned);
@@ -1961,9 +1982,9 @@ fn put_edge(v: &mut [u8], e: Edge, w: usize)
 }
 
 // The words from w on of the node of level i, m options below it, that e stands for. z: how many numbers there are
-fn fill_node(t: &mut [[u32; 6]], z: u32, v: &mut [u8], m: u32, i: u32, e: Edge, w: usize)
+fn fill_node(t: &[[u32; 6]], z: u32, v: &mut [u8], m: u32, i: u32, e: Edge, w: usize)
     requires { ⌜ (m ≤ 16) × ((i + m ≤ 64) × (w + 2 ^ m ≤ 65536)) ⌝ }
-    ensures { λ _. ⌜ (now (v .exit) ≡ putNodeIn m (tableOf (now (t .entry)) z) i (e .number) (e .turned) w (now (v .entry))) × (now (t .exit) ≡ now (t .entry)) ⌝ }
+    ensures { λ _. ⌜ now (v .exit) ≡ putNodeIn m (tableOf (now (t .entry)) z) i (e .number) (e .turned) w (now (v .entry)) ⌝ }
 {
     if m == 0 {
         put_edge(v, e, w);
@@ -2015,7 +2036,7 @@ fn is_over(m: Mark) -> bool
 }
 
 fn checked_at(r: Reached) -> Checking
-    ensures { λ x. ⌜ checkingOf x ≡ checkedBy r ⌝ }
+    ensures { λ x. ⌜ checkingOf x ≡ checkedBy (reachedIn r []) ⌝ }
 {
     let f = r.faulty;
     if f {
@@ -2041,18 +2062,18 @@ pub fn check(n: u32, s: &[u8], t: &mut [[u32; 6]]) -> Checking
         return Checking::Refused(early(Cause::WorkTable));
     }
     let k = kinds();
-    let r = run_on(&k, n, s, t, first_run(), first_opens(), 4294967296);
+    let mut o = [[0u32; 4]; 32];
+    let r = run_on(&k, n, s, t, &mut o, first_run(), 0, 4294967296);
     let z = t.len();
     clear(t, z);
     checked_at(r)
 }
 
 // What the words passed last stand for.
-fn edge_of(r: Reached) -> Edge
-    ensures { λ x. ⌜ x ≡ edgeAt r ⌝ }
+fn edge_of(r: Reached, o: &[[u32; 4]; 32]) -> Edge
+    ensures { λ x. ⌜ x ≡ edgeAt (reachedIn r (now (o .entry))) ⌝ }
 {
-    let o = r.opens;
-    let p = parity_of(o);
+    let p = parity_of(o, r.depth);
     let q = r.run;
     let l = q.last;
     Edge {
@@ -2071,7 +2092,7 @@ fn below(n: u32, d: usize) -> u32
 }
 
 fn decided_at(r: Reached, v: Verdict) -> Deciding
-    ensures { λ x. ⌜ decidingOf x ≡ decidedBy r (verdictsOf v) ⌝ }
+    ensures { λ x. ⌜ decidingOf x ≡ decidedBy (reachedIn r []) (verdictsOf v) ⌝ }
 {
     let f = r.faulty;
     if f {
@@ -2081,14 +2102,14 @@ fn decided_at(r: Reached, v: Verdict) -> Deciding
 }
 
 // The word w, which the loop's last element passed.
-fn word_at(t: &mut [[u32; 6]], n: u32, r: Reached, w: u64) -> Verdict
+fn word_at(t: &[[u32; 6]], o: &[[u32; 4]; 32], n: u32, r: Reached, w: u64) -> Verdict
     requires { ⌜ (n ≤ 32) × ((r .deep ≤ 32) × (r .from ≤ w)) ⌝ }
-    ensures { λ x. ⌜ (verdictsOf x ≡ wordAt (now (t .entry)) n r w) × (now (t .exit) ≡ now (t .entry)) ⌝ }
+    ensures { λ x. ⌜ verdictsOf x ≡ wordAt (now (t .entry)) n (reachedIn r (now (o .entry))) w ⌝ }
 {
     let q = r.run;
     let d = r.deep;
     let i = d as u32 + 1;
-    walk_down(t, q.size, below(n, d), i, edge_of(r), w - r.from)
+    walk_down(t, q.size, below(n, d), i, edge_of(r, o), w - r.from)
 }
 
 // DECIDING a word: causes 1, 4 and 5, then those of the stream.
@@ -2105,17 +2126,17 @@ pub fn decide(n: u32, s: &[u8], w: u64, t: &mut [[u32; 6]]) -> Deciding
         return Deciding::Refused(early(Cause::WordRange));
     }
     let k = kinds();
-    let r = run_on(&k, n, s, t, first_run(), first_opens(), w);
+    let mut o = [[0u32; 4]; 32];
+    let r = run_on(&k, n, s, t, &mut o, first_run(), 0, w);
     let h = r.halted;
     if h {
         let z = t.len();
         clear(t, z);
         return decided_at(r, Verdict::NotYet);
     }
-    let v = word_at(t, n, r, w);
+    let v = word_at(t, &o, n, r, w);
     let q = r.run;
-    let o = r.opens;
-    let e = run_on(&k, n, s, t, q, o, 4294967296);
+    let e = run_on(&k, n, s, t, &mut o, q, r.depth, 4294967296);
     let z = t.len();
     clear(t, z);
     decided_at(e, v)
@@ -2126,11 +2147,12 @@ fn fill_words(k: &[u8; 256], n: u32, s: &[u8], v: &mut [u8], t: &mut [[u32; 6]])
     requires { ⌜ (now k ≡ kindTable) × ((3 ≤ n) × ((n ≤ 16) × ((1024 ≤ length (now t)) × ((reading n (now s) .fault ≡ none) × (now v ≡ replicate (2 ^ n / 8) 0))))) ⌝ }
     ensures { λ _. ⌜ (now (v .exit) ≡ bytesFrom (2 ^ n / 8) n (trace n (now (s .entry))) 0) × AsLong (now (t .exit)) (now (t .entry)) ⌝ }
 {
+    let mut o = [[0u32; 4]; 32];
     let mut run = first_run();
-    let mut opens = first_opens();
+    let mut depth = 0;
     loop {
         let c = run.covered;
-        let x = run_on(k, n, s, t, run, opens, c);
+        let x = run_on(k, n, s, t, &mut o, run, depth, c);
         let h = x.halted;
         if h {
             return;
@@ -2138,10 +2160,17 @@ fn fill_words(k: &[u8; 256], n: u32, s: &[u8], v: &mut [u8], t: &mut [[u32; 6]])
         let q = x.run;
         let d = x.deep;
         let i = d as u32 + 1;
-        fill_node(t, q.size, v, below(n, d), i, edge_of(x), x.from as usize);
+        fill_node(
+            t,
+            q.size,
+            v,
+            below(n, d),
+            i,
+            edge_of(x, &o),
+            x.from as usize,
+        );
         run = q;
-        let o = x.opens;
-        opens = o;
+        depth = x.depth;
     }
 }
 
@@ -2162,7 +2191,8 @@ pub fn fill(n: u32, s: &[u8], v: &mut [u8], t: &mut [[u32; 6]]) -> Filling
         return Filling::Refused(early(Cause::TruthTable));
     }
     let k = kinds();
-    let r = run_on(&k, n, s, t, first_run(), first_opens(), 4294967296);
+    let mut o = [[0u32; 4]; 32];
+    let r = run_on(&k, n, s, t, &mut o, first_run(), 0, 4294967296);
     let f = r.faulty;
     if f {
         let z = t.len();
@@ -2179,10 +2209,10 @@ pub fn fill(n: u32, s: &[u8], v: &mut [u8], t: &mut [[u32; 6]]) -> Filling
 
 // ---- Block by block
 
-// Where the reading of a stream stands: what it has come to, with the open nodes.
+// Where the reading of a stream stands: what it has come to, and how many nodes are open, which are lent beside it.
 pub struct Cursor {
     pub run: Run,
-    pub opens: Opens,
+    pub depth: usize,
 }
 
 // The words that one element passes: the first of them, how many nodes are open around them, and what they stand for: a number (0: the terminal),
@@ -2196,25 +2226,24 @@ pub struct Block {
     pub halted: bool,
 }
 
-// Where reading begins.
+// Where reading begins, whatever the open nodes are.
 pub fn first_cursor() -> Cursor
-    ensures { λ c. ⌜ c ≡ firstCursor ⌝ }
+    ensures { λ c. ⌜ c ≡ startCursor ⌝ }
 {
     Cursor {
         run: first_run(),
-        opens: first_opens(),
+        depth: 0,
     }
 }
 
 // More options, open nodes or words than any reading has.
 fn is_off(n: u32, c: Cursor) -> bool
-    ensures { λ r. ⌜ r ≡ offBy n c ⌝ }
+    ensures { λ r. ⌜ r ≡ offBy n (cursorIn c []) ⌝ }
 {
     if 32 < n {
         return true;
     }
-    let o = c.opens;
-    if 32 < o.depth {
+    if 32 < c.depth {
         return true;
     }
     let q = c.run;
@@ -2222,13 +2251,15 @@ fn is_off(n: u32, c: Cursor) -> bool
 }
 
 // The block that the loop's last element passed.
-fn block_of(r: Reached) -> Block
-    ensures { λ b. ⌜ b ≡ blockOf r ⌝ }
+fn block_of(r: Reached, o: &[[u32; 4]; 32]) -> Block
+    ensures { λ b. ⌜ blockIn b (now (o .entry)) ≡ blockOf (reachedIn r (now (o .entry))) ⌝ }
 {
-    let e = edge_of(r);
+    let e = edge_of(r, o);
     let q = r.run;
-    let o = r.opens;
-    let c = Cursor { run: q, opens: o };
+    let c = Cursor {
+        run: q,
+        depth: r.depth,
+    };
     Block {
         cursor: c,
         from: r.from,
@@ -2239,24 +2270,112 @@ fn block_of(r: Reached) -> Block
     }
 }
 
-// THE NEXT BLOCK: reads on until more words are covered.
-pub fn next_block(n: u32, s: &[u8], t: &mut [[u32; 6]], c: Cursor) -> Block
-    ensures { λ b. ⌜ record { block = b; table = now (t .exit) } ≡ nextBlock n (now (s .entry)) c (now (t .entry)) ⌝ }
+// THE NEXT BLOCK: reads on until more words are covered. o: the open nodes, as reading left them
+pub fn next_block(n: u32, s: &[u8], t: &mut [[u32; 6]], o: &mut [[u32; 4]; 32], c: Cursor) -> Block
+    ensures { λ b. ⌜ record { block = blockIn b (now (o .exit)); table = now (t .exit) } ≡ nextBlock n (now (s .entry)) (cursorIn c (now (o .entry))) (now (t .entry)) ⌝ }
 {
     let q = c.run;
-    let o = c.opens;
     if is_off(n, c) {
-        return block_of(Reached {
+        let x = Reached {
             run: q,
-            opens: o,
+            depth: c.depth,
             from: 0,
             deep: 0,
             halted: true,
             faulty: false,
             cause: Cause::WrongByte,
             byte: 0,
-        });
+        };
+        return block_of(x, o);
     }
     let k = kinds();
-    block_of(run_on(&k, n, s, t, q, o, q.covered))
+    let r = run_on(&k, n, s, t, o, q, c.depth, q.covered);
+    block_of(r, o)
+}
+
+// ---- A whole stream
+
+// A stream that was read to its end: what checking answers, and the block of what ended last. Whole: no fault was met, and that is the outermost
+// node, which the table has.
+pub struct Loaded {
+    pub checking: Checking,
+    pub block: Block,
+    pub whole: bool,
+}
+
+// A node has just ended.
+fn has_ended(m: Mark) -> bool
+    ensures { λ r. ⌜ r ≡ ended (markOf m) ⌝ }
+{
+    match m {
+        Mark::Start => false,
+        Mark::Lead => false,
+        Mark::Begins => false,
+        Mark::AfterDigit => true,
+        Mark::AfterTwo => true,
+        Mark::AfterOne => true,
+        Mark::Over => true,
+    }
+}
+
+// What ended last is the outermost node, and is the terminal or a number that was not given out again.
+fn is_whole(t: &[[u32; 6]], r: Reached) -> bool
+    ensures { λ x. ⌜ x ≡ wholeBy (reachedIn r []) (now (t .entry)) ⌝ }
+{
+    let f = r.faulty;
+    if f {
+        return false;
+    }
+    if r.depth != 0 {
+        return false;
+    }
+    let q = r.run;
+    let m = q.mark;
+    if !has_ended(m) {
+        return false;
+    }
+    let l = q.last;
+    let x = get(t, q.size, l.number);
+    x.stamp == l.stamp
+}
+
+// Turned down before anything is read.
+fn not_loaded(c: Cause) -> Loaded
+    ensures { λ r. ⌜ ((t : List (List ℕ)) → loadIn r t ≡ refusedLoad (causeOf c) t) ⌝ }
+{
+    let b = Block {
+        cursor: first_cursor(),
+        from: 0,
+        deep: 0,
+        number: 0,
+        turned: false,
+        halted: true,
+    };
+    Loaded {
+        checking: Checking::Refused(early(c)),
+        block: b,
+        whole: false,
+    }
+}
+
+// READING A WHOLE STREAM into its table, which is left as it is then: the answer of `check`, and the outermost node if the table has it.
+pub fn load(n: u32, s: &[u8], t: &mut [[u32; 6]]) -> Loaded
+    ensures { λ r. ⌜ loadIn r (now (t .exit)) ≡ load n (now (s .entry)) (now (t .entry)) ⌝ }
+{
+    if 32 < n {
+        return not_loaded(Cause::OptionCount);
+    }
+    if t.len() < 1024 {
+        return not_loaded(Cause::WorkTable);
+    }
+    let k = kinds();
+    let mut o = [[0u32; 4]; 32];
+    let r = run_on(&k, n, s, t, &mut o, first_run(), 0, 4294967296);
+    let w = is_whole(t, r);
+    let b = block_of(r, &o);
+    Loaded {
+        checking: checked_at(r),
+        block: b,
+        whole: w,
+    }
 }

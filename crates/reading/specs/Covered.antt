@@ -547,17 +547,25 @@ decision-stands n xs ys w e h k = ⊎-elim
     ∙ sym (covered-decided n xs w h j) ∙ k)
     (decide-le (covered n xs) w)
 
--- A COMPLETE STREAM covers all words.
-pub complete-covers : (n : ℕ) (bytes : List ℕ) → reading n bytes .state .place .mark ≡ over → covered n bytes ≡ 2 ^ n
+-- WHERE THE OUTERMOST NODE HAS ENDED all words are covered.
+pub ended-covers : (n : ℕ) (bytes : List ℕ) → ended (reading n bytes .state .place .mark) ≡ true → reading n bytes .state .place .opens ≡ [] → covered n bytes ≡ 2 ^ n
 unfolding passedBy before parity
-complete-covers n bytes e =
+ended-covers n bytes h k =
     let t = trace n bytes in
     let s = t .reading .state in
     let x = top (t .drawing .stack) in
     let g = good-trace n bytes in
-    let m : s .place .mark ≡ over = ap (λ (r : Reading). r .state .place .mark) (trace-reading n bytes) ∙ e in
-    let j : s .place .opens ≡ [] = g .outer (ap isOutside m) in
-    let f : Full x (n - 0) = subst (λ (u : List Open). Full x (n - length u)) j (g .whole (ap ended m)) in
+    let e : ended (s .place .mark) ≡ true = ap (λ (r : Reading). ended (r .state .place .mark)) (trace-reading n bytes) ∙ h in
+    let j : s .place .opens ≡ [] = ap (λ (r : Reading). r .state .place .opens) (trace-reading n bytes) ∙ k in
+    let f : Full x (n - 0) = subst (λ (u : List Open). Full x (n - length u)) j (g .whole e) in
     let i : n - 0 ≡ n = omega arith in
-    let p : passedWords n s (t .drawing) ≡ map (differ false) (bits x (n - 0)) = rw (m, j) refl in
+    let p : passedWords n s (t .drawing) ≡ map (differ false) (bits x (n - 0)) = rw (e, j) refl in
     sym (trace-covered n bytes) ∙ g .count ∙ ap length p ∙ length-map (bits x (n - 0)) (differ false) ∙ length-bits x (n - 0) f ∙ ap (λ (k : ℕ). 2 ^ k) i
+
+-- So a complete stream covers all words.
+pub complete-covers : (n : ℕ) (bytes : List ℕ) → reading n bytes .state .place .mark ≡ over → covered n bytes ≡ 2 ^ n
+complete-covers n bytes e =
+    let r = trace-reading n bytes in
+    ended-covers n bytes (ap ended e)
+    (sym (ap (λ (r : Reading). r .state .place .opens) r)
+    ∙ good-trace n bytes .outer (ap isOutside (ap (λ (r : Reading). r .state .place .mark) r ∙ e)))

@@ -203,7 +203,7 @@ lasts-move n s d r x h t (stores a k e b₁ b₂ q) =
 lasts-move n s d r x h t (ends a e j) = lasts-refl (s .table)
 
 -- what does not bar lies as deep as it is tied
-tied-deep : (n : ℕ) (t : List Node) (i : ℕ) (d : Diagram) (w : Ref) → TiedTo n t i d w → bars t w ≡ false → 0 < child w
+pub tied-deep : (n : ℕ) (t : List Node) (i : ℕ) (d : Diagram) (w : Ref) → TiedTo n t i d w → bars t w ≡ false → 0 < child w
     → i ≤ node t (child w) .level
 tied-deep n t i d terminal h e r = absurd (omega arith)
 tied-deep n t i d (entry k g) h e r = h .2 (eqb-true (stamp t k) g (not-false (eqb (stamp t k) g) e)) .0

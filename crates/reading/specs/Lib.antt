@@ -26,3 +26,4 @@ pub mod Filling
 pub mod Reaching
 pub mod Aligned
 pub mod Lasting
+pub mod Rooted

@@ -137,7 +137,7 @@ passing-next n bytes t h = go (t .reading .fault) (tied-next n bytes t (h .tied)
 
 -- ---- The decision of a passed word -----------------------------------------------------------
 
-length-options : (m w : ℕ) → length (options m w) ≡ m
+pub length-options : (m w : ℕ) → length (options m w) ≡ m
 unfolding options
 length-options zero w = refl
 length-options (suc m) w = ⊎-elim

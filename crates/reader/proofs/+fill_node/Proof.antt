@@ -1,6 +1,6 @@
--- With no option below it a node is one word, as `put_edge` puts it; else the words of its first child
--- come first and those of its second after them, by the rule of `putNodeIn`. Assumes nothing.
-use mathlib.Core.Path.{refl, _∙_}
+-- With no option below it a node is one word, as `put_edge` puts it; else the words of its first child come first and those of its second after
+-- them, by the rule of `putNodeIn`. Assumes nothing.
+use mathlib.Core.Path.{refl}
 use Prim.Native.Nat.{ℕ, _<_}
 use native.Mathlib.Omega.{arith}
 use borrow.Fn.Kinds.{In}
@@ -14,350 +14,133 @@ use Rattle.reader.proofs.+fill_node.Tie.{close}
 use Rattle.reader.proofs.fill_node.Reads as fill-node
 use Rattle.reader.proofs.fill_node.Kinds as fill-node-kinds
 use Rattle.reader.proofs.+fill_node.Lts-fill_node as fill-node-lts
-use Rattle.reader.proofs.first_edge.Reads as first-edge-reads
-use Rattle.reader.proofs.get.Reads as get-reads
-use Rattle.reader.proofs.put_edge.Reads as put-edge-reads
-use Rattle.reader.proofs.second_edge.Reads as second-edge-reads
+use Rattle.reader.proofs.first_edge.Reads as first-edge
+use Rattle.reader.proofs.get.Reads as get
+use Rattle.reader.proofs.put_edge.Reads as put-edge
+use Rattle.reader.proofs.second_edge.Reads as second-edge
 
-abbrev μ-fill-node : Measures 2 fill-node-kinds.ps ℕ
-μ-fill-node κs a = a .1 .1 .1 .0
+abbrev μ : Measures 2 fill-node-kinds.ps ℕ
+μ κs a = a .1 .1 .1 .0
 
-abbrev fill-node-at : ℕ → In 2 fill-node-kinds.ps
-fill-node-at t = and 2 fill-node-kinds.ps (is 2 fill-node-kinds.ps μ-fill-node t) fill-node.Pre
+abbrev at : ℕ → In 2 fill-node-kinds.ps
+at t = and 2 fill-node-kinds.ps (is 2 fill-node-kinds.ps μ t) fill-node.Pre
 
-abbrev fill-node-below : ℕ → In 2 fill-node-kinds.ps
-fill-node-below t =
-    and 2 fill-node-kinds.ps (falls 2 fill-node-kinds.ps _<_ μ-fill-node t) fill-node.Pre
+abbrev below : ℕ → In 2 fill-node-kinds.ps
+below t = and 2 fill-node-kinds.ps (falls 2 fill-node-kinds.ps _<_ μ t) fill-node.Pre
 
-fill-node-put-edge-requires : (t : ℕ) → fill-node-lts.Need-put-edge-requires (
-  put-edge-reads.Asked,
-  put-edge-reads.Learnt,
-  get-reads.Asked,
-  get-reads.Learnt,
-  first-edge-reads.Asked,
-  first-edge-reads.Learnt,
-  fill-node-below t,
-  fill-node.Post,
-  second-edge-reads.Asked,
-  second-edge-reads.Learnt,
-) (fill-node-at t) fill-node.Post
-fill-node-put-edge-requires t c κs = search needs
+module _ (t : ℕ) where
+  -- what each callee asks, and what it gives
+  abbrev K : fill-node-lts.Claims
+  K = (
+    put-edge.Asked,
+    put-edge.Learnt,
+    get.Asked,
+    get.Learnt,
+    first-edge.Asked,
+    first-edge.Learnt,
+    below t,
+    fill-node.Post,
+    second-edge.Asked,
+    second-edge.Learnt,
+  )
 
-fill-node-same-length : (t : ℕ) → fill-node-lts.Need-same-length (
-  put-edge-reads.Asked,
-  put-edge-reads.Learnt,
-  get-reads.Asked,
-  get-reads.Learnt,
-  first-edge-reads.Asked,
-  first-edge-reads.Learnt,
-  fill-node-below t,
-  fill-node.Post,
-  second-edge-reads.Asked,
-  second-edge-reads.Learnt,
-) (fill-node-at t) fill-node.Post
-fill-node-same-length t c = search needs
+  put-edge-requires : fill-node-lts.Need-put-edge-requires K (at t) fill-node.Post
+  put-edge-requires c κs = search needs
 
-fill-node-returns : (t : ℕ) → fill-node-lts.Need-returns (
-  put-edge-reads.Asked,
-  put-edge-reads.Learnt,
-  get-reads.Asked,
-  get-reads.Learnt,
-  first-edge-reads.Asked,
-  first-edge-reads.Learnt,
-  fill-node-below t,
-  fill-node.Post,
-  second-edge-reads.Asked,
-  second-edge-reads.Learnt,
-) (fill-node-at t) fill-node.Post
-fill-node-returns t c =
-    let called = c .before .before in
-    let tested = called .before .before in
-    let a = tested .before .before .args in
-    let table = tableOf (a .t .now) (a .z) in
-    (put-one (a .m) table (a .i) (a .e .number) (a .e .turned) (a .w) (a .v .now) _ (tested .if1 .taken) (called .put-edge .ensures), refl)
+  same-length : fill-node-lts.Need-same-length K (at t) fill-node.Post
+  same-length c = search needs
 
-fill-node-get-requires : (t : ℕ) → fill-node-lts.Need-get-requires (
-  put-edge-reads.Asked,
-  put-edge-reads.Learnt,
-  get-reads.Asked,
-  get-reads.Learnt,
-  first-edge-reads.Asked,
-  first-edge-reads.Learnt,
-  fill-node-below t,
-  fill-node.Post,
-  second-edge-reads.Asked,
-  second-edge-reads.Learnt,
-) (fill-node-at t) fill-node.Post
-fill-node-get-requires t c κs = search needs
+  returns : fill-node-lts.Need-returns K (at t) fill-node.Post
+  returns c =
+      let c2 = c .before .before in
+      let c4 = c2 .before .before in
+      let c6 = c4 .before .before in
+      let a = c6 .args in
+      put-one (a .m) (tableOf (a .t .now) (a .z)) (a .i) (a .e .number) (a .e .turned) (a .w) (a .v .now) _ (c4 .if1 .taken) (c2 .put-edge .ensures)
 
-fill-node-sub-half : (t : ℕ) → fill-node-lts.Need-sub-half (
-  put-edge-reads.Asked,
-  put-edge-reads.Learnt,
-  get-reads.Asked,
-  get-reads.Learnt,
-  first-edge-reads.Asked,
-  first-edge-reads.Learnt,
-  fill-node-below t,
-  fill-node.Post,
-  second-edge-reads.Asked,
-  second-edge-reads.Learnt,
-) (fill-node-at t) fill-node.Post
-fill-node-sub-half t c = search needs
+  get-requires : fill-node-lts.Need-get-requires K (at t) fill-node.Post
+  get-requires c κs = search needs
 
-fill-node-cast-half : (t : ℕ) → fill-node-lts.Need-cast-half (
-  put-edge-reads.Asked,
-  put-edge-reads.Learnt,
-  get-reads.Asked,
-  get-reads.Learnt,
-  first-edge-reads.Asked,
-  first-edge-reads.Learnt,
-  fill-node-below t,
-  fill-node.Post,
-  second-edge-reads.Asked,
-  second-edge-reads.Learnt,
-) (fill-node-at t) fill-node.Post
-fill-node-cast-half t c = search needs
+  sub-half : fill-node-lts.Need-sub-half K (at t) fill-node.Post
+  sub-half c = search needs
 
-fill-node-shl-half : (t : ℕ) → fill-node-lts.Need-shl-half (
-  put-edge-reads.Asked,
-  put-edge-reads.Learnt,
-  get-reads.Asked,
-  get-reads.Learnt,
-  first-edge-reads.Asked,
-  first-edge-reads.Learnt,
-  fill-node-below t,
-  fill-node.Post,
-  second-edge-reads.Asked,
-  second-edge-reads.Learnt,
-) (fill-node-at t) fill-node.Post
-fill-node-shl-half t c = search needs
+  cast-half : fill-node-lts.Need-cast-half K (at t) fill-node.Post
+  cast-half c = search needs
 
-fill-node-sub-fill-node : (t : ℕ) → fill-node-lts.Need-sub-fill-node (
-  put-edge-reads.Asked,
-  put-edge-reads.Learnt,
-  get-reads.Asked,
-  get-reads.Learnt,
-  first-edge-reads.Asked,
-  first-edge-reads.Learnt,
-  fill-node-below t,
-  fill-node.Post,
-  second-edge-reads.Asked,
-  second-edge-reads.Learnt,
-) (fill-node-at t) fill-node.Post
-fill-node-sub-fill-node t c = search needs
+  shl-half : fill-node-lts.Need-shl-half K (at t) fill-node.Post
+  shl-half c = search needs
 
-fill-node-add-fill-node : (t : ℕ) → fill-node-lts.Need-add-fill-node (
-  put-edge-reads.Asked,
-  put-edge-reads.Learnt,
-  get-reads.Asked,
-  get-reads.Learnt,
-  first-edge-reads.Asked,
-  first-edge-reads.Learnt,
-  fill-node-below t,
-  fill-node.Post,
-  second-edge-reads.Asked,
-  second-edge-reads.Learnt,
-) (fill-node-at t) fill-node.Post
-fill-node-add-fill-node t c = search needs
+  sub-fill-node : fill-node-lts.Need-sub-fill-node K (at t) fill-node.Post
+  sub-fill-node c = search needs
 
-fill-node-first-edge-requires : (t : ℕ) → fill-node-lts.Need-first-edge-requires (
-  put-edge-reads.Asked,
-  put-edge-reads.Learnt,
-  get-reads.Asked,
-  get-reads.Learnt,
-  first-edge-reads.Asked,
-  first-edge-reads.Learnt,
-  fill-node-below t,
-  fill-node.Post,
-  second-edge-reads.Asked,
-  second-edge-reads.Learnt,
-) (fill-node-at t) fill-node.Post
-fill-node-first-edge-requires t c κs = search needs
+  add-fill-node : fill-node-lts.Need-add-fill-node K (at t) fill-node.Post
+  add-fill-node c = search needs
 
-fill-node-fill-node-requires : (t : ℕ) → fill-node-lts.Need-fill-node-requires (
-  put-edge-reads.Asked,
-  put-edge-reads.Learnt,
-  get-reads.Asked,
-  get-reads.Learnt,
-  first-edge-reads.Asked,
-  first-edge-reads.Learnt,
-  fill-node-below t,
-  fill-node.Post,
-  second-edge-reads.Asked,
-  second-edge-reads.Learnt,
-) (fill-node-at t) fill-node.Post
-fill-node-fill-node-requires t c κs =
-    let tested = c .before .before .before .before .before .before in
-    let first = tested .before .before in
-    omega (arith, first .pre, both-halves (first .args .m) (tested .if1 .left))
+  first-edge-requires : fill-node-lts.Need-first-edge-requires K (at t) fill-node.Post
+  first-edge-requires c κs = search needs
 
-fill-node-sub-fill-node-2 : (t : ℕ) → fill-node-lts.Need-sub-fill-node-2 (
-  put-edge-reads.Asked,
-  put-edge-reads.Learnt,
-  get-reads.Asked,
-  get-reads.Learnt,
-  first-edge-reads.Asked,
-  first-edge-reads.Learnt,
-  fill-node-below t,
-  fill-node.Post,
-  second-edge-reads.Asked,
-  second-edge-reads.Learnt,
-) (fill-node-at t) fill-node.Post
-fill-node-sub-fill-node-2 t c = search needs
+  fill-node-requires : fill-node-lts.Need-fill-node-requires K (at t) fill-node.Post
+  fill-node-requires c κs =
+      let c3 = c .before .before .before in
+      let c5 = c3 .before .before in
+      omega (arith, c5 .pre, both-halves (c5 .args .m) (c3 .if1 .left))
 
-fill-node-add-fill-node-2 : (t : ℕ) → fill-node-lts.Need-add-fill-node-2 (
-  put-edge-reads.Asked,
-  put-edge-reads.Learnt,
-  get-reads.Asked,
-  get-reads.Learnt,
-  first-edge-reads.Asked,
-  first-edge-reads.Learnt,
-  fill-node-below t,
-  fill-node.Post,
-  second-edge-reads.Asked,
-  second-edge-reads.Learnt,
-) (fill-node-at t) fill-node.Post
-fill-node-add-fill-node-2 t c = search needs
+  sub-fill-node-2 : fill-node-lts.Need-sub-fill-node-2 K (at t) fill-node.Post
+  sub-fill-node-2 c = search needs
 
-fill-node-second-edge-requires : (t : ℕ) → fill-node-lts.Need-second-edge-requires (
-  put-edge-reads.Asked,
-  put-edge-reads.Learnt,
-  get-reads.Asked,
-  get-reads.Learnt,
-  first-edge-reads.Asked,
-  first-edge-reads.Learnt,
-  fill-node-below t,
-  fill-node.Post,
-  second-edge-reads.Asked,
-  second-edge-reads.Learnt,
-) (fill-node-at t) fill-node.Post
-fill-node-second-edge-requires t c κs = search needs
+  add-fill-node-2 : fill-node-lts.Need-add-fill-node-2 K (at t) fill-node.Post
+  add-fill-node-2 c = search needs
 
-fill-node-add-fill-node-3 : (t : ℕ) → fill-node-lts.Need-add-fill-node-3 (
-  put-edge-reads.Asked,
-  put-edge-reads.Learnt,
-  get-reads.Asked,
-  get-reads.Learnt,
-  first-edge-reads.Asked,
-  first-edge-reads.Learnt,
-  fill-node-below t,
-  fill-node.Post,
-  second-edge-reads.Asked,
-  second-edge-reads.Learnt,
-) (fill-node-at t) fill-node.Post
-fill-node-add-fill-node-3 t c =
-    let tested = c .before .before .before .before .before .before .before .before .before .before .before .before .before in
-    let first = tested .before .before in
-    let p = first .pre in
-    let m = first .args .m in
-    record { fits = omega (arith, p .1 .1 .1, few-words m 1 (omega (arith, p .1 .0)), both-halves m (tested .if1 .left)) }
+  second-edge-requires : fill-node-lts.Need-second-edge-requires K (at t) fill-node.Post
+  second-edge-requires c κs = search needs
 
-fill-node-fill-node-requires-2 : (t : ℕ) → fill-node-lts.Need-fill-node-requires-2 (
-  put-edge-reads.Asked,
-  put-edge-reads.Learnt,
-  get-reads.Asked,
-  get-reads.Learnt,
-  first-edge-reads.Asked,
-  first-edge-reads.Learnt,
-  fill-node-below t,
-  fill-node.Post,
-  second-edge-reads.Asked,
-  second-edge-reads.Learnt,
-) (fill-node-at t) fill-node.Post
-fill-node-fill-node-requires-2 t c κs =
-    let tested = c .before .before .before .before .before .before .before .before .before .before .before .before .before in
-    let first = tested .before .before in
-    let p = first .pre in
-    let m = first .args .m in
-    omega (arith, p, few-words m 1 (omega (arith, p .1 .0)), both-halves m (tested .if1 .left))
+  add-fill-node-3 : fill-node-lts.Need-add-fill-node-3 K (at t) fill-node.Post
+  add-fill-node-3 c =
+      let c8 = c .before .before .before .before .before .before .before .before in
+      let c10 = c8 .before .before in
+      let p = c10 .pre in let m = c10 .args .m in
+      record { fits = omega (arith, p .1 .1 .1, few-words m 1 (omega (arith, p .1 .0)), both-halves m (c8 .if1 .left)) }
 
-fill-node-same-length-2 : (t : ℕ) → fill-node-lts.Need-same-length-2 (
-  put-edge-reads.Asked,
-  put-edge-reads.Learnt,
-  get-reads.Asked,
-  get-reads.Learnt,
-  first-edge-reads.Asked,
-  first-edge-reads.Learnt,
-  fill-node-below t,
-  fill-node.Post,
-  second-edge-reads.Asked,
-  second-edge-reads.Learnt,
-) (fill-node-at t) fill-node.Post
-fill-node-same-length-2 t c = search needs
+  fill-node-requires-2 : fill-node-lts.Need-fill-node-requires-2 K (at t) fill-node.Post
+  fill-node-requires-2 c κs =
+      let c8 = c .before .before .before .before .before .before .before .before in
+      let c10 = c8 .before .before in
+      let p = c10 .pre in let m = c10 .args .m in
+      omega (arith, p, few-words m 1 (omega (arith, p .1 .0)), both-halves m (c8 .if1 .left))
 
-fill-node-same-length-3 : (t : ℕ) → fill-node-lts.Need-same-length-3 (
-  put-edge-reads.Asked,
-  put-edge-reads.Learnt,
-  get-reads.Asked,
-  get-reads.Learnt,
-  first-edge-reads.Asked,
-  first-edge-reads.Learnt,
-  fill-node-below t,
-  fill-node.Post,
-  second-edge-reads.Asked,
-  second-edge-reads.Learnt,
-) (fill-node-at t) fill-node.Post
-fill-node-same-length-3 t c = search needs
+  same-length-2 : fill-node-lts.Need-same-length-2 K (at t) fill-node.Post
+  same-length-2 c = search needs
 
-fill-node-returns-2 : (t : ℕ) → fill-node-lts.Need-returns-2 (
-  put-edge-reads.Asked,
-  put-edge-reads.Learnt,
-  get-reads.Asked,
-  get-reads.Learnt,
-  first-edge-reads.Asked,
-  first-edge-reads.Learnt,
-  fill-node-below t,
-  fill-node.Post,
-  second-edge-reads.Asked,
-  second-edge-reads.Learnt,
-) (fill-node-at t) fill-node.Post
-fill-node-returns-2 t c =
-    let called2 = c .before .before .before in
-    let called = called2 .before .before .before .before .before .before .before in
-    let read = called .before .before .before .before .before in
-    let tested = read .before .before in
-    let first = tested .before .before in
-    let a = first .args in
-    let got = read .get .ensures in
-    let done = called .fill-node .ensures in
-    let done2 = called2 .fill-node2 .ensures in
-    let edge = called .before .first-edge .ensures in
-    let edge2 = called2 .before .second-edge .ensures in
-    let filled = put-made (a .m) (a .t .now) _ _ (a .z) (a .i) (read .get .result) (a .e) _ _ (a .w) _ (a .v .now) _ _ (first .pre .1 .0) (tested .if1 .left)
-    (got .0) (got .1) edge edge2 refl (done .0) (done .1) (done2 .0) in
-    (filled, done2 .1 ∙ done .1 ∙ got .1)
+  returns-2 : fill-node-lts.Need-returns-2 K (at t) fill-node.Post
+  returns-2 c =
+      let c2 = c .before .before in
+      let c3 = c2 .before in
+      let c7 = c3 .before .before .before .before in
+      let c8 = c7 .before in
+      let c10 = c8 .before .before in
+      let c11 = c10 .before in
+      let c13 = c11 .before .before in
+      let a = c13 .args in
+      put-made (a .m) (a .t .now) (a .z) (a .i) (c10 .get .result) (a .e) (c8 .first-edge .result) (c3 .second-edge .result) (a .w) _ (a .v .now) _ _ (c13 .pre .1 .0) (c11 .if1 .left)
+      (c10 .get .ensures) (c8 .first-edge .ensures) (c3 .second-edge .ensures) refl (c7 .fill-node .ensures) (c2 .fill-node2 .ensures)
 
 pub +fill-node-spec : {M : Type 1} → statement M
-+fill-node-spec = close μ-fill-node λ t. fill-node-lts.spec (
-  put-edge-reads.Asked,
-  put-edge-reads.Learnt,
-  get-reads.Asked,
-  get-reads.Learnt,
-  first-edge-reads.Asked,
-  first-edge-reads.Learnt,
-  fill-node-below t,
-  fill-node.Post,
-  second-edge-reads.Asked,
-  second-edge-reads.Learnt,
-)
-    (fill-node-at t)
-    fill-node.Post
-    (fill-node-put-edge-requires t)
-    (fill-node-same-length t)
-    (fill-node-returns t)
-    (fill-node-get-requires t)
-    (fill-node-sub-half t)
-    (fill-node-cast-half t)
-    (fill-node-shl-half t)
-    (fill-node-sub-fill-node t)
-    (fill-node-add-fill-node t)
-    (fill-node-first-edge-requires t)
-    (fill-node-fill-node-requires t)
-    (fill-node-sub-fill-node-2 t)
-    (fill-node-add-fill-node-2 t)
-    (fill-node-second-edge-requires t)
-    (fill-node-add-fill-node-3 t)
-    (fill-node-fill-node-requires-2 t)
-    (fill-node-same-length-2 t)
-    (fill-node-same-length-3 t)
-    (fill-node-returns-2 t)
++fill-node-spec = close μ λ t. fill-node-lts.spec (K t) (at t) fill-node.Post
+    (put-edge-requires t)
+    (same-length t)
+    (returns t)
+    (get-requires t)
+    (sub-half t)
+    (cast-half t)
+    (shl-half t)
+    (sub-fill-node t)
+    (add-fill-node t)
+    (first-edge-requires t)
+    (fill-node-requires t)
+    (sub-fill-node-2 t)
+    (add-fill-node-2 t)
+    (second-edge-requires t)
+    (add-fill-node-3 t)
+    (fill-node-requires-2 t)
+    (same-length-2 t)
+    (returns-2 t)

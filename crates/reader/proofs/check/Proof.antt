@@ -3,7 +3,6 @@
 use mathlib.Core.Path.{ap}
 use native.Mathlib.Omega.{arith}
 use Rattle.reading.specs.Causes as C
-use Rattle.reader.specs.Loop.{first-shallow}
 use Rattle.reader.specs.ReadOn.{read-begun}
 use Rattle.reader.specs.CallsMade.{cleared-after, all-reads, check-options, check-table, check-made}
 use borrow.Author.Needs.{needs}
@@ -32,14 +31,11 @@ kinds-requires c κs = search needs
 first-run-requires : tie.Need-first-run-requires
 first-run-requires c κs = search needs
 
-first-opens-requires : tie.Need-first-opens-requires
-first-opens-requires c κs = search needs
-
 run-on-requires : tie.Need-run-on-requires
 run-on-requires c κs =
-    let if1 = c .before .before .before .before .before .before .if1 in
     let kinds = c .before .before .before .before .kinds in
-    (kinds .ensures, (omega (arith, if1 .left), (first-shallow (c .first-opens .result) (c .first-opens .ensures), omega arith)))
+    let if1 = c .before .before .before .before .before .before .if1 in
+    (kinds .ensures, (omega (arith, if1 .left), (omega arith, omega arith)))
 
 clear-requires : tie.Need-clear-requires
 clear-requires c κs = search needs
@@ -52,16 +48,15 @@ same-length c = search needs
 
 returns-3 : tie.Need-returns-3
 returns-3 c =
-    let a = c .before .before .before .before .before .before .before .before .before .before .before .before .before .before .args in
     let if1 = c .before .before .before .before .before .before .before .before .before .before .before .before .if1 in
+    let a = c .before .before .before .before .before .before .before .before .before .before .before .before .before .before .args in
+    let firstrun = c .before .before .before .before .before .before .first-run in
     let if2 = c .before .before .before .before .before .before .before .before .before .before .before .if2 in
-    let x0 = c .before .before .before .before .before .run-on in
+    let runon = c .before .before .before .before .before .run-on in
     let t0 = c .before .before .before .before .t in
-    let run = c .before .before .before .before .before .before .before .first-run in
-    let opens = c .before .before .before .before .before .before .first-opens in
     let few = if1 .left in
-    let reached = read-begun (a .n) (a .s .now) (omega (arith, few)) 4294967296 (run .result) (opens .result) (a .t .now) (omega (arith, if2 .left)) (run .ensures) (opens .ensures) (x0 .result) _ (x0 .ensures) in
-    check-made (a .n) (a .s .now) (a .t .now) _ _ (x0 .result) _ (omega (arith, few)) (omega (arith, if2 .left)) (all-reads (a .n) (a .s .now) (x0 .result) _ (omega (arith, few)) reached) (c .checked-at .ensures)
+    let reached = read-begun (a .n) (a .s .now) (omega (arith, few)) 4294967296 (firstrun .result) (a .t .now) (omega (arith, if2 .left)) (firstrun .ensures) _ _ (runon .ensures) in
+    check-made (a .n) (a .s .now) (a .t .now) _ _ _ _ (omega (arith, few)) (omega (arith, if2 .left)) (all-reads (a .n) (a .s .now) _ _ (omega (arith, few)) reached) (c .checked-at .ensures)
     (cleared-after _ _ _ _ _ reached (a .t .now) (t0 .given) _ (c .before .before .clear .ensures))
 
 pub check-spec : {M : Type 1} → statement M
@@ -74,7 +69,6 @@ check-spec =
     returns-2
     kinds-requires
     first-run-requires
-    first-opens-requires
     run-on-requires
     clear-requires
     checked-at-requires

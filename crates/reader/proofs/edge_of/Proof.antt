@@ -15,9 +15,14 @@ turned-about-requires c κs = search needs
 
 returns : tie.Need-returns
 returns c =
-    let a = c .before .before .before .before .before .args in
+    let a = c .before .before .before .before .args in
     let parityof = c .before .before .before .parity-of in
     ap (λ (b : Bool). record { number = a .r .run .last .number; turned = b }) (c .turned-about .ensures ∙ ap (λ (p : Bool). differ p (a .r .run .complement)) (parityof .ensures))
 
 pub edge-of-spec : {M : Type 1} → statement M
-edge-of-spec = tie.close (tie.spec parity-of-requires turned-about-requires returns)
+edge-of-spec =
+    tie.close
+    (tie.spec
+    parity-of-requires
+    turned-about-requires
+    returns)

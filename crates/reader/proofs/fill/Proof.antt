@@ -5,7 +5,6 @@ use Prim.Native.Nat.{ℕ, _/_, _≤_}
 use native.Mathlib.Omega.{arith}
 use lib.ListN.{replicate}
 use Rattle.reading.specs.Causes as C
-use Rattle.reader.specs.Loop.{first-shallow}
 use Rattle.reader.specs.ReadOn.{read-begun}
 use Rattle.reader.specs.CallsMade.{cleared-after, cleared-long, shifted, all-reads, reads-clean, options-fit, options-few, options-many, fill-options, fill-table, fill-length, fill-made}
 use borrow.Author.Needs.{needs}
@@ -58,15 +57,11 @@ kinds-requires c κs = search needs
 first-run-requires : tie.Need-first-run-requires
 first-run-requires c κs = search needs
 
-first-opens-requires : tie.Need-first-opens-requires
-first-opens-requires c κs = search needs
-
 run-on-requires : tie.Need-run-on-requires
 run-on-requires c κs =
     let kinds = c .before .before .before .before .kinds in
     let if2 = c .before .before .before .before .before .before .before .if2 in
-    let opens = c .first-opens in
-    (kinds .ensures, (omega (arith, if2 .left), (first-shallow (opens .result) (opens .ensures), omega arith)))
+    (kinds .ensures, (omega (arith, if2 .left), (omega arith, omega arith)))
 
 clear-requires : tie.Need-clear-requires
 clear-requires c κs = search needs
@@ -81,21 +76,18 @@ returns-5 : tie.Need-returns-5
 returns-5 c =
     let a = c .before .before .before .before .before .before .before .before .before .before .before .before .before .before .before .before .before .before .args in
     let if2 = c .before .before .before .before .before .before .before .before .before .before .before .before .before .before .if2 in
-    let x0 = c .before .before .before .before .before .before .run-on in
-    let run = c .before .before .before .before .before .before .before .before .first-run in
-    let opens = c .before .before .before .before .before .before .before .first-opens in
+    let firstrun = c .before .before .before .before .before .before .before .first-run in
     let if3 = c .before .before .before .before .before .before .before .before .before .before .before .before .before .if3 in
+    let runon = c .before .before .before .before .before .before .run-on in
     let if1 = c .before .before .before .before .before .before .before .before .before .before .before .before .before .before .before .if1 in
     let if4 = c .before .before .before .before .before .before .before .before .before .before .before .before .if4 in
-    let late = c .late in
     let if5 = c .before .before .before .before .if5 in
     let t0 = c .before .before .before .before .before .t in
-    let clear = c .before .before .clear in
-    let few : a .n ≤ 16 = omega (arith, if2 .left) in let n = a .n in let s = a .s .now in let v = a .v .now in let t = a .t .now in let r = x0 .result in
-    let reached = read-begun n s (omega (arith, few)) 4294967296 (run .result) (opens .result) t (omega (arith, if3 .left)) (run .ensures) (opens .ensures) r _ (x0 .ensures) in
-    fill-made n s v t _ _ v r _ (options-fit n (omega (arith, if1 .left)) few) (omega (arith, if3 .left))
-    (if4 .left ∙ ap (λ (k : ℕ). k / 8) (shifted n (omega (arith, few)))) (all-reads n s r _ (omega (arith, few)) reached)
-    (ap C.refused (late .ensures) ∙ rw (if5 .taken) refl) (cleared-after _ _ _ _ _ reached t (t0 .given) _ (clear .ensures)) (rw (if5 .taken) refl)
+    let few : a .n ≤ 16 = omega (arith, if2 .left) in let n = a .n in let s = a .s .now in let v = a .v .now in let t = a .t .now in
+    let reached = read-begun n s (omega (arith, few)) 4294967296 (firstrun .result) t (omega (arith, if3 .left)) (firstrun .ensures) _ _ (runon .ensures) in
+    fill-made n s v t _ _ v _ _ (options-fit n (omega (arith, if1 .left)) few) (omega (arith, if3 .left))
+    (if4 .left ∙ ap (λ (k : ℕ). k / 8) (shifted n (omega (arith, few)))) (all-reads n s _ _ (omega (arith, few)) reached)
+    (ap C.refused (c .late .ensures) ∙ rw (if5 .taken) refl) (cleared-after _ _ _ _ _ reached t (t0 .given) _ (c .before .before .clear .ensures)) (rw (if5 .taken) refl)
 
 wipe-requires : tie.Need-wipe-requires
 wipe-requires c κs = search needs
@@ -104,18 +96,17 @@ fill-words-requires : tie.Need-fill-words-requires
 fill-words-requires c κs =
     let a = c .before .before .before .before .before .before .before .before .before .before .before .before .before .before .before .before .before .before .before .before .before .args in
     let if2 = c .before .before .before .before .before .before .before .before .before .before .before .before .before .before .before .before .before .if2 in
-    let x0 = c .before .before .before .before .before .before .before .before .before .run-on in
-    let run = c .before .before .before .before .before .before .before .before .before .before .before .first-run in
-    let opens = c .before .before .before .before .before .before .before .before .before .before .first-opens in
+    let firstrun = c .before .before .before .before .before .before .before .before .before .before .first-run in
     let if3 = c .before .before .before .before .before .before .before .before .before .before .before .before .before .before .before .before .if3 in
+    let runon = c .before .before .before .before .before .before .before .before .before .run-on in
     let kinds = c .before .before .before .before .before .before .before .before .before .before .before .before .before .before .kinds in
     let if1 = c .before .before .before .before .before .before .before .before .before .before .before .before .before .before .before .before .before .before .if1 in
     let t0 = c .before .before .before .before .before .before .before .before .t in
     let if5 = c .before .before .before .before .before .before .before .if5 in
     let wipe = c .before .before .before .before .before .wipe in
     let if4 = c .before .before .before .before .before .before .before .before .before .before .before .before .before .before .before .if4 in
-    let few : a .n ≤ 16 = omega (arith, if2 .left) in let n = a .n in let s = a .s .now in let t = a .t .now in let r = x0 .result in
-    let reached = read-begun n s (omega (arith, few)) 4294967296 (run .result) (opens .result) t (omega (arith, if3 .left)) (run .ensures) (opens .ensures) r _ (x0 .ensures) in (
+    let few : a .n ≤ 16 = omega (arith, if2 .left) in let n = a .n in let s = a .s .now in let t = a .t .now in
+    let reached = read-begun n s (omega (arith, few)) 4294967296 (firstrun .result) t (omega (arith, if3 .left)) (firstrun .ensures) _ _ (runon .ensures) in (
       kinds .ensures,
       (
         omega (arith, if1 .left),
@@ -124,7 +115,7 @@ fill-words-requires c κs =
           (
             omega (arith, t0 .given, if3 .left),
             (
-              reads-clean n s r _ (all-reads n s r _ (omega (arith, few)) reached) (if5 .left),
+              reads-clean n s _ _ (all-reads n s _ _ (omega (arith, few)) reached) (if5 .left),
               wipe .ensures ∙ ap (λ (k : ℕ). replicate k 0) (if4 .left ∙ ap (λ (k : ℕ). k / 8) (shifted n (omega (arith, few)))),
             ),
           ),
@@ -145,21 +136,19 @@ returns-6 : tie.Need-returns-6
 returns-6 c =
     let a = c .before .before .before .before .before .before .before .before .before .before .before .before .before .before .before .before .before .before .before .before .before .before .before .before .before .before .before .before .before .args in
     let if2 = c .before .before .before .before .before .before .before .before .before .before .before .before .before .before .before .before .before .before .before .before .before .before .before .before .before .if2 in
-    let x0 = c .before .before .before .before .before .before .before .before .before .before .before .before .before .before .before .before .before .run-on in
-    let run = c .before .before .before .before .before .before .before .before .before .before .before .before .before .before .before .before .before .before .before .first-run in
-    let opens = c .before .before .before .before .before .before .before .before .before .before .before .before .before .before .before .before .before .before .first-opens in
+    let firstrun = c .before .before .before .before .before .before .before .before .before .before .before .before .before .before .before .before .before .before .first-run in
     let if3 = c .before .before .before .before .before .before .before .before .before .before .before .before .before .before .before .before .before .before .before .before .before .before .before .before .if3 in
+    let runon = c .before .before .before .before .before .before .before .before .before .before .before .before .before .before .before .before .before .run-on in
     let if1 = c .before .before .before .before .before .before .before .before .before .before .before .before .before .before .before .before .before .before .before .before .before .before .before .before .before .before .if1 in
     let if4 = c .before .before .before .before .before .before .before .before .before .before .before .before .before .before .before .before .before .before .before .before .before .before .before .if4 in
     let if5 = c .before .before .before .before .before .before .before .before .before .before .before .before .before .before .before .if5 in
     let fillwords = c .before .before .before .before .before .before .before .fill-words in
     let t0 = c .before .before .before .before .before .before .before .before .before .before .before .before .before .before .before .before .t in
-    let clear2 = c .before .before .clear2 in
-    let few : a .n ≤ 16 = omega (arith, if2 .left) in let n = a .n in let s = a .s .now in let v = a .v .now in let t = a .t .now in let r = x0 .result in
-    let reached = read-begun n s (omega (arith, few)) 4294967296 (run .result) (opens .result) t (omega (arith, if3 .left)) (run .ensures) (opens .ensures) r _ (x0 .ensures) in
-    fill-made n s v t _ _ _ r _ (options-fit n (omega (arith, if1 .left)) few) (omega (arith, if3 .left))
-    (if4 .left ∙ ap (λ (k : ℕ). k / 8) (shifted n (omega (arith, few)))) (all-reads n s r _ (omega (arith, few)) reached)
-    (rw (if5 .left) refl) (cleared-long _ _ (fillwords .ensures .1) t (t0 .given) _ (clear2 .ensures)) (fillwords .ensures .0 ∙ rw (if5 .left) refl)
+    let few : a .n ≤ 16 = omega (arith, if2 .left) in let n = a .n in let s = a .s .now in let v = a .v .now in let t = a .t .now in
+    let reached = read-begun n s (omega (arith, few)) 4294967296 (firstrun .result) t (omega (arith, if3 .left)) (firstrun .ensures) _ _ (runon .ensures) in
+    fill-made n s v t _ _ _ _ _ (options-fit n (omega (arith, if1 .left)) few) (omega (arith, if3 .left))
+    (if4 .left ∙ ap (λ (k : ℕ). k / 8) (shifted n (omega (arith, few)))) (all-reads n s _ _ (omega (arith, few)) reached)
+    (rw (if5 .left) refl) (cleared-long _ _ (fillwords .ensures .1) t (t0 .given) _ (c .before .before .clear2 .ensures)) (fillwords .ensures .0 ∙ rw (if5 .left) refl)
 
 pub fill-spec : {M : Type 1} → statement M
 fill-spec =
@@ -176,7 +165,6 @@ fill-spec =
     returns-4
     kinds-requires
     first-run-requires
-    first-opens-requires
     run-on-requires
     clear-requires
     late-requires

@@ -7,6 +7,7 @@ use native.Mathlib.Omega.{arith}
 use lib.ListN.{length}
 use Rattle.reading.specs.Reading.{reading}
 use Rattle.reader.specs.Cite.{kindTable}
+use Rattle.reader.specs.Lent.{opensIn}
 use Rattle.reader.specs.Loop.{stands-covered}
 use Rattle.reader.specs.FillMade.{FilledTo, filled-begun, words-whole, words-fit, words-shallow, words-turn, words-less}
 use borrow.Author.Needs.{needs}
@@ -14,48 +15,28 @@ use Rattle.reader.proofs.fill_words.Statement.{statement}
 use Rattle.reader.proofs.fill_words.Tie as tie
 
 abbrev Inv-loop : tie.InvT-loop
-Inv-loop k n s v₀ t₀ run₀ opens₀ v t run opens =
-    (k ≡ kindTable) × ((3 ≤ n) × ((n ≤ 16) × ((reading n s .fault ≡ none) × ((length v ≡ length v₀) × ((length t ≡ length t₀) × FilledTo n s run opens t v)))))
+Inv-loop k n s v₀ t₀ o₀ run₀ depth₀ v t o run depth =
+    (k ≡ kindTable) × ((3 ≤ n) × ((n ≤ 16) × ((reading n s .fault ≡ none) × ((length v ≡ length v₀) × ((length t ≡ length t₀) × FilledTo n s run (opensIn o depth) t v)))))
 
 abbrev μ-loop : tie.MeasureT-loop
-μ-loop k n s v₀ t₀ run₀ opens₀ v t run opens = 2 ^ n - run .covered
+μ-loop k n s v₀ t₀ o₀ run₀ depth₀ v t o run depth = 2 ^ n - run .covered
 
 first-run-requires : tie.Need-first-run-requires Inv-loop μ-loop
 first-run-requires c κs = search needs
 
-first-opens-requires : tie.Need-first-opens-requires Inv-loop μ-loop
-first-opens-requires c κs = search needs
-
 loop-holds : tie.Need-loop-holds Inv-loop μ-loop
 loop-holds c =
-    let pre = c .before .before .before .before .pre in
-    let a = c .before .before .before .before .args in
-    let p = pre in (
-      p .0,
-      (
-        p .1 .0,
-        (
-          p .1 .1 .0,
-          (
-            p .1 .1 .1 .1 .0,
-            (
-              refl,
-              (
-                refl,
-                filled-begun (a .n) (a .s .now) (a .t .now) (a .v .now) (c .before .first-run .result) (c .first-opens .result) (p .1 .1 .1 .0) (p .1 .1 .1 .1 .1) (c .before .first-run .ensures) (c .first-opens .ensures),
-              ),
-            ),
-          ),
-        ),
-      ),
-    )
+    let pre = c .before .before .before .pre in
+    let a = c .before .before .before .args in
+    let p = pre in
+    (p .0, (p .1 .0, (p .1 .1 .0, (p .1 .1 .1 .1 .0, (refl, (refl, filled-begun (a .n) (a .s .now) (a .t .now) (a .v .now) (c .first-run .result) (p .1 .1 .1 .0) (p .1 .1 .1 .1 .1) (c .first-run .ensures)))))))
 
 run-on-requires : tie.Need-run-on-requires Inv-loop μ-loop
 run-on-requires c κs =
-    let l = c .before .loop in
     let a = c .before .before .before .before .before .before .args in
-    let i = l .inv in let few : a .n ≤ 32 = omega (arith, i .1 .1 .0) in
-    (i .0, (few, (i .1 .1 .1 .1 .1 .1 .stands .kept .deep, stands-covered (a .n) (a .s .now) few (l .run) (l .opens) (l .t) (i .1 .1 .1 .1 .1 .1 .stands))))
+    let i = c .before .before .loop .inv in let few : a .n ≤ 32 = omega (arith, i .1 .1 .0) in
+    let f = i .1 .1 .1 .1 .1 .1 in
+    (i .0, (few, (f .stands .kept .deep, stands-covered (a .n) (a .s .now) few (c .before .before .loop .run) (opensIn (c .before .before .loop .o) (c .before .before .loop .depth)) (c .before .before .loop .t) (f .stands))))
 
 same-length : tie.Need-same-length Inv-loop μ-loop
 same-length c = search needs
@@ -65,64 +46,68 @@ same-length-2 c = search needs
 
 returns : tie.Need-returns Inv-loop μ-loop
 returns c =
+    let l = c .before .before .before .before .before .loop in
     let a = c .before .before .before .before .before .before .before .before .before .args in
-    let l = c .before .before .before .before .loop in
-    let i = l .inv in let f = i .1 .1 .1 .1 .1 .1 in
-    (words-whole (a .n) (a .s .now) (l .run) (l .opens) (l .t) (l .v) f (omega (arith, i .1 .1 .0)) (c .before .before .run-on .result) _ (c .before .before .run-on .ensures) (c .if1 .taken) (i .1 .1 .1 .0), record { same = c .before .t .given ∙ i .1 .1 .1 .1 .1 .0 })
+    let i = l .inv in let f = i .1 .1 .1 .1 .1 .1 in (
+      words-whole (a .n) (a .s .now) (l .run) (opensIn (l .o) (l .depth)) (l .t) (l .v) f (omega (arith, i .1 .1 .0)) _ _ (c .before .before .run-on .ensures) (c .if1 .taken) (i .1 .1 .1 .0),
+      record { same = c .before .t .given ∙ i .1 .1 .1 .1 .1 .0 },
+    )
 
 cast-i : tie.Need-cast-i Inv-loop μ-loop
 cast-i c =
+    let l = c .before .before .before .before .before .before .loop in
     let a = c .before .before .before .before .before .before .before .before .before .before .args in
-    let l = c .before .before .before .before .before .loop in
-    let x0 = c .before .before .before .run-on in
-    let f = l .inv .1 .1 .1 .1 .1 .1 in omega (arith, words-shallow (a .n) (a .s .now) (l .run) (l .opens) (l .t) (l .v) f (omega (arith, l .inv .1 .1 .0)) (x0 .result) _ (x0 .ensures) (c .before .if1 .left))
+    let runon = c .before .before .before .run-on in
+    let f = l .inv .1 .1 .1 .1 .1 .1 in
+    omega (arith, words-shallow (a .n) (a .s .now) (l .run) (opensIn (l .o) (l .depth)) (l .t) (l .v) f (omega (arith, l .inv .1 .1 .0)) _ _ (runon .ensures) (c .before .if1 .left))
 
 add-i : tie.Need-add-i Inv-loop μ-loop
 add-i c =
+    let l = c .before .before .before .before .before .before .loop in
     let a = c .before .before .before .before .before .before .before .before .before .before .args in
-    let l = c .before .before .before .before .before .loop in
-    let x0 = c .before .before .before .run-on in
-    let f = l .inv .1 .1 .1 .1 .1 .1 in omega (arith, words-shallow (a .n) (a .s .now) (l .run) (l .opens) (l .t) (l .v) f (omega (arith, l .inv .1 .1 .0)) (x0 .result) _ (x0 .ensures) (c .before .if1 .left))
+    let runon = c .before .before .before .run-on in
+    let f = l .inv .1 .1 .1 .1 .1 .1 in
+    omega (arith, words-shallow (a .n) (a .s .now) (l .run) (opensIn (l .o) (l .depth)) (l .t) (l .v) f (omega (arith, l .inv .1 .1 .0)) _ _ (runon .ensures) (c .before .if1 .left))
 
 below-requires : tie.Need-below-requires Inv-loop μ-loop
 below-requires c κs =
+    let l = c .before .before .before .before .before .before .before .before .loop in
     let a = c .before .before .before .before .before .before .before .before .before .before .before .before .args in
-    let l = c .before .before .before .before .before .before .before .loop in
-    let x0 = c .before .before .before .before .before .run-on in
+    let runon = c .before .before .before .before .before .run-on in
     let if1 = c .before .before .before .if1 in
-    let f = l .inv .1 .1 .1 .1 .1 .1 in words-shallow (a .n) (a .s .now) (l .run) (l .opens) (l .t) (l .v) f (omega (arith, l .inv .1 .1 .0)) (x0 .result) _ (x0 .ensures) (if1 .left)
+    let f = l .inv .1 .1 .1 .1 .1 .1 in
+    words-shallow (a .n) (a .s .now) (l .run) (opensIn (l .o) (l .depth)) (l .t) (l .v) f (omega (arith, l .inv .1 .1 .0)) _ _ (runon .ensures) (if1 .left)
 
 edge-of-requires : tie.Need-edge-of-requires Inv-loop μ-loop
 edge-of-requires c κs = search needs
 
 fill-node-requires : tie.Need-fill-node-requires Inv-loop μ-loop
 fill-node-requires c κs =
-    let a = c .before .before .before .before .before .before .before .before .before .before .before .before .before .before .args in
-    let l = c .before .before .before .before .before .before .before .before .before .loop in
-    let x0 = c .before .before .before .before .before .before .before .run-on in
-    let if1 = c .before .before .before .before .before .if1 in
+    let l = c .before .before .before .before .before .before .before .before .before .before .before .loop in
+    let a = c .before .before .before .before .before .before .before .before .before .before .before .before .before .before .before .args in
+    let runon = c .before .before .before .before .before .before .before .before .run-on in
+    let if1 = c .before .before .before .before .before .before .if1 in
     let i = l .inv in let f = i .1 .1 .1 .1 .1 .1 in
-    words-fit (a .n) (a .s .now) (l .run) (l .opens) (l .t) (l .v) f (omega (arith, l .inv .1 .1 .0)) (x0 .result) _ (x0 .ensures) (if1 .left) (c .before .below .result) (i .1 .1 .0) (c .before .below .ensures)
+    words-fit (a .n) (a .s .now) (l .run) (opensIn (l .o) (l .depth)) (l .t) (l .v) f (omega (arith, i .1 .1 .0)) _ _ (runon .ensures) (if1 .left) (c .before .before .below .result) (i .1 .1 .0) (c .before .before .below .ensures)
 
 loop-less : tie.Need-loop-less Inv-loop μ-loop
 loop-less c =
-    let a = c .before .before .before .before .before .before .before .before .before .before .before .before .before .before .before .before .before .before .before .args in
     let l = c .before .before .before .before .before .before .before .before .before .before .before .before .before .before .loop in
-    let x0 = c .before .before .before .before .before .before .before .before .before .before .before .before .run-on in
-    let if1 = c .before .before .before .before .before .before .before .before .before .before .if1 in
-    let f = l .inv .1 .1 .1 .1 .1 .1 in words-less (a .n) (a .s .now) (l .run) (l .opens) (l .t) (l .v) f (omega (arith, l .inv .1 .1 .0)) (x0 .result) _ (x0 .ensures) (if1 .left)
+    let a = c .before .before .before .before .before .before .before .before .before .before .before .before .before .before .before .before .before .before .args in
+    let runon = c .before .before .before .before .before .before .before .before .before .before .before .run-on in
+    let if1 = c .before .before .before .before .before .before .before .before .before .if1 in
+    let f = l .inv .1 .1 .1 .1 .1 .1 in
+    words-less (a .n) (a .s .now) (l .run) (opensIn (l .o) (l .depth)) (l .t) (l .v) f (omega (arith, l .inv .1 .1 .0)) _ _ (runon .ensures) (if1 .left)
 
 loop-again : tie.Need-loop-again Inv-loop μ-loop
 loop-again c =
-    let a = c .before .before .before .before .before .before .before .before .before .before .before .before .before .before .before .before .before .before .before .args in
     let l = c .before .before .before .before .before .before .before .before .before .before .before .before .before .before .loop in
-    let x0 = c .before .before .before .before .before .before .before .before .before .before .before .before .run-on in
-    let t0 = c .before .before .before .before .before .before .before .before .before .before .before .t in
-    let if1 = c .before .before .before .before .before .before .before .before .before .before .if1 in
-    let below = c .before .before .before .before .before .before .below in
-    let edgeof = c .before .before .before .before .before .edge-of in
-    let fillnode = c .before .before .before .before .fill-node in
-    let t2 = c .before .before .before .t2 in
+    let t0 = c .before .before .before .before .before .before .before .before .before .before .t in
+    let a = c .before .before .before .before .before .before .before .before .before .before .before .before .before .before .before .before .before .before .args in
+    let runon = c .before .before .before .before .before .before .before .before .before .before .before .run-on in
+    let if1 = c .before .before .before .before .before .before .before .before .before .if1 in
+    let below = c .before .before .before .before .before .below in
+    let edgeof = c .before .before .before .edge-of in
     let i = l .inv in let f = i .1 .1 .1 .1 .1 .1 in (
       i .0,
       (
@@ -132,10 +117,10 @@ loop-again c =
           (
             i .1 .1 .1 .0,
             (
-              c .before .before .v .given ∙ i .1 .1 .1 .1 .0,
+              c .before .v .given ∙ i .1 .1 .1 .1 .0,
               (
-                t2 .given ∙ t0 .given ∙ i .1 .1 .1 .1 .1 .0,
-                words-turn (a .n) (a .s .now) (l .run) (l .opens) (l .t) (l .v) f (omega (arith, l .inv .1 .1 .0)) (x0 .result) _ (x0 .ensures) (if1 .left) (below .result) (edgeof .result) _ _ (i .1 .0) (below .ensures) (edgeof .ensures) (fillnode .ensures .0) (fillnode .ensures .1),
+                t0 .given ∙ i .1 .1 .1 .1 .1 .0,
+                words-turn (a .n) (a .s .now) (l .run) (opensIn (l .o) (l .depth)) (l .t) (l .v) f (omega (arith, i .1 .1 .0)) _ _ (runon .ensures) (if1 .left) (below .result) (edgeof .result) _ (i .1 .0) (below .ensures) (edgeof .ensures) (c .before .before .fill-node .ensures),
               ),
             ),
           ),
@@ -150,7 +135,6 @@ fill-words-spec =
     Inv-loop
     μ-loop
     first-run-requires
-    first-opens-requires
     loop-holds
     run-on-requires
     same-length

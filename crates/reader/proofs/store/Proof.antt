@@ -1,5 +1,5 @@
--- The six calls in turn are the steps of `storeAt`: `get` leaves the table as it is, `put` puts the record,
--- and `count` goes over the children of the old record and of the new one. Assumes nothing.
+-- The six calls in turn are the steps of `storeAt`: `get` reads the old record, `put` puts the new one, and `count` goes over the children of
+-- both. Assumes nothing.
 use Rattle.reader.specs.Table.{store-made}
 use borrow.Author.Needs.{needs}
 use Rattle.reader.proofs.store.Statement.{statement}
@@ -28,13 +28,14 @@ same-length c = search needs
 
 returns : tie.Need-returns
 returns c =
-    let p = c .before .before .before .before .before .before .before .before .before .before .before .before .before in
-    let a = p .before .before .before .before .before .args in
-    let old = p .before .before .before .get in
-    let less = c .before .before .before .before .before .before .before .before .before .before .count .ensures in
-    let less2 = c .before .before .before .before .before .before .before .count2 .ensures in
-    store-made (a .t .now) _ _ _ _ _ _ (a .z) (a .k) (a .x) (old .result) (old .ensures .0) (old .ensures .1)
-    (p .put .ensures) less less2 (c .before .before .before .before .count3 .ensures) (c .before .count4 .ensures)
+    let a = c .before .before .before .before .before .before .before .before .before .before .before .before .before .before .before .before .before .args in
+    let get = c .before .before .before .before .before .before .before .before .before .before .before .before .before .before .before .get in
+    let put = c .before .before .before .before .before .before .before .before .before .before .before .before .before .put in
+    let count = c .before .before .before .before .before .before .before .before .before .before .count in
+    let count2 = c .before .before .before .before .before .before .before .count2 in
+    let count3 = c .before .before .before .before .count3 in
+    store-made (a .t .now) _ _ _ _ _ (a .z) (a .k) (a .x) (get .result) (get .ensures)
+    (put .ensures) (count .ensures) (count2 .ensures) (count3 .ensures) (c .before .count4 .ensures)
 
 pub store-spec : {M : Type 1} → statement M
 store-spec =

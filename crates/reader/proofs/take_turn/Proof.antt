@@ -31,7 +31,7 @@ same-length : tie.Need-same-length
 same-length c = search needs
 
 returns-2 : tie.Need-returns-2
-returns-2 c = barred (sym (c .before .before .before .barred .ensures .0) ∙ c .before .if2 .taken) (c .halted2 .ensures) (c .before .before .before .barred .ensures .1)
+returns-2 c = barred (sym (c .before .before .barred .ensures) ∙ c .before .if2 .taken) (c .halted2 .ensures) refl
 
 look-at-requires : tie.Need-look-at-requires
 look-at-requires c κs = search needs
@@ -47,11 +47,11 @@ same-length-2 c = search needs
 
 returns-3 : tie.Need-returns-3
 returns-3 c =
-    let barred = c .before .before .before .before .before .before .before .barred in
-    let if2 = c .before .before .before .before .before .if2 in
     let lookat = c .before .before .before .look-at in
+    let barred = c .before .before .before .before .before .before .barred in
+    let if2 = c .before .before .before .before .before .if2 in
     let x = lookat .result in
-    fault (sym (barred .ensures .0) ∙ if2 .left) x (lookat .ensures) (x .cause) (x .byte) (sight-fault (x .number) (x .cause) (x .byte) (x .sight) (sym (c .before .before .is-fault .ensures) ∙ c .before .if3 .taken)) (c .halted3 .ensures) (barred .ensures .1)
+    fault (sym (barred .ensures) ∙ if2 .left) x (lookat .ensures) (x .cause) (x .byte) (sight-fault (x .number) (x .cause) (x .byte) (x .sight) (sym (c .before .before .is-fault .ensures) ∙ c .before .if3 .taken)) (c .halted3 .ensures) refl
 
 is-out-requires : tie.Need-is-out-requires
 is-out-requires c κs = search needs
@@ -64,13 +64,13 @@ same-length-3 c = search needs
 
 returns-4 : tie.Need-returns-4
 returns-4 c =
-    let barred = c .before .before .before .before .before .before .before .before .before .barred in
-    let if2 = c .before .before .before .before .before .before .before .if2 in
     let lookat = c .before .before .before .before .before .look-at in
+    let barred = c .before .before .before .before .before .before .before .before .barred in
+    let if2 = c .before .before .before .before .before .before .before .if2 in
     let isfault = c .before .before .before .before .is-fault in
     let if3 = c .before .before .before .if3 in
     let x = lookat .result in
-    out (sym (barred .ensures .0) ∙ if2 .left) x (lookat .ensures) (sight-out (x .number) (x .cause) (x .byte) (x .sight) (sym (isfault .ensures) ∙ if3 .left) (sym (c .before .before .is-out .ensures) ∙ c .before .if4 .taken)) (c .halted4 .ensures) (barred .ensures .1)
+    out (sym (barred .ensures) ∙ if2 .left) x (lookat .ensures) (sight-out (x .number) (x .cause) (x .byte) (x .sight) (sym (isfault .ensures) ∙ if3 .left) (sym (c .before .before .is-out .ensures) ∙ c .before .if4 .taken)) (c .halted4 .ensures) refl
 
 element-of-requires : tie.Need-element-of-requires
 element-of-requires c κs = search needs
@@ -79,63 +79,66 @@ get-requires : tie.Need-get-requires
 get-requires c κs = search needs
 
 cast-take-element : tie.Need-cast-take-element
-cast-take-element c = omega (arith, c .before .before .before .before .before .before .before .before .before .before .before .before .before .before .before .before .before .pre .1 .1 .1)
+cast-take-element c =
+    let pre = c .before .before .before .before .before .before .before .before .before .before .before .before .before .before .before .pre in
+    omega (arith, pre .1 .1 .1)
 
 digit-place-requires : tie.Need-digit-place-requires
 digit-place-requires c κs =
-    let good = c .before .before .before .before .before .before .before .before .before .before .before .before .before .before .before .before .before .good in
-    let if1 = c .before .before .before .before .before .before .before .before .before .before .before .before .before .before .before .if1 in
+    let if1 = c .before .before .before .before .before .before .before .before .before .before .before .before .before .if1 in
+    let good = c .before .before .before .before .before .before .before .before .before .before .before .before .before .before .before .good in
     omega (arith, if1 .left, good .1 .1 .0 .0)
 
 take-element-requires : tie.Need-take-element-requires
 take-element-requires c κs =
-    let pre = c .before .before .before .before .before .before .before .before .before .before .before .before .before .before .before .before .before .before .pre in
-    let good = c .before .before .before .before .before .before .before .before .before .before .before .before .before .before .before .before .before .before .good in
-    let if1 = c .before .before .before .before .before .before .before .before .before .before .before .before .before .before .before .before .if1 in
+    let pre = c .before .before .before .before .before .before .before .before .before .before .before .before .before .before .before .before .pre in
+    let if1 = c .before .before .before .before .before .before .before .before .before .before .before .before .before .before .if1 in
+    let good = c .before .before .before .before .before .before .before .before .before .before .before .before .before .before .before .before .good in
     (pre .1 .0, (pre .1 .1 .0, (pre .1 .1 .1, omega (arith, if1 .left, good .1 .1 .0 .0))))
 
 cast-lend : tie.Need-cast-lend
 cast-lend c =
-    let pre = c .before .before .before .before .before .before .before .before .before .before .before .before .before .before .before .before .before .before .before .before .pre in
+    let pre = c .before .before .before .before .before .before .before .before .before .before .before .before .before .before .before .before .before .before .pre in
     omega (arith, pre .1 .1 .1)
 
 lend-requires : tie.Need-lend-requires
-lend-requires c κs = c .before .before .before .before .before .before .before .before .before .before .before .before .before .before .before .before .before .before .before .before .pre .1 .1 .1
+lend-requires c κs =
+    let pre = c .before .before .before .before .before .before .before .before .before .before .before .before .before .before .before .before .before .before .pre in
+    pre .1 .1 .1
 
 went-on-requires : tie.Need-went-on-requires
 went-on-requires c κs = search needs
 
 same-length-4 : tie.Need-same-length-4
 same-length-4 c =
-    let a = c .before .before .before .before .before .before .before .before .before .before .before .before .before .before .before .before .before .before .before .before .before .before .before .args in
-    let barred = c .before .before .before .before .before .before .before .before .before .before .before .before .before .before .before .before .before .before .barred in
-    let lookat = c .before .before .before .before .before .before .before .before .before .before .before .before .before .before .look-at in
-    let get = c .before .before .before .before .before .before .before .get in
+    let a = c .before .before .before .before .before .before .before .before .before .before .before .before .before .before .before .before .before .before .before .before .before .args in
+    let lookat = c .before .before .before .before .before .before .before .before .before .before .before .before .before .look-at in
+    let get = c .before .before .before .before .before .before .get in
     let takeelement = c .before .before .before .before .take-element in
-    ap length (c .before .before .lend .ensures) ∙ length-lent (a .r) (a .d) (lookat .result .number) (get .result) (takeelement .result) _ ∙ ap length (get .ensures .1) ∙ ap length (barred .ensures .1)
+    ap length (c .before .before .lend .ensures) ∙ length-lent (a .r) (a .d) (lookat .result .number) (get .result) (takeelement .result) _
 
 returns-5 : tie.Need-returns-5
 returns-5 c =
-    let a = c .before .before .before .before .before .before .before .before .before .before .before .before .before .before .before .before .before .before .before .before .before .before .before .args in
-    let if1 = c .before .before .before .before .before .before .before .before .before .before .before .before .before .before .before .before .before .before .before .before .before .if1 in
-    let barred = c .before .before .before .before .before .before .before .before .before .before .before .before .before .before .before .before .before .before .barred in
-    let if2 = c .before .before .before .before .before .before .before .before .before .before .before .before .before .before .before .before .if2 in
-    let lookat = c .before .before .before .before .before .before .before .before .before .before .before .before .before .before .look-at in
-    let isfault = c .before .before .before .before .before .before .before .before .before .before .before .before .before .is-fault in
-    let if3 = c .before .before .before .before .before .before .before .before .before .before .before .before .if3 in
-    let isout = c .before .before .before .before .before .before .before .before .before .before .before .is-out in
-    let if4 = c .before .before .before .before .before .before .before .before .before .before .if4 in
-    let elementof = c .before .before .before .before .before .before .before .before .before .element-of in
-    let get = c .before .before .before .before .before .before .before .get in
+    let a = c .before .before .before .before .before .before .before .before .before .before .before .before .before .before .before .before .before .before .before .before .before .args in
+    let lookat = c .before .before .before .before .before .before .before .before .before .before .before .before .before .look-at in
+    let elementof = c .before .before .before .before .before .before .before .before .element-of in
     let digitplace = c .before .before .before .before .before .digit-place in
+    let get = c .before .before .before .before .before .before .get in
     let takeelement = c .before .before .before .before .take-element in
+    let isfault = c .before .before .before .before .before .before .before .before .before .before .before .before .is-fault in
+    let if3 = c .before .before .before .before .before .before .before .before .before .before .before .if3 in
+    let isout = c .before .before .before .before .before .before .before .before .before .before .is-out in
+    let if4 = c .before .before .before .before .before .before .before .before .before .if4 in
+    let if1 = c .before .before .before .before .before .before .before .before .before .before .before .before .before .before .before .before .before .before .before .if1 in
+    let barred = c .before .before .before .before .before .before .before .before .before .before .before .before .before .before .before .before .barred in
+    let if2 = c .before .before .before .before .before .before .before .before .before .before .before .before .before .before .before .if2 in
     let n = a .n in let s = a .s .now in let r = a .r in let d = a .d in let low = a .low in let t = a .t .now in
     let x = lookat .result in
     let e = elementof .result in
-    let taken = turn-taken n s r d low t _ _ x e (barred .ensures .1) (get .ensures .1) (digitplace .result) (digitplace .ensures) (get .result) (get .ensures .0) (takeelement .result) (takeelement .ensures) in
-    let lent = turn-lent n s r d low t _ _ x e (barred .ensures .1) (get .ensures .1) (digitplace .result) (digitplace .ensures) (get .result) (get .ensures .0) (takeelement .result) (takeelement .ensures) _ (c .before .before .lend .ensures) in
+    let taken = turn-taken n s r d low t x e (digitplace .result) (digitplace .ensures) (get .result) (get .ensures) (takeelement .result) (takeelement .ensures) in
+    let lent = turn-lent n s r d low t x e (digitplace .result) (digitplace .ensures) (get .result) (get .ensures) (takeelement .result) (takeelement .ensures) _ (c .before .before .lend .ensures) in
     let got = sight-got (x .number) (x .cause) (x .byte) (x .sight) (sym (isfault .ensures) ∙ if3 .left) (sym (isout .ensures) ∙ if4 .left) ∙ ap Got (sym (elementof .ensures)) in
-    took (omega (arith, if1 .left)) (sym (barred .ensures .0) ∙ if2 .left) x (lookat .ensures) e got (c .went-on .ensures ∙ ap (λ (y : Taken). wentBy y x) taken) lent
+    took (omega (arith, if1 .left)) (sym (barred .ensures) ∙ if2 .left) x (lookat .ensures) e got (c .went-on .ensures ∙ ap (λ (y : Taken). wentBy y x) taken) lent
 
 pub take-turn-spec : {M : Type 1} → statement M
 take-turn-spec =

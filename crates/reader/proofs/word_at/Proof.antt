@@ -19,32 +19,28 @@ add-i : tie.Need-add-i
 add-i c = omega (arith, c .before .pre .1 .0)
 
 below-requires : tie.Need-below-requires
-below-requires c κs = c .before .before .pre .1 .0
+below-requires c κs = c .before .pre .1 .0
 
 edge-of-requires : tie.Need-edge-of-requires
 edge-of-requires c κs = search needs
 
 sub-walk-down : tie.Need-sub-walk-down
-sub-walk-down c = c .before .before .before .before .before .pre .1 .1
+sub-walk-down c =
+    let pre = c .before .before .before .before .pre in
+    pre .1 .1
 
 walk-down-requires : tie.Need-walk-down-requires
 walk-down-requires c κs =
-    let pre = c .before .before .before .before .before .pre in
+    let pre = c .before .before .before .before .pre in
     (omega (arith, pre .0, c .before .before .below .ensures), omega (arith, pre .0, pre .1 .0, c .before .before .below .ensures))
-
-same-length : tie.Need-same-length
-same-length c = search needs
 
 returns : tie.Need-returns
 returns c =
-    let a = c .before .before .before .before .before .before .before .args in
-    let below = c .before .before .before .before .below in
-    let edgeof = c .before .before .before .edge-of in
-    let r = a .r in (
-      c .before .walk-down .ensures .0
-          ∙ ap₂ (λ (m : ℕ) (e : Edge). verdictOf (complemented (e .turned) (rowWalk (tableOf (a .t .now) (r .run .size)) (r .deep + 1) (e .number) (options m (a .w - r .from))))) (below .ensures) (edgeof .ensures),
-      c .before .walk-down .ensures .1,
-    )
+    let a = c .before .before .before .before .before .args in
+    let below = c .before .before .before .below in
+    let r = a .r in
+    c .walk-down .ensures
+    ∙ ap₂ (λ (m : ℕ) (e : Edge). verdictOf (complemented (e .turned) (rowWalk (tableOf (a .t .now) (r .run .size)) (r .deep + 1) (e .number) (options m (a .w - r .from))))) (below .ensures) (c .before .before .edge-of .ensures)
 
 pub word-at-spec : {M : Type 1} → statement M
 word-at-spec =
@@ -56,5 +52,4 @@ word-at-spec =
     edge-of-requires
     sub-walk-down
     walk-down-requires
-    same-length
     returns)

@@ -1,0 +1,60 @@
+-- AN INPUT AT THE ROOT: a stream that was loaded and whose table has its outermost node stands there at an edge, and its text is not read again.
+-- Assumes nothing.
+use mathlib.Core.Path.{_≡_, sym, ap, _∙_, subst⁻¹}
+use mathlib.Core.Bool.{true, false}
+use mathlib.Core.List.{List}
+use Prim.Native.Nat.{ℕ, _+_}
+use native.Mathlib.Omega.{arith}
+use Rattle.reading.specs.Deciding.{decided, options}
+use Rattle.writing.specs.Calls.{inputOf}
+use Rattle.engine.specs.Applying.{Source}
+use Rattle.engine.specs.ApplyLaws.{Shows, sourceWalk}
+use Rattle.engine.specs.Sitting.{Sits}
+use Rattle.engine.specs.Taping.{Feed, edgeOf}
+use Rattle.engine.specs.TapeLaws.{Fed}
+use Rattle.engine.specs.Seating.{Seated}
+use Rattle.reader.specs.TableLaws.{tableOf}
+use Rattle.reader.specs.Lent.{ReadBlock}
+use Rattle.reader.specs.Load.{LoadTo, load}
+use Rattle.reader.specs.LoadLaws.{load-decides, load-ordered, load-deep, load-covers}
+use Rattle.combining.specs.Tapes.{Tape, deepOf, sourceOf, nextTape}
+use Rattle.combining.specs.TapesRead.{Reads, input-covered, input-decides}
+
+-- the edge of the outermost node
+abbrev pub rootSource : LoadTo → Source
+rootSource x = record { table = tableOf (x .table) (x .size); number = x .number; turned = x .turned }
+
+-- the input s at it, with any block on its tape
+abbrev pub rootFeed : List ℕ → ReadBlock → LoadTo → Feed Tape
+rootFeed s b x = record { tape = record { stream = s; block = b; table = x .table }; inText = false; number = x .number; turned = x .turned }
+
+-- x: what the call of loading came to, which is whole
+module _ (n : ℕ) (s : List ℕ) (t : List (List ℕ)) (x : LoadTo) (called : x ≡ load n s t) (whole : x .whole ≡ true) where
+  -- THE EDGE SHOWS what the stream decides,
+  pub root-shows : Shows (rootSource x) n 1 (inputOf n s .decides)
+  root-shows w l =
+      sym (load-decides n s t x called whole w)
+      ∙ input-decides n s w (omega (arith, l, load-covers n s t x called whole))
+
+  -- and sits at the outermost level, in an ordered table.
+  pub root-sits : Sits 1 (rootSource x)
+  root-sits = record { ordered = load-ordered n s t x called whole; deep = load-deep n s t x called whole }
+
+  -- b: a block whose run has that size
+  module _ (b : ReadBlock) (size : b .cursor .run .size ≡ x .size) where
+    edge-same : edgeOf deepOf sourceOf (nextTape n) (rootFeed s b x) ≡ rootSource x
+    edge-same = ap (λ (z : ℕ). record { table = tableOf (x .table) z; number = x .number; turned = x .turned }) size
+
+    -- So the input is fed at the outermost node, however many words are asked for,
+    pub root-fed : (c : ℕ) → Fed deepOf sourceOf (nextTape n) n (Reads n c) 1 n 0 (rootFeed s b x) (inputOf n s)
+    root-fed c = (
+      λ w l.
+          let e : 0 + w ≡ w = omega arith in
+          subst⁻¹ (λ (y : Source). sourceWalk y 1 (options n w) ≡ decided (inputOf n s .decides (0 + w))) edge-same
+          (root-shows w l ∙ ap (λ (i : ℕ). decided (inputOf n s .decides i)) (sym e)),
+      omega (arith, load-covers n s t x called whole, input-covered n s),
+    )
+
+    -- and sits there.
+    pub root-seated : Seated deepOf sourceOf (nextTape n) 1 (rootFeed s b x)
+    root-seated = subst⁻¹ (Sits 1) edge-same root-sits

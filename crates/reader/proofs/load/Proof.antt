@@ -1,0 +1,75 @@
+-- The loop reads the stream to its end, and what is loaded is made of what it reaches (`load-made`).
+-- Assumes nothing.
+use native.Mathlib.Omega.{arith}
+use Rattle.reader.specs.Load.{load-options, load-table, load-made}
+use borrow.Author.Needs.{needs}
+use Rattle.reader.proofs.load.Statement.{statement}
+use Rattle.reader.proofs.load.Tie as tie
+
+not-loaded-requires : tie.Need-not-loaded-requires
+not-loaded-requires c κs = search needs
+
+returns : tie.Need-returns
+returns c =
+    let a = c .before .before .before .args in
+    load-options (a .n) (a .s .now) (a .t .now) _ (c .before .if1 .taken) (c .not-loaded .ensures (a .t .now))
+
+not-loaded-requires-2 : tie.Need-not-loaded-requires-2
+not-loaded-requires-2 c κs = search needs
+
+returns-2 : tie.Need-returns-2
+returns-2 c =
+    let a = c .before .before .before .before .args in
+    load-table (a .n) (a .s .now) (a .t .now) _ (omega (arith, c .before .before .if1 .left)) (c .before .if2 .taken) (c .not-loaded2 .ensures (a .t .now))
+
+kinds-requires : tie.Need-kinds-requires
+kinds-requires c κs = search needs
+
+first-run-requires : tie.Need-first-run-requires
+first-run-requires c κs = search needs
+
+run-on-requires : tie.Need-run-on-requires
+run-on-requires c κs =
+    let kinds = c .before .before .before .before .kinds in
+    let if1 = c .before .before .before .before .before .before .if1 in
+    (kinds .ensures, (omega (arith, if1 .left), (omega arith, omega arith)))
+
+is-whole-requires : tie.Need-is-whole-requires
+is-whole-requires c κs = search needs
+
+block-of-requires : tie.Need-block-of-requires
+block-of-requires c κs = search needs
+
+checked-at-requires : tie.Need-checked-at-requires
+checked-at-requires c κs = search needs
+
+same-length : tie.Need-same-length
+same-length c = search needs
+
+returns-3 : tie.Need-returns-3
+returns-3 c =
+    let a = c .before .before .before .before .before .before .before .before .before .before .before .before .before .before .before .args in
+    let if1 = c .before .before .before .before .before .before .before .before .before .before .before .before .before .if1 in
+    let if2 = c .before .before .before .before .before .before .before .before .before .before .before .before .if2 in
+    let firstrun = c .before .before .before .before .before .before .before .first-run in
+    let runon = c .before .before .before .before .before .before .run-on in
+    let iswhole = c .before .before .before .is-whole in
+    load-made (a .n) (a .s .now) (a .t .now) (omega (arith, if1 .left)) (omega (arith, if2 .left)) (firstrun .result) (firstrun .ensures) _ _ (runon .ensures)
+    _ (c .before .block-of .ensures) _ (c .checked-at .ensures) _ (iswhole .ensures)
+
+pub load-spec : {M : Type 1} → statement M
+load-spec =
+    tie.close
+    (tie.spec
+    not-loaded-requires
+    returns
+    not-loaded-requires-2
+    returns-2
+    kinds-requires
+    first-run-requires
+    run-on-requires
+    is-whole-requires
+    block-of-requires
+    checked-at-requires
+    same-length
+    returns-3)
