@@ -77,8 +77,7 @@ told-number x h v r i s l j t e f z g p q u w = (
 pub tells-past : (x : Told) (μ : List (List ℕ)) (p : ℕ) (k : Key) (i : ℕ) (t : List (List ℕ)) → x .known ≡ false → length μ ≤ p
     → tellsBy x (getD μ p []) k i t
 tells-past x μ p k i t e l =
-    let r = getD μ p [] in
-    (
+    let r = getD μ p [] in (
       e ∙ sym (ap (λ (r : List ℕ). holds r k && isYoung r t) (List·getD-eq-default μ [] l)),
       told-none x r i t e,
     )

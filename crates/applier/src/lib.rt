@@ -7,7 +7,7 @@ ghost use lib.ListN.{getD, set};
 ghost use Prim.Native.Nat.{ℕ, _+_, _-_, _<_, _≤_};
 ghost use Rattle.lists.specs.Lists.{bit};
 ghost use Rattle.writing.specs.Run.{digitAt, operate};
-ghost use Rattle.reader.specs.Table.{noRow, getIn};
+ghost use Rattle.reader.specs.Table.{getIn};
 ghost use Rattle.engine.specs.Applying.{firstSource, secondSource, fixed};
 ghost use Rattle.engine.specs.Memo.{slotOf};
 ghost use Rattle.engine.specs.Recalling.{recallIn};
@@ -27,6 +27,7 @@ use pending_text::push;
 use pending_text::push_turn;
 use pending_text::wait;
 use reader::Row;
+use reader::get as row_at;
 use unique_table::either;
 use unique_table::level_of;
 use unique_table::stamp_of;
@@ -46,46 +47,6 @@ pub fn operate(op: u32, a: bool, b: bool) -> bool
     ensures { λ r. ⌜ r ≡ operate op (a ∷ b ∷ []) ⌝ }
 {
     (op >> digit(a, b)) % 2 == 1
-}
-
-// ---- The records of a reading table, only read
-
-fn no_row() -> Row
-    ensures { λ x. ⌜ x ≡ noRow ⌝ }
-{
-    Row {
-        level: 0,
-        first: 0,
-        second: 0,
-        complement: false,
-        stamp: 0,
-        parents: 0,
-    }
-}
-
-// The record of the number k in a table of z numbers
-pub fn row_at(t: &[[u32; 6]], z: u32, k: u32) -> Row
-    ensures { λ x. ⌜ x ≡ getIn (now (t .entry)) z k ⌝ }
-{
-    if k == 0 {
-        return no_row();
-    }
-    if z < k {
-        return no_row();
-    }
-    let i = (k - 1) as usize;
-    if t.len() <= i {
-        return no_row();
-    }
-    let a = t[i];
-    Row {
-        level: a[0],
-        first: a[1],
-        second: a[2],
-        complement: a[3] != 0,
-        stamp: a[4],
-        parents: a[5],
-    }
 }
 
 // ---- Edges
@@ -348,8 +309,8 @@ fn note(c: &mut [[u32; 9]], p: usize, k: Key, pass: bool, r: Walked)
 fn is_alike(h: Half, pass: bool) -> bool
     ensures { λ r. ⌜ r ≡ (not (h .temporary) && pass) ⌝ }
 {
-    let temporary = h.temporary;
-    if temporary {
+    let text_only = h.temporary;
+    if text_only {
         return false;
     }
     pass

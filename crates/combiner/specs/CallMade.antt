@@ -1,32 +1,76 @@
--- The law of a call that is not refused: the streams read from their beginnings, the run, and the tables cleared after it.
--- Assumes nothing.
-use mathlib.Core.Path.{_≡_, refl, ap₂, _∙_}
-use mathlib.Core.Bool.{cond}
+-- The law of a call that is not refused: where the inputs enter, the run, and the tables cleared after it. Assumes nothing.
+use mathlib.Core.Path.{_≡_, refl, sym, ap, ap₂, _∙_}
+use mathlib.Core.Bool.{Bool, true, false, cond, not, _&&_}
 use mathlib.Core.List.{List, [], _∷_}
 use Prim.Native.Nat.{ℕ, _≤_, _^_}
 use lib.Dec.{eqb}
 use lib.ListN.{length, replicate, length-replicate}
-use Rattle.reading.specs.Causes.{Result, done}
-use Rattle.reading.specs.Calls.{Checked, check}
-use Rattle.writing.specs.Run.{operate, whole, inputEnded, outputFull, Answer}
+use Rattle.lists.specs.Lists.{differ}
+use Rattle.reading.specs.Causes.{done}
+use Rattle.writing.specs.Run.{whole, inputEnded, outputFull, Answer}
 use Rattle.writing.specs.Calls.{combine}
 use Rattle.engine.specs.Engine.{Sent}
-use Rattle.engine.specs.Taping.{Feed}
+use Rattle.engine.specs.Taping as T
 use Rattle.engine.specs.Memo.{slotOf, cacheRows}
-use Rattle.engine.specs.Merging.{mergeIn}
-use Rattle.combining.specs.Tapes.{Tape, deepOf, sourceOf, nextTape, begunFeed}
+use Rattle.reader.specs.Answers.{checkingOf}
+use Rattle.reader.specs.Lent.{ReadBlock, blockIn}
+use Rattle.reader.specs.Load.{LoadTo, loadIn, load}
+use Rattle.reader.specs.declared.Loaded.{Loaded}
+use Rattle.combining.specs.Tapes.{Tape, begunFeed}
+use Rattle.combining.specs.RootFeed.{rootFeed}
 use Rattle.combining.specs.CombineMade.{bothIn}
-use Rattle.combining.specs.Merged.{emptyRows, merge-made}
-use Rattle.text_walk.specs.Cite.{streamBy}
+use Rattle.combining.specs.Merged.{emptyRows}
+use Rattle.combining.specs.Entering.{ignoresFirst, ignoresSecond, blindFeed, entered, entered-made}
+use Rattle.text_walk.specs.Cite.{begunFrom, streamBy}
+use Rattle.text_walk.specs.FeedMade.{begun-zero}
 use Rattle.text_walk.specs.TextsMade.{stream-within}
 
--- past the tests and the checks; A and B: what the checks answered, u₁ and u₂: the tables after them
+-- ---- What the operator does not ask ----------------------------------------------------------
+
+-- p, q: what it gives for both decisions of an input, beside a first decision of the other; d: they differ
+pub asked : (P Q p q d z : Bool) → p ≡ P → q ≡ Q → d ≡ differ p q → d ≡ true → false ≡ (not (differ P Q) && z)
+asked P Q p q d z pe qe de e = sym (ap (λ (b : Bool). not b && z) (sym (ap₂ differ pe qe) ∙ sym de ∙ e))
+
+-- r, s: beside its other decision
+pub unasked : (P Q R S p q r s d e : Bool) → p ≡ P → q ≡ Q → r ≡ R → s ≡ S → d ≡ differ p q → e ≡ differ r s → d ≡ false
+    → not e ≡ (not (differ P Q) && not (differ R S))
+unasked P Q R S p q r s d e pe qe re se de ee f =
+    ap not (ee ∙ ap₂ differ re se)
+    ∙ sym (ap (λ (b : Bool). not b && not (differ R S)) (sym (ap₂ differ pe qe) ∙ sym de ∙ f))
+
+-- ---- Where an input enters -------------------------------------------------------------------
+
+module _ (v : Bool) (s : List ℕ) (b : ReadBlock) (x : LoadTo) (begun : T.Feed Tape) where
+  pub enter-text : (φ : T.Feed Tape) → x .whole ≡ false → φ ≡ begun → φ ≡ entered v s b x begun
+  enter-text φ e h = h ∙ sym (ap (λ (u : Bool). cond u (cond v (blindFeed s b x) (rootFeed s b x)) begun) e)
+
+  pub enter-blind : x .whole ≡ true → v ≡ true → blindFeed s b x ≡ entered v s b x begun
+  enter-blind e h = sym (ap₂ (λ (u v : Bool). cond u (cond v (blindFeed s b x) (rootFeed s b x)) begun) e h)
+
+  pub enter-root : x .whole ≡ true → v ≡ false → rootFeed s b x ≡ entered v s b x begun
+  enter-root e h = sym (ap₂ (λ (u v : Bool). cond u (cond v (blindFeed s b x) (rootFeed s b x)) begun) e h)
+
+-- ---- The call --------------------------------------------------------------------------------
+
+-- cells for the open nodes, all zero
+abbrev pub noOpens : List (List ℕ)
+noOpens = replicate 32 (replicate 4 0)
+
+-- an input as code has it enters; l: what loading came to, u: the table then, v: as code tests whether it is asked
+enters : (n : ℕ) (s : List ℕ) (l : Loaded) (u : List (List ℕ)) (v w : Bool) → v ≡ w → (φ : T.Feed Tape)
+    → φ ≡ entered v s (blockIn (l .block) noOpens) (loadIn l u) (begunFrom n s noOpens u)
+    → φ ≡ entered w s (blockIn (l .block) noOpens) (loadIn l u) (begunFeed n s u)
+enters n s l u v w e φ h =
+    h ∙ ap₂ (λ (v : Bool) (f : T.Feed Tape). entered v s (blockIn (l .block) noOpens) (loadIn l u) f) e (begun-zero n s u)
+
+-- past the tests; a and b: what loading came to, u₁ and u₂: the tables then
 module _ (n op size : ℕ) (x y out : List ℕ) (t₁ t₂ t : List (List ℕ)) (few : n ≤ 32) (code : op ≤ 15) (fits : size ≤ 1024)
-    (room₁ : 1024 ≤ length t₁) (room₂ : 1024 ≤ length t₂) (room : 1024 ≤ length t) (A B : Result Checked) (u₁ u₂ : List (List ℕ))
-    (h₁ : record { answer = A; table = u₁ } ≡ check (replicate 6 0) n x t₁)
-    (h₂ : record { answer = B; table = u₂ } ≡ check (replicate 6 0) n y t₂) where
-  -- φ, ψ: the inputs at their first blocks; s: what the run sends, r: its answer
-  pub ran : (c : ℕ) → done c ≡ bothIn A B → (φ ψ : Feed Tape) → φ ≡ begunFeed n x u₁ → ψ ≡ begunFeed n y u₂ → (t₀ : List (List ℕ))
+    (room₁ : 1024 ≤ length t₁) (room₂ : 1024 ≤ length t₂) (room : 1024 ≤ length t) (a b : Loaded) (u₁ u₂ : List (List ℕ))
+    (h₁ : loadIn a u₁ ≡ load n x t₁) (h₂ : loadIn b u₂ ≡ load n y t₂) where
+  -- i₁, i₂: as code tests what the operator does not ask; φ, ψ: the inputs where they enter; s: what the run sends, r: its answer
+  pub ran : (c : ℕ) → done c ≡ bothIn (checkingOf (a .checking)) (checkingOf (b .checking)) → (i₁ i₂ : Bool) → i₁ ≡ ignoresFirst op
+      → i₂ ≡ ignoresSecond op → (φ ψ : T.Feed Tape) → φ ≡ entered i₁ x (blockIn (a .block) noOpens) (loadIn a u₁) (begunFrom n x noOpens u₁)
+      → ψ ≡ entered i₂ y (blockIn (b .block) noOpens) (loadIn b u₂) (begunFrom n y noOpens u₂) → (t₀ : List (List ℕ))
       → t₀ ≡ replicate (length t) (replicate 12 0) → (s : Sent)
       → s ≡ streamBy (record { n = n; op = op; size = size; covered = c }) (φ ∷ ψ ∷ []) (emptyRows cacheRows 9) t₀ out (replicate 2400 0)
       → (r : Answer)
@@ -35,10 +79,9 @@ module _ (n op size : ℕ) (x y out : List ℕ) (t₁ t₂ t : List (List ℕ)) 
       → v ≡ replicate (length t) (replicate 12 0)
       → record { answer = done r; first = v₁; second = v₂; third = v; output = s .output }
       ≡ combine (replicate 6 0) (replicate 12 0) n op size x y out t₁ t₂ t
-  ran c clean φ ψ φe ψe t₀ zero s sent r =
+  ran c clean i₁ i₂ ie₁ ie₂ φ ψ φe ψe t₀ zero s sent =
       let w : List ℕ = replicate 2400 0 in
-      merge-made n op size x y out t₁ t₂ t few code fits room₁ room₂ room A B u₁ u₂ h₁ h₂ slotOf cacheRows 9 c clean w
-      (length-replicate {A = ℕ} 2400 0) (emptyRows cacheRows 9) t₀ refl zero s
-      (sent ∙ stream-within (record { n = n; op = op; size = size; covered = c }) (φ ∷ ψ ∷ []) (emptyRows cacheRows 9) t₀ out w few
-      ∙ ap₂ (λ (φ ψ : Feed Tape). mergeIn deepOf sourceOf (nextTape n) slotOf (operate op) n c size (φ ∷ ψ ∷ []) (emptyRows cacheRows 9)
-      t₀ out w) φe ψe) r
+      entered-made n op size x y out t₁ t₂ t few code fits room₁ room₂ room (loadIn a u₁) (loadIn b u₂) h₁ h₂ slotOf cacheRows 9 c clean w
+      (length-replicate {A = ℕ} 2400 0) (blockIn (a .block) noOpens) (blockIn (b .block) noOpens) refl refl φ ψ
+      (enters n x a u₁ i₁ (ignoresFirst op) ie₁ φ φe) (enters n y b u₂ i₂ (ignoresSecond op) ie₂ ψ ψe) (emptyRows cacheRows 9) t₀ refl zero s
+      (sent ∙ stream-within (record { n = n; op = op; size = size; covered = c }) (φ ∷ ψ ∷ []) (emptyRows cacheRows 9) t₀ out w few)

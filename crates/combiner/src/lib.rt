@@ -10,17 +10,26 @@ ghost use Rattle.reader.specs.Answers.{refusalOf, checkingOf};
 ghost use Rattle.writing.specs.Run.{whole, inputEnded, outputFull};
 ghost use Rattle.writing.specs.Calls.{combine};
 ghost use Rattle.combining.specs.CombineMade.{afterFirst, bothIn};
+ghost use Rattle.combining.specs.Entering.{ignoresFirst, ignoresSecond, entered};
+ghost use Rattle.reader.specs.Lent.{blockIn};
+ghost use Rattle.reader.specs.Load.{loadIn};
+ghost use Rattle.text_walk.specs.Cite.{feedOf, begunFrom};
 ghost use Rattle.meeting.specs.Cite.{writtenOf, writingOf};
 ghost use Rattle.combiner.specs.Cite.{bothOf};
+use applier::operate;
 use meeting::Writing;
 use meeting::Written;
+use meeting::differs;
 use meeting::early;
 use meeting::ending_of;
 use pending_text::Sent;
 use reader::Cause;
 use reader::Checking;
+use reader::Loaded;
 use reader::Refusal;
-use reader::check;
+use reader::load;
+use text_walk::Begun;
+use text_walk::Feed;
 use text_walk::Task;
 use text_walk::begin;
 use text_walk::stream;
@@ -102,10 +111,63 @@ fn both_checked(a: Checking, b: Checking) -> Both
     }
 }
 
+fn both_loaded(a: Loaded, b: Loaded) -> Both
+    ensures { λ r. ⌜ bothOf r ≡ bothIn (checkingOf (a .checking)) (checkingOf (b .checking)) ⌝ }
+{
+    let p = a.checking;
+    let q = b.checking;
+    both_checked(p, q)
+}
+
 fn refusal_of(r: Both) -> Refusal
     ensures { λ x. ⌜ x ≡ r .refusal ⌝ }
 {
     r.refusal
+}
+
+// The operator gives the same for both decisions of the first input, or of the second.
+fn ignores_first(op: u32) -> bool
+    ensures { λ r. ⌜ r ≡ ignoresFirst op ⌝ }
+{
+    if differs(operate(op, false, false), operate(op, true, false)) {
+        return false;
+    }
+    !differs(operate(op, false, true), operate(op, true, true))
+}
+
+fn ignores_second(op: u32) -> bool
+    ensures { λ r. ⌜ r ≡ ignoresSecond op ⌝ }
+{
+    if differs(operate(op, false, false), operate(op, false, true)) {
+        return false;
+    }
+    !differs(operate(op, true, false), operate(op, true, true))
+}
+
+// Where an input enters the run: at its outermost node, if its table has that, or at the terminal there, if it is not asked (v); else at the first
+// block of its text.
+fn enter(n: u32, s: &[u8], t: &mut [[u32; 6]], o: &mut [[u32; 4]; 32], l: Loaded, v: bool) -> Begun
+    ensures { λ r. ⌜ feedOf (r .feed) (r .block) (now (o .exit)) (now (s .entry)) (now (t .exit)) ≡ entered v (now (s .entry)) (blockIn (l .block) (now (o .entry))) (loadIn l (now (t .entry))) (begunFrom n (now (s .entry)) (now (o .entry)) (now (t .entry))) ⌝ }
+{
+    let whole = l.whole;
+    if !whole {
+        return begin(n, s, t, o);
+    }
+    let b = l.block;
+    if v {
+        let f = Feed {
+            inside: false,
+            number: 0,
+            turned: false,
+        };
+        return Begun { feed: f, block: b };
+    }
+    let f = Feed {
+        inside: false,
+        number: b.number,
+        turned: b.turned,
+    };
+    Begun { feed: f, block: b }
 }
 
 // Every record of a table for reading becomes zero.
@@ -151,12 +213,14 @@ pub fn combine(
     if t.len() < 1024 {
         return Writing::Refused(early(Cause::WorkTable));
     }
-    let a = check(n, x, t1);
-    let b = check(n, y, t2);
+    let a = load(n, x, t1);
+    let b = load(n, y, t2);
     clear(t);
-    let z = both_checked(a, b);
+    let z = both_loaded(a, b);
     let refused = z.faulty;
     if refused {
+        clear_rows(t1);
+        clear_rows(t2);
         return Writing::Refused(refusal_of(z));
     }
     let c = z.covered;
@@ -166,11 +230,29 @@ pub fn combine(
         size: size,
         covered: c,
     };
-    let f = begin(n, x, t1);
-    let g = begin(n, y, t2);
+    let mut o1 = [[0u32; 4]; 32];
+    let mut o2 = [[0u32; 4]; 32];
+    let f = enter(n, x, t1, &mut o1, a, ignores_first(op));
+    let g = enter(n, y, t2, &mut o2, b, ignores_second(op));
     let mut w = [0u8; 2400];
     let mut m = [[0u32; 9]; 2048];
-    let r = stream(k, x, y, f.feed, g.feed, f.block, g.block, t1, t2, t, out, &mut w, &mut m);
+    let r = stream(
+        k,
+        x,
+        y,
+        f.feed,
+        g.feed,
+        f.block,
+        g.block,
+        &mut o1,
+        &mut o2,
+        t1,
+        t2,
+        t,
+        out,
+        &mut w,
+        &mut m,
+    );
     clear_rows(t1);
     clear_rows(t2);
     clear(t);

@@ -1,31 +1,18 @@
--- The walk over stored nodes leads, part by part, to what the walk of Online knows of the words that the inputs' decisions make;
--- and one law for each way through code that walks so. Assumes nothing.
-use mathlib.Core.Path.{_≡_, refl, sym, ap, ap₂, _∙_, subst, subst⁻¹}
+-- What inputs at edges of their tables show at a block and at its halves, and what an operator makes of it. Assumes nothing.
+use mathlib.Core.Path.{_≡_, refl, sym, ap, ap₂, _∙_, subst}
 use mathlib.Core.Bool.{Bool, true, false, cond, not, _&&_, _||_, true≢false}
 use mathlib.Core.Logic.{_⊎_, inl, inr, ⊎-elim}
-use mathlib.Core.List.{List, [], _∷_, _++_}
-use Prim.Native.Nat.{ℕ, zero, suc, _+_, _-_, _*_, _≤_, _<_, _^_}
+use mathlib.Core.List.{List, [], _∷_}
+use Prim.Native.Nat.{ℕ, zero, suc, _+_, _-_, _<_, _^_}
 use native.Mathlib.Omega.{arith}
 use lib.Dec.{eqb, ltb}
-use lib.ListN.{length, take}
-use borrow.Author.Tests.{eqb-true, eqb-false, ltb-true, ltb-false, not-true}
+use borrow.Author.Tests.{eqb-true, eqb-false, ltb-true, ltb-false}
 use Rattle.lists.specs.Lists.{differ, and-l, and-r, or-l, or-r, pow-pos}
-use Rattle.reading.specs.Bytes.{opener}
-use Rattle.reading.specs.Nodes.{node, stamp}
-use Rattle.reading.specs.Limits.{tableLimit}
+use Rattle.reading.specs.Nodes.{node}
 use Rattle.reading.specs.Deciding.{options, Decision, undecided, decided, complemented}
 use Rattle.reading.specs.Words.{options-low, options-high, complemented-twice}
 use Rattle.reading.specs.TableWalk.{rowWalk, rowWalk-zero, rowWalk-skip, rowWalk-go}
-use Rattle.writing.specs.UniqueTable.{State}
-use Rattle.writing.specs.Texts.{tildeIf}
-use Rattle.writing.specs.ConstantPart.{part-complement}
-use Rattle.writing.specs.Online.{Went, waiting, online, online-went}
-use Rattle.engine.specs.Pending.{Waiting, pushAll, waitIn}
-use Rattle.engine.specs.Engine.{Half, Pen, Walked, constantHalf, numberHalf, kept, secondIn}
-use Rattle.engine.specs.Leading.{Stands, Leads}
-use Rattle.engine.specs.Again.{repeat-leads}
-use Rattle.engine.specs.Walking.{online-stamp, Ready, partIn, push-ready, second-ready, halves-lead, constant-leads, block-leads}
-use Rattle.engine.specs.Applying.{Source, passes, firstSource, secondSource, firstSources, secondSources, turns, allPass, againPart, fixed, applyIn}
+use Rattle.engine.specs.Applying.{Source, passes, firstSource, secondSource, firstSources, secondSources, turns, allPass, fixed}
 
 -- ---- What an input shows ---------------------------------------------------------------------
 
@@ -128,7 +115,7 @@ shows-second x m i g h w l =
     ∙ ap (sourceWalk x i) (sym (options-high m (2 ^ m + w) (omega arith))) ∙ h (2 ^ m + w) (omega (arith, l))
 
 -- with no option left it is at the constant
-pub shows-none : (x : Source) (i : ℕ) (g : ℕ → Bool) → Shows x 0 i g → x .number ≡ 0
+shows-none : (x : Source) (i : ℕ) (g : ℕ → Bool) → Shows x 0 i g → x .number ≡ 0
 unfolding rowWalk options
 shows-none x i g h = go (eqb (x .number) 0) refl (h 0 (omega arith))
   where
@@ -138,7 +125,7 @@ shows-none x i g h = go (eqb (x .number) 0) refl (h 0 (omega arith))
     go false z e = cc
 
 -- at the constant it shows the same at each word
-pub shows-constant : (x : Source) (m i : ℕ) (g : ℕ → Bool) → x .number ≡ 0 → Shows x m i g → (w : ℕ) → w < 2 ^ m → g w ≡ x .turned
+shows-constant : (x : Source) (m i : ℕ) (g : ℕ → Bool) → x .number ≡ 0 → Shows x m i g → (w : ℕ) → w < 2 ^ m → g w ≡ x .turned
 shows-constant x m i g z h w l = decided-same (g w) (x .turned) (sym (h w l) ∙ constant-walk x i (options m w) z)
 
 -- at the first word it shows whether it is turned about
@@ -187,7 +174,7 @@ all-second (x ∷ xs) m i [] h = h
 all-second (x ∷ xs) m i (g ∷ gs) h = (shows-second x m i g (h .0), all-second xs m i gs (h .1))
 
 -- at the first word
-pub all-start : (xs : List Source) (m i : ℕ) (gs : List (ℕ → Bool)) → ShowsAll xs m i gs → decisionsAt gs 0 ≡ turns xs
+all-start : (xs : List Source) (m i : ℕ) (gs : List (ℕ → Bool)) → ShowsAll xs m i gs → decisionsAt gs 0 ≡ turns xs
 all-start [] m i [] h = refl
 all-start [] m i (g ∷ gs) h = absurd h
 all-start (x ∷ xs) m i [] h = absurd h
@@ -302,7 +289,7 @@ all-fixed op (x ∷ xs) m i (g ∷ gs) e h w l =
         ∙ again (not (x .turned)) (and-l u v r)
         ∙ sym (same-both (op (x .turned ∷ turns xs)) (op (not (x .turned) ∷ turns xs)) (and-r u v r))
 
--- ---- The walk over stored nodes --------------------------------------------------------------
+-- ---- What an operator makes of them ----------------------------------------------------------
 
 -- the words from `at` on, of d options, are what op makes of the decisions
 abbrev pub Makes : (List Bool → Bool) → ℕ → ℕ → List (ℕ → Bool) → (ℕ → Bool) → Type 0
@@ -320,296 +307,3 @@ pub second-made : (op : List Bool → Bool) (d at : ℕ) (gs : List (ℕ → Boo
 second-made op d at gs f mk w l =
     let z : at + 2 ^ d + w ≡ at + (2 ^ d + w) = omega arith in
     ap f z ∙ mk (2 ^ d + w) (omega (arith, l)) ∙ ap op (from-at (2 ^ d) gs w)
-
--- with d options left, the walk over the part of level i leads to what the walk of Online knows
-abbrev Applies : (List Bool → Bool) → ℕ → ℕ → ℕ → ℕ → List ℕ → Type 0
-Applies op n size d i o =
-    (at m : ℕ) (T p w : List ℕ) (xs : List Source) (gs : List (ℕ → Bool)) (f : ℕ → Bool) (t : List (List ℕ)) (out : List ℕ)
-    (pen : Pen) (s : State) → Stands n size o T t out pen s → take m w ≡ p → m + 70 * d + 144 ≤ length w
-    → ((k : ℕ) → stamp (s .table) k + 2 ^ d ≤ 4294967296) → ShowsAll xs d i gs → Makes op d at gs f
-    → Leads n size i m o T p w (applyIn op size d i m xs t out w pen) (online size d i at p f s)
-
--- from the halves to the part
-apply-step : (op : List Bool → Bool) (n size d i : ℕ) (o : List ℕ) → 0 < i → i + suc d ≡ suc n → n ≤ 32 → size ≤ tableLimit
-    → Applies op n size d (suc i) o → Applies op n size (suc d) i o
-unfolding applyIn
-apply-step op n size d i o real deep small few half at m T p w xs gs f t out pen s st here room young sh mk =
-    go (fixed op xs) refl
-  where
-    next : i + 1 ≡ suc i
-    next = omega arith
-
-    -- the inputs at the halves
-    ys : List Source
-    ys = firstSources i xs
-
-    zs : List Source
-    zs = secondSources i xs
-
-    -- what they show there
-    shown₁ : ShowsAll ys d (i + 1) gs
-    shown₁ = all-first xs d i gs sh
-
-    shown₂ : ShowsAll zs d (i + 1) (decisionsFrom (2 ^ d) gs)
-    shown₂ = all-second xs d i gs sh
-
-    -- the first half, in the engine and in the walk
-    opened : Waiting
-    opened = pushAll w m (opener ∷ [])
-
-    ready : Ready w (m + 1) (p ++ (opener ∷ [])) opened
-    ready = push-ready m w p (opener ∷ []) here (omega (arith, room))
-
-    a : Walked
-    a = applyIn op size d (i + 1) (opened .count) ys t out (opened .bytes) pen
-
-    x : Went
-    x = online size d (suc i) at (p ++ (opener ∷ [])) f s
-
-    first : Leads n size (suc i) (opened .count) o T (p ++ (opener ∷ [])) (opened .bytes) a x
-    first =
-        subst⁻¹ (λ (j : ℕ). ShowsAll ys d j gs → Leads n size (suc i) (opened .count) o T (p ++ (opener ∷ [])) (opened .bytes)
-        (applyIn op size d j (opened .count) ys t out (opened .bytes) pen) x) next
-        (λ h. half at (opened .count) T (p ++ (opener ∷ [])) (opened .bytes) ys gs f t out pen s st (ready .text)
-        (omega (arith, ready .count, ready .room, room)) (λ k. omega (arith, young k)) h (λ w l. mk w (omega (arith, l)))) shown₁
-
-    -- the edge between the halves
-    turned : Bool
-    turned = differ (a .half .complement) (op (turns zs))
-
-    turn : Bool
-    turn = differ (x .complement) (f (at + 2 ^ d))
-
-    -- the second half, likewise
-    mid : Bool → Waiting
-    mid u = partIn (opened .count) (tildeIf u) a
-
-    b : Bool → ℕ → Walked
-    b u j = applyIn op size d j (mid u .count) zs (a .table) (a .output) (mid u .bytes) (a .pen)
-
-    p₂ : List ℕ
-    p₂ = waiting (p ++ (opener ∷ [])) (suc i) x ++ tildeIf turn
-
-    y : Went
-    y = online size d (suc i) (at + 2 ^ d) p₂ f (x .state)
-
-    Second : Bool → Walked → Type 0
-    Second u r = Leads n size (suc i) (mid u .count) o (T ++ x .sent) p₂ (mid u .bytes) r y
-
-    long : m + 214 ≤ length w
-    long = omega (arith, room)
-
-    -- what waits before it
-    before : a .pen .full ≡ false → Ready w (m + 70) p₂ (mid turn)
-    before g = second-ready n size d i at m o T p w f s (st .sound) (st .normal) real deep small here long a first g
-
-    -- its words
-    made₂ : Makes op d (at + 2 ^ d) (decisionsFrom (2 ^ d) gs) f
-    made₂ = second-made op d at gs f mk
-
-    -- what it leads to
-    walked : a .pen .full ≡ false → Second turn (b turn (i + 1))
-    walked g =
-        let r = before g in
-        subst⁻¹ (λ (j : ℕ). ShowsAll zs d j (decisionsFrom (2 ^ d) gs) → Second turn (b turn j)) next
-        (λ h. half (at + 2 ^ d) (mid turn .count) (T ++ x .sent) p₂ (mid turn .bytes) zs (decisionsFrom (2 ^ d) gs) f (a .table)
-        (a .output) (a .pen) (x .state) (first .after g .stands) (r .text) (omega (arith, r .count, r .room, room))
-        (λ k. omega (
-          arith,
-          young k,
-          online-stamp n size d (suc i) at (p ++ (opener ∷ [])) f s (st .sound) (st .normal) (omega arith)
-              (omega (arith, deep)) k,
-        )) h made₂) shown₂
-
-    same : a .pen .full ≡ false → turned ≡ turn
-    same g =
-        ap₂ differ (first .after g .came .complement)
-        (sym (first-made op d (i + 1) (at + 2 ^ d) zs (decisionsFrom (2 ^ d) gs) f shown₂ made₂))
-
-    -- the first half's number again
-    rep : Bool → Walked
-    rep u =
-        kept (numberHalf (a .half .number) (a .half .stamp) (a .half .skipped) (op (turns zs)) false) (a .table) (a .output)
-        (mid u .bytes) (a .pen)
-
-    -- what the second half begins with, and what the first does
-    begins₂ : f (at + 2 ^ d) ≡ op (turns zs)
-    begins₂ = first-made op d (i + 1) (at + 2 ^ d) zs (decisionsFrom (2 ^ d) gs) f shown₂ made₂
-
-    begins₁ : x .complement ≡ f at
-    begins₁ =
-        ap (λ (y : Went). y .complement) (online-went n size d (suc i) at (p ++ (opener ∷ [])) f s (st .sound) (st .normal)
-        (omega arith) (omega (arith, deep))) ∙ part-complement size d (suc i) at f s
-
-    -- if it repeats the first
-    repeated : a .pen .full ≡ false → againPart i xs (a .half) ≡ true → Second turn (rep turn)
-    repeated g e =
-        let some = not (eqb (a .half .number) 0) in
-        let alike = pass-alike op d i at xs gs f (and-r some (allPass i xs) e) sh mk in
-        let z : at + 2 ^ d + 0 ≡ at + 2 ^ d = omega arith in
-        let v : at + 0 ≡ at = omega arith in
-        let plain : turn ≡ false =
-        ap₂ differ begins₁ (ap f (sym z) ∙ alike 0 (pow-pos d) ∙ ap f v) ∙ differ-same (f at) in
-        subst (λ (c : Bool). Second turn (kept (numberHalf (a .half .number) (a .half .stamp) (a .half .skipped) c false) (a .table)
-        (a .output) (mid turn .bytes) (a .pen))) begins₂
-        (repeat-leads n size d (suc i) at (at + 2 ^ d) (mid turn .count) o (T ++ x .sent) (p ++ (opener ∷ [])) p₂ (mid turn .bytes) f
-        (a .table) (a .output) (a .pen) s (a .half) (st .sound) (st .normal) (omega arith) (omega (arith, deep))
-        (first .after g .came) (eqb-false (a .half .number) 0 (not-true (eqb (a .half .number) 0) (and-l some (allPass i xs) e)))
-        (subst⁻¹ (λ (u : Bool). (j : ℕ) → j < 2 ^ d → f (at + 2 ^ d + j) ≡ differ u (f (at + j))) plain alike)
-        (first .after g .stands) (before g .text))
-
-    -- by either way
-    second : (again : Bool) → againPart i xs (a .half) ≡ again → a .pen .full ≡ false
-        → Second turned (cond again (rep turned) (b turned (i + 1)))
-    second true e g = subst⁻¹ (λ (u : Bool). Second u (rep u)) (same g) (repeated g e)
-    second false e g = subst⁻¹ (λ (u : Bool). Second u (b u (i + 1))) (same g) (walked g)
-
-    -- the second half
-    latter : Walked
-    latter = cond (againPart i xs (a .half)) (rep turned) (b turned (i + 1))
-
-    go : (c : Bool) → fixed op xs ≡ c
-        → Leads n size i m o T p w (cond c (kept (constantHalf (op (turns xs))) t out w pen)
-        (cond (a .pen .full) a (secondIn size i (mid turned .count) turned (a .half) latter)))
-        (online size (suc d) i at p f s)
-    go true e =
-        block-leads n size (suc d) i at m o T p w f t out pen s (op (turns xs)) real deep st here
-        (λ j l k.
-        let z : at + (j - at) ≡ j = omega (arith, l) in
-        let h : j - at < 2 ^ suc d = omega (arith, l, k) in
-        ap f (sym z) ∙ mk (j - at) h ∙ all-fixed op xs (suc d) i gs e sh (j - at) h)
-    go false e =
-        halves-lead n size d i at m o T p w f s (st .sound) (st .normal) real deep small here long few young a latter turned first
-        same (second (againPart i xs (a .half)) refl)
-
--- each part
-applies : (op : List Bool → Bool) (n size d i : ℕ) (o : List ℕ) → 0 < i → i + d ≡ suc n → n ≤ 32 → size ≤ tableLimit
-    → Applies op n size d i o
-unfolding applyIn online
-applies op n size zero i o real deep small few = λ at m T p w xs gs f t out pen s st here room young sh mk.
-    subst (λ (c : Bool). Leads n size i m o T p w (kept (constantHalf c) t out w pen) (online size 0 i at p f s))
-    (first-made op 0 i at xs gs f sh mk) (constant-leads n size i m o T p w t out pen s (f at) st here)
-applies op n size (suc d) i o real deep small few =
-    apply-step op n size d i o real deep small few (applies op n size d (suc i) o (omega arith) (omega arith) small few)
-
--- the walk over stored nodes leads to what the walk of Online knows
-pub apply-leads : (op : List Bool → Bool) (n size d i at m : ℕ) (o T p w : List ℕ) (xs : List Source) (gs : List (ℕ → Bool))
-    (f : ℕ → Bool) (t : List (List ℕ)) (out : List ℕ) (pen : Pen) (s : State)
-    → 0 < i → i + d ≡ suc n → n ≤ 32 → size ≤ tableLimit → Stands n size o T t out pen s → take m w ≡ p
-    → m + 70 * d + 144 ≤ length w → ((k : ℕ) → stamp (s .table) k + 2 ^ d ≤ 4294967296) → ShowsAll xs d i gs
-    → ((w : ℕ) → w < 2 ^ d → f (at + w) ≡ op (decisionsAt gs w))
-    → Leads n size i m o T p w (applyIn op size d i m xs t out w pen) (online size d i at p f s)
-apply-leads op n size d i at m o T p w xs gs f t out pen s real deep small few =
-    applies op n size d i o real deep small few at m T p w xs gs f t out pen s
-
--- ---- The ways through code -------------------------------------------------------------------
-
--- one word; c: what it comes to
-pub apply-word : (op : List Bool → Bool) (size d i m : ℕ) (xs : List Source) (t : List (List ℕ)) (out w : List ℕ) (pen : Pen)
-    (c : Bool) → d ≡ 0 → c ≡ op (turns xs) → kept (constantHalf c) t out w pen ≡ applyIn op size d i m xs t out w pen
-unfolding applyIn
-apply-word op size d i m xs t out w pen c e v =
-    ap (λ (c : Bool). kept (constantHalf c) t out w pen) v ∙ ap (λ (d : ℕ). applyIn op size d i m xs t out w pen) (sym e)
-
--- two halves of one part, d + 1 options
-module _ (op : List Bool → Bool) (size d i m : ℕ) (xs : List Source) (t : List (List ℕ)) (out w : List ℕ) (pen : Pen) where
-  -- the part, of e options
-  abbrev whole : ℕ → Walked
-  whole e = applyIn op size e i m xs t out w pen
-
-  -- the first half, after the bytes p; ys: the inputs there
-  abbrev firstFrom : List Source → Waiting → Walked
-  firstFrom ys p = applyIn op size d (i + 1) (p .count) ys t out (p .bytes) pen
-
-  -- the second half after the first, a, and the bytes r, if it is walked; zs: the inputs there, x: the pen after the first
-  abbrev walkedFrom : List Source → Walked → Pen → Waiting → Walked
-  walkedFrom zs a x r = applyIn op size d (i + 1) (r .count) zs (a .table) (a .output) (r .bytes) x
-
-  -- if it is the number of the first again; c: what its first word comes to
-  abbrev againFrom : Bool → Walked → Half → Pen → Waiting → Walked
-  againFrom c a g x r = kept (numberHalf (g .number) (g .stamp) (g .skipped) c false) (a .table) (a .output) (r .bytes) x
-
-  -- by either way
-  abbrev secondFrom : List Source → Walked → Half → Pen → Waiting → Walked
-  secondFrom zs a g x r = cond (againPart i xs g) (againFrom (op (turns zs)) a g x r) (walkedFrom zs a x r)
-
-  -- what waits of the first half, which had p before it and came to g
-  abbrev waitOf : Waiting → Walked → Half → Waiting
-  waitOf p a g = waitIn (a .waits) (p .count) (g .wrote) (g .skipped) (g .number)
-
-  -- both, with the `~` u and the bytes r between them
-  abbrev both : List Source → Walked → Half → Pen → Bool → Waiting → Walked
-  both zs a g x u r = secondIn size i (r .count) u g (secondFrom zs a g x r)
-
-  -- from the first half on, with what the second begins with
-  abbrev started : List Source → Waiting → Walked → Half → Walked
-  started zs p a g =
-      let u = differ (g .complement) (op (turns zs)) in
-      let q = waitOf p a g in
-      both zs a g (a .pen) u (pushAll (q .bytes) (q .count) (tildeIf u))
-
-  -- unless more was sent than the output holds
-  abbrev afterFirst : Waiting → Walked → Walked
-  afterFirst p a = cond (a .pen .full) a (started (secondSources i xs) p a (a .half))
-
-  -- d + 1 options: what op comes to is fixed
-  constant-suc : fixed op xs ≡ true → kept (constantHalf (op (turns xs))) t out w pen ≡ whole (suc d)
-  unfolding applyIn
-  constant-suc h = rw h refl
-
-  -- by the halves
-  halves-suc : fixed op xs ≡ false →
-      let p = pushAll w m (opener ∷ []) in afterFirst p (firstFrom (firstSources i xs) p) ≡ whole (suc d)
-  unfolding applyIn
-  halves-suc h = rw h refl
-
-  -- e options, what op comes to is fixed; c: what they come to
-  pub apply-constant : (e : ℕ) (c : Bool) → e ≡ suc d → fixed op xs ≡ true → c ≡ op (turns xs)
-      → kept (constantHalf c) t out w pen ≡ whole e
-  apply-constant e c n h v = ap (λ (c : Bool). kept (constantHalf c) t out w pen) v ∙ constant-suc h ∙ ap whole (sym n)
-
-  module _ (e : ℕ) (n : e ≡ suc d) (h : fixed op xs ≡ false) (ys : List Source) (p : Waiting) (a : Walked)
-      (went : ys ≡ firstSources i xs) (pushed : p ≡ pushAll w m (opener ∷ [])) (walked : a ≡ firstFrom ys p) where
-    -- with the first half walked
-    onward : afterFirst p a ≡ whole e
-    onward =
-        ap (afterFirst p) walked ∙ ap₂ (λ (ys : List Source) (p : Waiting). afterFirst p (firstFrom ys p)) went pushed
-        ∙ halves-suc h ∙ ap whole (sym n)
-
-    -- more was sent in the first half than the output holds
-    pub apply-full : (x : Pen) → x ≡ a .pen → x .full ≡ true → a ≡ whole e
-    apply-full x o f =
-        ap (λ (b : Bool). cond b a (started (secondSources i xs) p a (a .half)))
-        (sym (sym (ap (λ (x : Pen). x .full) o) ∙ f)) ∙ onward
-
-    -- g: what the first half came to, x: the pen after it, zs: the inputs at the second half, c: what its first word comes to,
-    -- u: the `~` between the halves
-    module _ (g : Half) (x : Pen) (zs : List Source) (c u : Bool) (q r : Waiting) (b : Walked) (came : g ≡ a .half) (left : x ≡ a .pen)
-        (goes : x .full ≡ false) (gone : zs ≡ secondSources i xs) (first : c ≡ op (turns zs)) (turned : u ≡ differ (g .complement) c)
-        (waited : q ≡ waitIn (a .waits) (p .count) (g .wrote) (g .skipped) (g .number))
-        (ready : r ≡ pushAll (q .bytes) (q .count) (tildeIf u)) where
-      apply-both : b ≡ secondFrom zs a g x r → secondIn size i (r .count) u g b ≡ whole e
-      apply-both s =
-          ap (secondIn size i (r .count) u g) s
-          ∙ ap (λ (x : Pen). both zs a g x u r) left
-          ∙ ap (both zs a g (a .pen) u) ready
-          ∙ ap₂ (λ (u : Bool) (q : Waiting). both zs a g (a .pen) u (pushAll (q .bytes) (q .count) (tildeIf u)))
-          (turned ∙ ap (differ (g .complement)) first) waited
-          ∙ ap₂ (λ (zs : List Source) (g : Half). started zs p a g) gone came
-          ∙ ap (λ (b : Bool). cond b a (started (secondSources i xs) p a (a .half)))
-          (sym (sym (ap (λ (x : Pen). x .full) left) ∙ goes))
-          ∙ onward
-
-      -- the second half is walked
-      pub apply-on : againPart i xs g ≡ false
-          → b ≡ applyIn op size d (i + 1) (r .count) zs (a .table) (a .output) (r .bytes) x
-          → secondIn size i (r .count) u g b ≡ whole e
-      apply-on f s = apply-both (s ∙ ap (λ (t : Bool). cond t (againFrom (op (turns zs)) a g x r) (walkedFrom zs a x r)) (sym f))
-
-      -- it is like the first, which came to a number
-      pub apply-again : againPart i xs g ≡ true
-          → b ≡ kept (numberHalf (g .number) (g .stamp) (g .skipped) c false) (a .table) (a .output) (r .bytes) x
-          → secondIn size i (r .count) u g b ≡ whole e
-      apply-again f s =
-          apply-both (s ∙ ap (λ (c : Bool). againFrom c a g x r) first
-          ∙ ap (λ (t : Bool). cond t (againFrom (op (turns zs)) a g x r) (walkedFrom zs a x r)) (sym f))

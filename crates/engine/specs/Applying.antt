@@ -1,15 +1,11 @@
--- The part of a combiner that walks stored nodes only: inputs at edges of their own tables, and an operator on their decisions.
--- Definitions only; code mirrors them, and ApplyLaws ties them to the walk of Online. Assumes nothing.
-use mathlib.Core.Bool.{Bool, true, false, cond, not, _&&_, _||_}
+-- The inputs of a combiner at edges of their own tables: where they stand at the halves of a block, and what the constants among them fix.
+-- Definitions only; code mirrors them, and ApplyLaws says what they show. Assumes nothing.
+use mathlib.Core.Bool.{Bool, true, cond, not, _&&_, _||_}
 use mathlib.Core.List.{List, [], _∷_}
-use Prim.Native.Nat.{ℕ, zero, suc, _+_}
+use Prim.Native.Nat.{ℕ}
 use lib.Dec.{eqb, ltb}
 use Rattle.lists.specs.Lists.{differ}
-use Rattle.reading.specs.Bytes.{opener}
 use Rattle.reading.specs.Nodes.{Node, node}
-use Rattle.writing.specs.Texts.{tildeIf}
-use Rattle.engine.specs.Pending.{pushAll, waitIn}
-use Rattle.engine.specs.Engine.{Half, Pen, Walked, constantHalf, numberHalf, kept, secondIn}
 
 -- ---- An input --------------------------------------------------------------------------------
 
@@ -57,33 +53,9 @@ abbrev pub allPass : ℕ → List Source → Bool
 allPass i [] = true
 allPass i (x ∷ xs) = passes i x && allPass i xs
 
--- the first half came to a number (h), and the second is alike
-abbrev pub againPart : ℕ → List Source → Half → Bool
-againPart i xs h = not (eqb (h .number) 0) && allPass i xs
-
 -- The constants among them fix what op comes to: whatever the others decide, it is the same
 unfoldable pub fixed : (List Bool → Bool) → List Source → Bool
 fixed op [] = true
 fixed op (x ∷ xs) =
     fixed (λ ds. op (x .turned ∷ ds)) xs && (eqb (x .number) 0 || (fixed (λ ds. op (not (x .turned) ∷ ds)) xs
     && not (differ (op (x .turned ∷ turns xs)) (op (not (x .turned) ∷ turns xs)))))
-
--- ---- The walk over stored nodes --------------------------------------------------------------
-
--- The part of level i with d options left, after m bytes that wait; op: what the inputs' decisions come to. A second half that is
--- like a first half which came to a number is that number again
-unfoldable pub applyIn : (List Bool → Bool) → ℕ → ℕ → ℕ → ℕ → List Source → List (List ℕ) → List ℕ → List ℕ → Pen → Walked
-unfolding fixed
-applyIn op size zero i m xs t out w pen = kept (constantHalf (op (turns xs))) t out w pen
-applyIn op size (suc d) i m xs t out w pen =
-    let p = pushAll w m (opener ∷ []) in
-    let a = applyIn op size d (i + 1) (p .count) (firstSources i xs) t out (p .bytes) pen in
-    let turned = differ (a .half .complement) (op (turns (secondSources i xs))) in
-    let q = waitIn (a .waits) (p .count) (a .half .wrote) (a .half .skipped) (a .half .number) in
-    let r = pushAll (q .bytes) (q .count) (tildeIf turned) in
-    let b = cond (againPart i xs (a .half))
-    (kept (numberHalf (a .half .number) (a .half .stamp) (a .half .skipped) (op (turns (secondSources i xs))) false) (a .table)
-    (a .output) (r .bytes) (a .pen))
-    (applyIn op size d (i + 1) (r .count) (secondSources i xs) (a .table) (a .output) (r .bytes) (a .pen)) in
-    cond (fixed op xs) (kept (constantHalf (op (turns xs))) t out w pen)
-    (cond (a .pen .full) a (secondIn size i (r .count) turned (a .half) b))

@@ -1,5 +1,5 @@
--- The walk over texts with a memo leads, part by part, to what the walk of Online knows of the words that the inputs' decisions make, and
--- the memo stays true; where the covered words end within a part, it sends what a cut run sends. Assumes nothing.
+-- The walk over texts leads, part by part, to what the walk of Online knows of the words that the inputs' decisions make, and its memo
+-- stays true; where the covered words end within a part, it sends what a cut run sends. Assumes nothing.
 use mathlib.Core.Path.{_≡_, refl, sym, ap, ap₂, _∙_, subst, subst⁻¹}
 use mathlib.Core.Logic.{⊎-elim}
 use mathlib.Core.Bool.{Bool, true, false, cond, true≢false}

@@ -1,4 +1,4 @@
--- One law for each way through code that walks texts with a memo as Carrying has it, and through code that runs as Merging has it.
+-- One law for each way through code that walks texts as Carrying has it, and through code that runs as Merging has it.
 -- Assumes nothing.
 use mathlib.Core.Path.{_≡_, refl, sym, ap, ap₂, _∙_}
 use mathlib.Core.Bool.{Bool, true, false, cond, not, _||_}

@@ -1,4 +1,4 @@
--- The part of a combiner that walks the texts of its inputs, as Taping has it, with a memo of the parts whose inputs all stood at edges.
+-- The walk of a combiner over the texts of its inputs, down to the parts whose inputs all stand at edges; a memo remembers these.
 -- Definitions only; code mirrors them, and CarryLaws ties them to the walk of Online. Assumes nothing.
 use mathlib.Core.Bool.{Bool, cond}
 use mathlib.Core.List.{List, [], _∷_}

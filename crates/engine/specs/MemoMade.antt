@@ -1,16 +1,13 @@
 -- How code of two inputs finds and fits a row of a memo: cell by cell. Assumes nothing.
-use mathlib.Core.Path.{_≡_, refl, sym, ap, ap₂, _∙_}
+use mathlib.Core.Path.{_≡_, ap, ap₂, _∙_}
 use mathlib.Core.Bool.{Bool, true, _&&_}
-use mathlib.Core.List.{List, [], _∷_, _++_, append-nil}
-use Prim.Native.Nat.{ℕ, zero, suc, _+_, _*_, _%_, _≤_, _<_}
-use native.Mathlib.Nat.{mod-lt}
-use native.Mathlib.Omega.{arith}
+use mathlib.Core.List.{List, [], _∷_}
+use Prim.Native.Nat.{ℕ}
 use lib.Dec.{eqb}
-use lib.ListN.{length, getD, drop}
+use lib.ListN.{getD, drop}
 use lib.Seq.{getD-drop, drop-drop}
 use Rattle.lists.specs.Lists.{bit}
 use Rattle.reading.specs.Nodes.{stamp}
-use Rattle.engine.specs.Engine.{Half}
 use Rattle.engine.specs.Applying.{Source}
 use Rattle.engine.specs.Memo.{sameKey}
 

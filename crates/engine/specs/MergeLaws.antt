@@ -1,4 +1,4 @@
--- The engine's stream of a run over inputs, with a memo: what it leaves in the output is what the text of the run leaves there.
+-- The engine's stream of a run over inputs: what it leaves in the output is what the text of the run leaves there.
 -- Assumes nothing.
 use mathlib.Core.Path.{_≡_, refl, _∙_, subst, subst⁻¹}
 use mathlib.Core.Logic.{⊎-elim}

@@ -1,5 +1,5 @@
--- The whole of a combiner, as Joining has it, with a memo. Definitions only; code mirrors them, and MergeLaws ties them to the text of a
--- run. Assumes nothing.
+-- The stream of a run: the size and its LF, then the walk over the texts of the inputs, unless no word is covered. Definitions only; code
+-- mirrors them, and MergeLaws ties them to the text of a run. Assumes nothing.
 use mathlib.Core.Bool.{Bool, cond, _||_}
 use mathlib.Core.List.{List}
 use Prim.Native.Nat.{ℕ}

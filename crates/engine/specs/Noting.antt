@@ -2,11 +2,11 @@
 use mathlib.Core.Path.{_≡_, refl, sym, ap, ap₂, _∙_, subst, subst⁻¹}
 use mathlib.Core.Logic.{⊎-elim}
 use mathlib.Core.Bool.{Bool, true, false, cond, not, _&&_, _||_, true≢false}
-use mathlib.Core.List.{List, [], _∷_, _++_}
+use mathlib.Core.List.{List, [], _∷_}
 use Prim.Native.Nat.{ℕ, zero, suc, _+_, _-_, _≤_, _<_, _^_}
 use native.Mathlib.Omega.{arith}
 use lib.Dec.{eqb}
-use lib.ListN.{length, set, drop, take, List·getD-eq-default}
+use lib.ListN.{set, drop, take, List·getD-eq-default}
 use borrow.Author.Tests.{eqb-true, eqb-false, not-true}
 use Rattle.lists.specs.Lists.{bit, and-l, and-r, decide-le}
 use Rattle.lists.specs.Maps.{getD-set-either}
@@ -26,7 +26,7 @@ use Rattle.engine.specs.Again.{Now, number-leads, online-means, online-n
 use Rattle.engine.specs.Walking.{block-leads}
 use Rattle.engine.specs.Applying.{Source, allPass}
 use Rattle.engine.specs.ApplyLaws.{ShowsAll, Makes}
-use Rattle.engine.specs.Memo.{keyOf, sameKey, isEmpty, numberIn, stampIn, complementIn, isYoung, tells, toldHalf, rowFor, noteRow, rememberIn}
+use Rattle.engine.specs.Memo.{keyOf, sameKey, isEmpty, numberIn, stampIn, complementIn, isYoung, tells, toldHalf, noteRow, rememberIn}
 use Rattle.engine.specs.Sitting.{SitsAll, tablesOf}
 use Rattle.engine.specs.MemoLaws.{is-deep, is-constant, Tells, part-tells, KeyPast, Entry, Memory, keyed}
 

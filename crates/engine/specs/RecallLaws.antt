@@ -1,5 +1,5 @@
--- The walk over stored nodes with a memo leads, part by part, to what the walk of Online knows of the words that the inputs' decisions
--- make, and the memo stays true. Assumes nothing.
+-- The walk over stored nodes leads, part by part, to what the walk of Online knows of the words that the inputs' decisions make, and its
+-- memo stays true. Assumes nothing.
 use mathlib.Core.Path.{_≡_, refl, sym, ap, ap₂, _∙_, subst, subst⁻¹}
 use mathlib.Core.Bool.{Bool, true, false, cond, not, _||_, true≢false}
 use mathlib.Core.List.{List, [], _∷_, _++_}
@@ -59,7 +59,7 @@ came-terminal i h x c e z = go (h .temporary) (h .number) e z (c .ref)
 
 -- The first half, of level i, came to a number or a constant (h); the second begins at word `mid` and is alike. q: m bytes of w, which
 -- wait then
-pub alike-leads : (n size d i at mid m : ℕ) (o T p q w : List ℕ) (f : ℕ → Bool) (t : List (List ℕ)) (out : List ℕ) (pen : Pen)
+alike-leads : (n size d i at mid m : ℕ) (o T p q w : List ℕ) (f : ℕ → Bool) (t : List (List ℕ)) (out : List ℕ) (pen : Pen)
     (s : State) (h : Half) → Sound s → Normal n s → 0 < i → i + d ≡ suc n →
     let x = online size d i at p f s in
     Came i h x → h .temporary ≡ false → x .complement ≡ f mid → ((j : ℕ) → j < 2 ^ d → f (mid + j) ≡ f (at + j))
@@ -112,7 +112,7 @@ RecallsAll hash op n size d i o =
     → Recalls n op size i m o T p w (tablesOf xs) (recallIn hash op size d i m xs μ t out w pen) (online size d i at p f s)
 
 -- the halves met only if not more was sent before than the output holds
-pub second-goes : (size i m : ℕ) (v : Bool) (a : Half) (b : Walked) → secondIn size i m v a b .pen .full ≡ false → b .pen .full ≡ false
+second-goes : (size i m : ℕ) (v : Bool) (a : Half) (b : Walked) → secondIn size i m v a b .pen .full ≡ false → b .pen .full ≡ false
 second-goes size i m v a b e = go (b .pen .full) refl e
   where
     go : (u : Bool) → b .pen .full ≡ u

@@ -1,4 +1,4 @@
--- One law for each way through code that walks stored nodes with a memo, as Recalling has it. Assumes nothing.
+-- One law for each way through code that walks stored nodes as Recalling has it. Assumes nothing.
 use mathlib.Core.Path.{_≡_, refl, sym, ap, ap₂, _∙_}
 use mathlib.Core.Bool.{Bool, true, false, cond, _||_}
 use mathlib.Core.List.{List, [], _∷_}

@@ -1,5 +1,5 @@
--- The part of a combiner that walks stored nodes only, as Applying has it, with a memo of the parts that it walked. Definitions only;
--- code mirrors them, and RecallLaws ties them to the walk of Online. Assumes nothing.
+-- The walk of a combiner over stored nodes: all inputs at edges of their own tables, with a memo of the parts that it walked. Definitions
+-- only; code mirrors them, and RecallLaws ties them to the walk of Online. Assumes nothing.
 use mathlib.Core.Bool.{Bool, false, cond, not, _&&_, _||_}
 use mathlib.Core.List.{List, [], _∷_}
 use Prim.Native.Nat.{ℕ, zero, suc, _+_}

@@ -1,15 +1,11 @@
--- The part of a combiner that walks the texts of its inputs: each stands at an edge of its table, or in its text at a block that a
--- tape has read. Definitions only; code mirrors them, and TapeLaws ties them to the walk of Online. Assumes nothing.
+-- The inputs of a combiner and their texts: each stands at an edge of its table, or in its text at a block that a tape has read.
+-- Definitions only; code mirrors them, and TapeLaws says where they stand. Assumes nothing.
 use mathlib.Core.Bool.{Bool, true, false, cond, _&&_, _||_}
 use mathlib.Core.List.{List, [], _∷_}
-use Prim.Native.Nat.{ℕ, zero, suc, _+_, _^_}
-use lib.Dec.{eqb, leb}
-use Rattle.lists.specs.Lists.{differ}
-use Rattle.reading.specs.Bytes.{opener}
-use Rattle.writing.specs.Texts.{tildeIf}
-use Rattle.engine.specs.Pending.{pushAll, waitIn}
-use Rattle.engine.specs.Engine.{Pen, Walked, secondIn}
-use Rattle.engine.specs.Applying.{Source, firstSource, secondSource, applyIn}
+use Prim.Native.Nat.{ℕ, _+_}
+use lib.Dec.{eqb}
+use Rattle.engine.specs.Engine.{Walked}
+use Rattle.engine.specs.Applying.{Source, firstSource, secondSource}
 
 -- ---- What is known ---------------------------------------------------------------------------
 
@@ -103,26 +99,3 @@ module _ {Tape : Type 0} (deepOf : Tape → ℕ) (sourceOf : Tape → Source) (n
   abbrev pub turnsOf : List (Feed Tape) → List Bool
   turnsOf [] = []
   turnsOf (f ∷ fs) = cond (f .inText) (sourceOf (f .tape) .turned) (f .turned) ∷ turnsOf fs
-
-  -- ---- The walk over texts --------------------------------------------------------------------
-
-  -- The part of level i whose words are at .. at + 2 ^ d - 1, after m bytes that wait. c: how many words are covered, more than
-  -- `at`; op: what the inputs' decisions come to
-  unfoldable pub textIn : (List Bool → Bool) → ℕ → ℕ → ℕ → ℕ → ℕ → ℕ → List (Feed Tape) → List (List ℕ) → List ℕ → List ℕ → Pen
-      → Applied Tape
-  textIn op c size zero i at m fs t out w pen = wentOn (applyIn op size 0 i m (edgesOf fs) t out w pen) (tapesOf fs)
-  textIn op c size (suc d) i at m fs t out w pen =
-      let p = pushAll w m (opener ∷ []) in
-      let a = textIn op c size d (i + 1) at (p .count) (firstFeeds i fs) t out (p .bytes) pen in
-      let h = a .walked .half in
-      let zs = secondFeeds i (resume fs (a .tapes)) in
-      let u = differ (h .complement) (op (turnsOf zs)) in
-      let q = waitIn (a .walked .waits) (p .count) (h .wrote) (h .skipped) (h .number) in
-      let r = pushAll (q .bytes) (q .count) (tildeIf u) in
-      let b = textIn op c size d (i + 1) (at + 2 ^ d) (r .count) zs (a .walked .table) (a .walked .output) (r .bytes)
-      (a .walked .pen) in
-      cond (anyText fs)
-      (cond (halted a) a
-      (cond (leb c (at + 2 ^ d)) (endedAt a)
-      (cond (halted b) b (wentOn (secondIn size i (r .count) u h (b .walked)) (b .tapes)))))
-      (wentOn (applyIn op size (suc d) i m (edgesOf fs) t out w pen) (tapesOf fs))

@@ -1,5 +1,5 @@
 -- How code holds what the engine speaks of: inputs in their texts, the walk over texts, and the stream of a run. Assumes nothing.
-use mathlib.Core.Bool.{Bool, true, cond}
+use mathlib.Core.Bool.{true, false, cond}
 use mathlib.Core.List.{List, [], _∷_}
 use Prim.Native.Nat.{ℕ, _+_}
 use lib.Dec.{ltb}
@@ -10,9 +10,11 @@ use Rattle.engine.specs.Taping as T
 use Rattle.engine.specs.Memo.{slotOf}
 use Rattle.engine.specs.Carrying.{Carried, carryIn}
 use Rattle.engine.specs.Merging.{mergeNodesIn, mergeIn}
-use Rattle.combining.specs.Tapes.{Tape, deepOf, sourceOf, nextTape}
-use Rattle.reader.specs.ReadOn.{Next, nextBlock}
+use Rattle.combining.specs.Tapes.{Tape, tapeAt, deepOf, sourceOf, nextTape}
+use Rattle.reader.specs.ReadOn.{Next, startCursor, nextBlock}
+use Rattle.reader.specs.Lent.{ReadBlock, cursorIn, blockIn}
 use Rattle.reader.specs.declared.Block.{Block}
+use Rattle.reader.specs.declared.Opens.{Opens}
 use Rattle.meeting.specs.Cite.{walkedOf}
 use Rattle.pending_text.specs.declared.Sent.{Sent}
 use Rattle.text_walk.specs.declared.Applied.{Applied}
@@ -22,18 +24,37 @@ use Rattle.text_walk.specs.declared.Task.{Task}
 -- ---- Inputs ----------------------------------------------------------------------------------
 
 -- the block that was read last of the stream s, with the lent table
-abbrev pub tapeOf : Block → List ℕ → List (List ℕ) → Tape
-tapeOf b s t = record { stream = s; block = b; table = t }
+abbrev pub tapeIn : ReadBlock → List ℕ → List (List ℕ) → Tape
+tapeIn b s t = record { stream = s; block = b; table = t }
+
+-- with the open nodes o there
+abbrev pub blockOn : Block → Opens → ReadBlock
+blockOn b o =
+    record {
+      cursor = record { run = b .cursor .run; opens = o };
+      from = b .from;
+      deep = b .deep;
+      number = b .number;
+      turned = b .turned;
+      halted = b .halted;
+    }
+
+-- with those that the cells o hold
+abbrev pub tapeOf : Block → List (List ℕ) → List ℕ → List (List ℕ) → Tape
+tapeOf b o s t = tapeIn (blockIn b o) s t
 
 -- an input on its tape
 abbrev pub onTape : Feed → Tape → T.Feed Tape
 onTape f τ = record { tape = τ; inText = f .inside; number = f .number; turned = f .turned }
 
-abbrev pub feedOf : Feed → Block → List ℕ → List (List ℕ) → T.Feed Tape
-feedOf f b s t = onTape f (tapeOf b s t)
+abbrev pub feedOn : Feed → Block → Opens → List ℕ → List (List ℕ) → T.Feed Tape
+feedOn f b o s t = onTape f (tapeIn (blockOn b o) s t)
+
+abbrev pub feedOf : Feed → Block → List (List ℕ) → List ℕ → List (List ℕ) → T.Feed Tape
+feedOf f b o s t = onTape f (tapeOf b o s t)
 
 -- the next block, if the input is inside its text
-abbrev pub readBy : ℕ → List ℕ → Feed → Block → List (List ℕ) → Next
+abbrev pub readBy : ℕ → List ℕ → Feed → ReadBlock → List (List ℕ) → Next
 readBy n s f b t = cond (f .inside) (nextBlock n s (b .cursor) t) (record { block = b; table = t })
 
 -- at the second half of a part of level i, with the block for it read
@@ -42,6 +63,12 @@ arrived n i f =
     cond (f .inText) (T.settle deepOf sourceOf (nextTape n) (i + 1) f)
     (T.atEdge f (secondSource i (T.edgeOf deepOf sourceOf (nextTape n) f)))
 
+-- at the outermost node, with the cells o for the open nodes: in its text unless its first block is all of it
+abbrev pub begunFrom : ℕ → List ℕ → List (List ℕ) → List (List ℕ) → T.Feed Tape
+begunFrom n s o t =
+    T.settle deepOf sourceOf (nextTape n) 1
+    (record { tape = tapeAt s (nextBlock n s (cursorIn startCursor o) t); inText = true; number = 0; turned = false })
+
 -- ---- The walk --------------------------------------------------------------------------------
 
 -- with what the lent memory holds; τ, σ: the tapes, μ: the operation cache
@@ -49,9 +76,10 @@ abbrev pub carriedOn : Applied → Tape → Tape → List (List ℕ) → List �
 carriedOn a τ σ t out w μ =
     record { applied = record { walked = walkedOf (a .walked) t out w; tapes = τ ∷ σ ∷ []; ended = a .ended }; memo = μ }
 
--- x, y: the streams, t₁, t₂: their lent tables
-abbrev pub carriedOf : Applied → List ℕ → List ℕ → List (List ℕ) → List (List ℕ) → List (List ℕ) → List ℕ → List ℕ → List (List ℕ) → Carried Tape
-carriedOf a x y t₁ t₂ t out w μ = carriedOn a (tapeOf (a .first) x t₁) (tapeOf (a .second) y t₂) t out w μ
+-- x, y: the streams, o₁, o₂: their open nodes, t₁, t₂: their lent tables
+abbrev pub carriedOf : Applied → List ℕ → List ℕ → List (List ℕ) → List (List ℕ) → List (List ℕ) → List (List ℕ) → List (List ℕ) → List ℕ
+    → List ℕ → List (List ℕ) → Carried Tape
+carriedOf a x y o₁ o₂ t₁ t₂ t out w μ = carriedOn a (tapeOf (a .first) o₁ x t₁) (tapeOf (a .second) o₂ y t₂) t out w μ
 
 abbrev pub walkTexts : Task → ℕ → ℕ → ℕ → ℕ → List (T.Feed Tape) → List (List ℕ) → List (List ℕ) → List ℕ → List ℕ → E.Pen → Carried Tape
 walkTexts k d i at m fs μ t out w pen =

@@ -29,8 +29,9 @@ use Rattle.meeting.specs.declared.Walked.{Walked}
 use Rattle.applier.specs.Cite.{edgeIn, recalledOf, applied}
 use Rattle.applier.specs.WalkMade.{applied-within}
 use Rattle.applier.specs.declared.Edge.{Edge}
+use Rattle.reader.specs.Lent.{ReadBlock}
 use Rattle.reader.specs.declared.Block.{Block}
-use Rattle.text_walk.specs.Cite.{tapeOf, onTape, feedOf, readBy, arrived, carriedOn, carriedOf, walkTexts, nodesBy, streamBy}
+use Rattle.text_walk.specs.Cite.{tapeIn, tapeOf, onTape, feedOf, readBy, arrived, carriedOn, walkTexts, nodesBy, streamBy}
 use Rattle.text_walk.specs.FeedMade.{second-arrived}
 use Rattle.text_walk.specs.declared.Applied.{Applied}
 use Rattle.text_walk.specs.declared.Feed.{Feed}
@@ -64,39 +65,43 @@ second-asks d i at t k p h q =
 
 -- ---- The walk --------------------------------------------------------------------------------
 
-module _ (k : Task) (e i at m : ℕ) (x y : List ℕ) (f g : Feed) (b₁ b₂ : Block) (t₁ t₂ μ t : List (List ℕ)) (out w : List ℕ) (pen : E.Pen) where
+-- what a part came to, from r, on the tapes τ and σ
+abbrev pub cameTo : Walked → Bool → Tape → Tape → List (List ℕ) → List ℕ → List ℕ → List (List ℕ) → Carried Tape
+cameTo r b τ σ t out w μ =
+    record { applied = record { walked = walkedOf r t out w; tapes = τ ∷ σ ∷ []; ended = b }; memo = μ }
+
+module _ (k : Task) (e i at m : ℕ) (x y : List ℕ) (f g : Feed) (b₁ b₂ : Block) (o₁ o₂ t₁ t₂ μ t : List (List ℕ)) (out w : List ℕ)
+    (pen : E.Pen) where
   abbrev inputs : List (T.Feed Tape)
-  inputs = feeds f (tapeOf b₁ x t₁) g (tapeOf b₂ y t₂)
+  inputs = feedOf f b₁ o₁ x t₁ ∷ feedOf g b₂ o₂ y t₂ ∷ []
 
   abbrev whole : Carried Tape
   whole = walkTexts k e i at m inputs μ t out w pen
 
-  -- all inputs at edges, p and q; a: what code came to, from r
-  pub texts-edges : (p q : Edge) (r : Walked) (a : Applied) (v : List (List ℕ)) (o z : List ℕ) (ν : List (List ℕ))
+  -- all inputs at edges, p and q
+  pub texts-edges : (p q : Edge) (r : Walked) (v : List (List ℕ)) (o z : List ℕ) (ν : List (List ℕ))
       → atEdges e f g ≡ true → e ≤ 32 → i + e ≤ 33
       → p ≡ record { number = f .number; turned = f .turned; size = b₁ .cursor .run .size }
       → q ≡ record { number = g .number; turned = g .turned; size = b₂ .cursor .run .size }
       → recalledOf r v o z ν ≡ applied (k .op) (k .size) e i m (edgeIn p t₁ ∷ edgeIn q t₂ ∷ []) μ t out w pen
-      → a ≡ record { walked = r; first = b₁; second = b₂; ended = false }
-      → carriedOf a x y t₁ t₂ v o z ν ≡ whole
-  texts-edges p q r a v o z ν h few low pe qe walked ae =
-      ap (λ (a : Applied). carriedOf a x y t₁ t₂ v o z ν) ae
-      ∙ ap (λ (r : Recalled). recalledOn r (tapeOf b₁ x t₁ ∷ tapeOf b₂ y t₂ ∷ []))
+      → cameTo r false (tapeOf b₁ o₁ x t₁) (tapeOf b₂ o₂ y t₂) v o z ν ≡ whole
+  texts-edges p q r v o z ν h few low pe qe walked =
+      ap (λ (r : Recalled). recalledOn r (tapeOf b₁ o₁ x t₁ ∷ tapeOf b₂ o₂ y t₂ ∷ []))
       (walked ∙ sym (applied-within (k .op) (k .size) e i m (edgeIn p t₁ ∷ edgeIn q t₂ ∷ []) μ t out w pen few (omega (arith, low)))
       ∙ ap₂ (λ (p q : Edge). recallIn slotOf (operate (k .op)) (k .size) e i m (edgeIn p t₁ ∷ edgeIn q t₂ ∷ []) μ t out w pen) pe qe)
       ∙ carry-edges deepOf sourceOf (nextTape (k .n)) slotOf (operate (k .op)) (k .covered) (k .size) i at m inputs μ t out w pen e h
 
-  -- f₁, g₁: the inputs at the first half; p: what waits before it; a: what code came to there, u₁, u₂: the inputs' tables then
-  module _ (d : ℕ) (n : e ≡ suc d) (h : atEdges e f g ≡ false) (f₁ g₁ : Feed) (p : Waiting) (a : Applied)
-      (u₁ u₂ v : List (List ℕ)) (o z : List ℕ) (ν : List (List ℕ))
-      (first₁ : feedOf f₁ b₁ x t₁ ≡ T.firstFeed deepOf sourceOf (nextTape (k .n)) i (feedOf f b₁ x t₁))
-      (first₂ : feedOf g₁ b₂ y t₂ ≡ T.firstFeed deepOf sourceOf (nextTape (k .n)) i (feedOf g b₂ y t₂))
+  -- f₁, g₁: the inputs at the first half; p: what waits before it; a: what code came to there, on the tapes τ₁ and σ₁
+  module _ (d : ℕ) (n : e ≡ suc d) (h : atEdges e f g ≡ false) (f₁ g₁ : Feed) (p : Waiting) (a : Applied) (τ₁ σ₁ : Tape)
+      (v : List (List ℕ)) (o z : List ℕ) (ν : List (List ℕ))
+      (first₁ : feedOf f₁ b₁ o₁ x t₁ ≡ T.firstFeed deepOf sourceOf (nextTape (k .n)) i (feedOf f b₁ o₁ x t₁))
+      (first₂ : feedOf g₁ b₂ o₂ y t₂ ≡ T.firstFeed deepOf sourceOf (nextTape (k .n)) i (feedOf g b₂ o₂ y t₂))
       (pushed : p ≡ pushAll w m (opener ∷ []))
-      (walked : carriedOf a x y u₁ u₂ v o z ν
-      ≡ walkTexts k d (i + 1) at (p .count) (feedOf f₁ b₁ x t₁ ∷ feedOf g₁ b₂ y t₂ ∷ []) μ t out (p .bytes) pen) where
+      (walked : carriedOn a τ₁ σ₁ v o z ν
+      ≡ walkTexts k d (i + 1) at (p .count) (feedOf f₁ b₁ o₁ x t₁ ∷ feedOf g₁ b₂ o₂ y t₂ ∷ []) μ t out (p .bytes) pen) where
     -- the inputs there
     abbrev inputs₁ : List (T.Feed Tape)
-    inputs₁ = feedOf f₁ b₁ x t₁ ∷ feedOf g₁ b₂ y t₂ ∷ []
+    inputs₁ = feedOf f₁ b₁ o₁ x t₁ ∷ feedOf g₁ b₂ o₂ y t₂ ∷ []
 
     went : inputs₁ ≡ T.firstFeeds deepOf sourceOf (nextTape (k .n)) i inputs
     went = ap₂ (λ (a b : T.Feed Tape). a ∷ b ∷ []) first₁ first₂
@@ -106,7 +111,7 @@ module _ (k : Task) (e i at m : ℕ) (x y : List ℕ) (f g : Feed) (b₁ b₂ : 
 
     -- what code came to there
     abbrev here : Carried Tape
-    here = carriedOf a x y u₁ u₂ v o z ν
+    here = carriedOn a τ₁ σ₁ v o z ν
 
     -- nothing is walked after the first half; c: as code tests it
     pub texts-halted : (c : Bool) → c ≡ (a .ended || a .walked .pen .full) → c ≡ true → here ≡ whole
@@ -116,69 +121,66 @@ module _ (k : Task) (e i at m : ℕ) (x y : List ℕ) (f g : Feed) (b₁ b₂ : 
 
     -- j: the words of a half
     module _ (j : ℕ) (words : j ≡ 2 ^ d) (c : Bool) (ce : c ≡ (a .ended || a .walked .pen .full)) (goes : c ≡ false) where
-      -- the covered words end with the first half; b: what is returned
-      pub texts-ended : (b : Applied) → k .covered ≤ at + j
-          → b ≡ record { walked = a .walked; first = a .first; second = a .second; ended = true }
-          → carriedOf b x y u₁ u₂ v o z ν ≡ whole
-      texts-ended b l be =
-          ap (λ (b : Applied). carriedOf b x y u₁ u₂ v o z ν) be
-          ∙ carry-ended deepOf sourceOf (nextTape (k .n)) slotOf (operate (k .op)) (k .covered) (k .size) d i at m inputs μ t out w
+      -- the covered words end with the first half
+      pub texts-ended : k .covered ≤ at + j → cameTo (a .walked) true τ₁ σ₁ v o z ν ≡ whole
+      texts-ended l =
+          carry-ended deepOf sourceOf (nextTape (k .n)) slotOf (operate (k .op)) (k .covered) (k .size) d i at m inputs μ t out w
           pen e n some inputs₁ p here went pushed walked j words (sym ce ∙ goes) (le-leb (k .covered) (at + j) l)
 
-      -- b₃, b₄: the blocks for the second half, from c₁ and c₂; z₁, z₂: the tables then; f₂, g₂: the inputs there; half, after: the
-      -- first half and the pen after it; q₁, q₂: what they decide at its first word, l: what that comes to, u: the `~` between the
-      -- halves; b: what code came to there
-      module _ (more : at + j < k .covered) (c₁ c₂ b₃ b₄ : Block) (z₁ z₂ : List (List ℕ)) (f₂ g₂ : Feed) (half : E.Half) (after : E.Pen)
-          (q₁ q₂ l u : Bool) (q r : Waiting) (b : Applied) (y₁ y₂ y₃ : List (List ℕ)) (o₂ w₂ : List ℕ) (ν₂ : List (List ℕ))
-          (block₁ : c₁ ≡ a .first) (block₂ : c₂ ≡ a .second)
-          (read₁ : record { block = b₃; table = z₁ } ≡ readBy (k .n) x f c₁ u₁)
-          (read₂ : record { block = b₄; table = z₂ } ≡ readBy (k .n) y g c₂ u₂)
-          (second₁ : feedOf f₂ b₃ x z₁ ≡ arrived (k .n) i (feedOf f b₃ x z₁))
-          (second₂ : feedOf g₂ b₄ y z₂ ≡ arrived (k .n) i (feedOf g b₄ y z₂))
+      -- c₁, c₂: the blocks after the first half, u₁, u₂: the tables; b₃, b₄ and z₁, z₂: those for the second half; f₂, g₂: the inputs
+      -- there; half, after: the first half and the pen after it; q₁, q₂: what they decide at its first word, l: what that comes to,
+      -- u: the `~` between the halves; b: what code came to there, on the tapes τ₃ and σ₃
+      module _ (more : at + j < k .covered) (c₁ c₂ b₃ b₄ : ReadBlock) (u₁ u₂ z₁ z₂ : List (List ℕ)) (f₂ g₂ : Feed) (half : E.Half)
+          (after : E.Pen) (q₁ q₂ l u : Bool) (q r : Waiting) (b : Applied) (τ₃ σ₃ : Tape) (y₃ : List (List ℕ)) (o₃ w₂ : List ℕ)
+          (ν₂ : List (List ℕ)) (read₁ : record { block = b₃; table = z₁ } ≡ readBy (k .n) x f c₁ u₁)
+          (read₂ : record { block = b₄; table = z₂ } ≡ readBy (k .n) y g c₂ u₂) (tape₁ : tapeIn c₁ x u₁ ≡ τ₁) (tape₂ : tapeIn c₂ y u₂ ≡ σ₁)
+          (second₁ : onTape f₂ (tapeIn b₃ x z₁) ≡ arrived (k .n) i (onTape f (tapeIn b₃ x z₁)))
+          (second₂ : onTape g₂ (tapeIn b₄ y z₂) ≡ arrived (k .n) i (onTape g (tapeIn b₄ y z₂)))
           (came : half ≡ here .applied .walked .half) (left : after ≡ here .applied .walked .pen)
           (turn₁ : q₁ ≡ cond (f₂ .inside) (b₃ .turned) (f₂ .turned))
           (turn₂ : q₂ ≡ cond (g₂ .inside) (b₄ .turned) (g₂ .turned)) (first : l ≡ operate (k .op) (q₁ ∷ q₂ ∷ []))
           (turned : u ≡ differ (half .complement) l)
           (waited : q ≡ waitIn z (p .count) (half .wrote) (half .skipped) (half .number))
           (ready : r ≡ pushAll (q .bytes) (q .count) (tildeIf u))
-          (both : carriedOf b x y y₁ y₂ y₃ o₂ w₂ ν₂
-          ≡ walkTexts k d (i + 1) (at + j) (r .count) (feedOf f₂ b₃ x z₁ ∷ feedOf g₂ b₄ y z₂ ∷ []) ν v o (r .bytes) after) where
-        -- the inputs there
-        abbrev inputs₂ : List (T.Feed Tape)
-        inputs₂ = feedOf f₂ b₃ x z₁ ∷ feedOf g₂ b₄ y z₂ ∷ []
+          (both : carriedOn b τ₃ σ₃ y₃ o₃ w₂ ν₂
+          ≡ walkTexts k d (i + 1) (at + j) (r .count) (onTape f₂ (tapeIn b₃ x z₁) ∷ onTape g₂ (tapeIn b₄ y z₂) ∷ []) ν v o (r .bytes) after)
+        where
+          -- the inputs there
+          abbrev inputs₂ : List (T.Feed Tape)
+          inputs₂ = onTape f₂ (tapeIn b₃ x z₁) ∷ onTape g₂ (tapeIn b₄ y z₂) ∷ []
 
-        gone : inputs₂ ≡ T.secondFeeds deepOf sourceOf (nextTape (k .n)) i (T.resume inputs (here .applied .tapes))
-        gone =
-            ap₂ (λ (a b : T.Feed Tape). a ∷ b ∷ [])
-            (second-arrived (k .n) i x u₁ z₁ f f₂ (a .first) b₃ (read₁ ∙ ap (λ (c : Block). readBy (k .n) x f c u₁) block₁) second₁)
-            (second-arrived (k .n) i y u₂ z₂ g g₂ (a .second) b₄ (read₂ ∙ ap (λ (c : Block). readBy (k .n) y g c u₂) block₂) second₂)
+          gone : inputs₂ ≡ T.secondFeeds deepOf sourceOf (nextTape (k .n)) i (T.resume inputs (here .applied .tapes))
+          gone =
+              ap₂ (λ (a b : T.Feed Tape). a ∷ b ∷ [])
+              (second-arrived (k .n) i x u₁ z₁ f f₂ c₁ b₃ read₁ second₁
+              ∙ ap (λ (τ : Tape). T.secondFeed deepOf sourceOf (nextTape (k .n)) i (onTape f τ)) tape₁)
+              (second-arrived (k .n) i y u₂ z₂ g g₂ c₂ b₄ read₂ second₂
+              ∙ ap (λ (τ : Tape). T.secondFeed deepOf sourceOf (nextTape (k .n)) i (onTape g τ)) tape₂)
 
-        starts : l ≡ operate (k .op) (T.turnsOf deepOf sourceOf (nextTape (k .n)) inputs₂)
-        starts = first ∙ ap₂ (λ (a b : Bool). operate (k .op) (a ∷ b ∷ [])) turn₁ turn₂
+          starts : l ≡ operate (k .op) (T.turnsOf deepOf sourceOf (nextTape (k .n)) inputs₂)
+          starts = first ∙ ap₂ (λ (a b : Bool). operate (k .op) (a ∷ b ∷ [])) turn₁ turn₂
 
-        abbrev there : Carried Tape
-        there = carriedOf b x y y₁ y₂ y₃ o₂ w₂ ν₂
+          abbrev there : Carried Tape
+          there = carriedOn b τ₃ σ₃ y₃ o₃ w₂ ν₂
 
-        -- nothing is walked after the second half; c′: as code tests it
-        pub texts-done : (c′ : Bool) → c′ ≡ (b .ended || b .walked .pen .full) → c′ ≡ true → there ≡ whole
-        texts-done c′ e′ f′ =
-            carry-done deepOf sourceOf (nextTape (k .n)) slotOf (operate (k .op)) (k .covered) (k .size) d i at m inputs μ t out w
-            pen e n some inputs₁ p here went pushed walked j words (sym ce ∙ goes) (lt-leb (k .covered) (at + j) more)
-            half after inputs₂ l u q r there came left gone starts turned waited ready both (sym e′ ∙ f′)
+          -- nothing is walked after the second half; c′: as code tests it
+          pub texts-done : (c′ : Bool) → c′ ≡ (b .ended || b .walked .pen .full) → c′ ≡ true → there ≡ whole
+          texts-done c′ e′ f′ =
+              carry-done deepOf sourceOf (nextTape (k .n)) slotOf (operate (k .op)) (k .covered) (k .size) d i at m inputs μ t out w
+              pen e n some inputs₁ p here went pushed walked j words (sym ce ∙ goes) (lt-leb (k .covered) (at + j) more)
+              half after inputs₂ l u q r there came left gone starts turned waited ready both (sym e′ ∙ f′)
 
-        -- the halves meet: s; d₁, d₂: the blocks, a′: what is returned
-        pub texts-on : (c′ : Bool) → c′ ≡ (b .ended || b .walked .pen .full) → c′ ≡ false → (r′ s : Walked) (d₁ d₂ : Block) (a′ : Applied)
-            (s₃ : List (List ℕ)) (o₃ w₃ : List ℕ) → r′ ≡ b .walked
-            → walkedOf s s₃ o₃ w₃ ≡ E.secondIn (k .size) i (r .count) u half (walkedOf r′ y₃ o₂ w₂) → d₁ ≡ b .first → d₂ ≡ b .second
-            → a′ ≡ record { walked = s; first = d₁; second = d₂; ended = false } → carriedOf a′ x y y₁ y₂ s₃ o₃ w₃ ν₂ ≡ whole
-        texts-on c′ e′ f′ r′ s d₁ d₂ a′ s₃ o₃ w₃ re met be₁ be₂ ae =
-            ap (λ (a : Applied). carriedOf a x y y₁ y₂ s₃ o₃ w₃ ν₂) ae
-            ∙ ap₂ (λ (s : E.Walked) (l : List Tape). record { applied = record { walked = s; tapes = l; ended = false }; memo = ν₂ })
-            (met ∙ ap (λ (r′ : Walked). E.secondIn (k .size) i (r .count) u half (walkedOf r′ y₃ o₂ w₂)) re)
-            (ap₂ (λ (b c : Block). tapeOf b x y₁ ∷ tapeOf c y y₂ ∷ []) be₁ be₂)
-            ∙ carry-on deepOf sourceOf (nextTape (k .n)) slotOf (operate (k .op)) (k .covered) (k .size) d i at m inputs μ t out w
-            pen e n some inputs₁ p here went pushed walked j words (sym ce ∙ goes) (lt-leb (k .covered) (at + j) more)
-            half after inputs₂ l u q r there came left gone starts turned waited ready both (sym e′ ∙ f′)
+          -- the halves meet: s
+          pub texts-on : (c′ : Bool) → c′ ≡ (b .ended || b .walked .pen .full) → c′ ≡ false → (r′ s : Walked)
+              (s₃ : List (List ℕ)) (o₄ w₃ : List ℕ) → r′ ≡ b .walked
+              → walkedOf s s₃ o₄ w₃ ≡ E.secondIn (k .size) i (r .count) u half (walkedOf r′ y₃ o₃ w₂)
+              → cameTo s false τ₃ σ₃ s₃ o₄ w₃ ν₂ ≡ whole
+          texts-on c′ e′ f′ r′ s s₃ o₄ w₃ re met =
+              ap (λ (s : E.Walked). record { applied = record { walked = s; tapes = τ₃ ∷ σ₃ ∷ []; ended = false }; memo = ν₂ })
+              (met ∙ ap (λ (r′ : Walked). E.secondIn (k .size) i (r .count) u half (walkedOf r′ y₃ o₃ w₂)) re)
+              ∙ carry-on deepOf sourceOf (nextTape (k .n)) slotOf (operate (k .op)) (k .covered) (k .size) d i at m inputs μ t out w
+              pen e n some inputs₁ p here went pushed walked j words (sym ce ∙ goes) (lt-leb (k .covered) (at + j) more)
+              half after inputs₂ l u q r there came left gone starts turned waited ready both (sym e′ ∙ f′)
 
 -- ---- The stream ------------------------------------------------------------------------------
 

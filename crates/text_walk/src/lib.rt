@@ -7,14 +7,15 @@ ghost use Prim.Native.Nat.{ℕ, _+_, _-_, _<_, _≤_, _^_};
 ghost use Rattle.writing.specs.Run.{head, operate};
 ghost use Rattle.engine.specs.Taping.{settle, firstFeed};
 ghost use Rattle.engine.specs.Joining.{finishIn};
-ghost use Rattle.combining.specs.Tapes.{deepOf, sourceOf, nextTape, begunFeed};
+ghost use Rattle.combining.specs.Tapes.{deepOf, sourceOf, nextTape};
+ghost use Rattle.reader.specs.Lent.{blockIn};
+ghost use Rattle.reader.specs.declared.Opens.{Opens};
 ghost use Rattle.meeting.specs.Cite.{penOf};
-ghost use Rattle.text_walk.specs.Cite.{feedOf, readBy, arrived, carriedOf, sentOf, walkTexts, nodesBy, streamBy};
+ghost use Rattle.text_walk.specs.Cite.{feedOn, feedOf, readBy, arrived, begunFrom, carriedOf, sentOf, walkTexts, nodesBy, streamBy};
 use applier::Edge;
 use applier::apply;
 use applier::first_edge;
 use applier::operate;
-use applier::row_at;
 use applier::second_edge;
 use meeting::Pen;
 use meeting::Walked;
@@ -32,6 +33,7 @@ use pending_text::send;
 use pending_text::wait;
 use reader::Block;
 use reader::first_cursor;
+use reader::get as row_at;
 use reader::next_block;
 
 // ---- Inputs
@@ -83,7 +85,7 @@ fn is_around(i: u32, d: usize) -> bool
 
 // A block as great as the part of level i is an edge.
 fn settle(i: u32, f: Feed, b: Block) -> Feed
-    ensures { λ r. ⌜ ((n : ℕ) (s : List ℕ) (t : List (List ℕ)) → feedOf r b s t ≡ settle deepOf sourceOf (nextTape n) i (feedOf f b s t)) ⌝ }
+    ensures { λ r. ⌜ ((n : ℕ) (o : Opens) (s : List ℕ) (t : List (List ℕ)) → feedOn r b o s t ≡ settle deepOf sourceOf (nextTape n) i (feedOn f b o s t)) ⌝ }
 {
     let inside = f.inside;
     if !inside {
@@ -102,7 +104,7 @@ fn settle(i: u32, f: Feed, b: Block) -> Feed
 // The input at the first half of a part of level i
 fn first_feed(t: &[[u32; 6]], i: u32, f: Feed, b: Block) -> Feed
     requires { ⌜ i ≤ 64 ⌝ }
-    ensures { λ r. ⌜ ((n : ℕ) (s : List ℕ) → feedOf r b s (now (t .entry)) ≡ firstFeed deepOf sourceOf (nextTape n) i (feedOf f b s (now (t .entry)))) ⌝ }
+    ensures { λ r. ⌜ ((n : ℕ) (o : Opens) (s : List ℕ) → feedOn r b o s (now (t .entry)) ≡ firstFeed deepOf sourceOf (nextTape n) i (feedOn f b o s (now (t .entry)))) ⌝ }
 {
     let inside = f.inside;
     if inside {
@@ -113,14 +115,14 @@ fn first_feed(t: &[[u32; 6]], i: u32, f: Feed, b: Block) -> Feed
     at_edge(first_edge(i, e, r))
 }
 
-// For the second half the next block is read, if the input is inside its text.
-fn read_on(n: u32, s: &[u8], t: &mut [[u32; 6]], f: Feed, b: Block) -> Block
-    ensures { λ r. ⌜ record { block = r; table = now (t .exit) } ≡ readBy n (now (s .entry)) f b (now (t .entry)) ⌝ }
+// For the second half the next block is read, if the input is inside its text. o: the open nodes there
+fn read_on(n: u32, s: &[u8], t: &mut [[u32; 6]], o: &mut [[u32; 4]; 32], f: Feed, b: Block) -> Block
+    ensures { λ r. ⌜ record { block = blockIn r (now (o .exit)); table = now (t .exit) } ≡ readBy n (now (s .entry)) f (blockIn b (now (o .entry))) (now (t .entry)) ⌝ }
 {
     let inside = f.inside;
     if inside {
         let c = b.cursor;
-        return next_block(n, s, t, c);
+        return next_block(n, s, t, o, c);
     }
     b
 }
@@ -128,7 +130,7 @@ fn read_on(n: u32, s: &[u8], t: &mut [[u32; 6]], f: Feed, b: Block) -> Block
 // The input at the second half of a part of level i, f before it
 fn second_feed(t: &[[u32; 6]], i: u32, f: Feed, b: Block) -> Feed
     requires { ⌜ i ≤ 64 ⌝ }
-    ensures { λ r. ⌜ ((n : ℕ) (s : List ℕ) → feedOf r b s (now (t .entry)) ≡ arrived n i (feedOf f b s (now (t .entry)))) ⌝ }
+    ensures { λ r. ⌜ ((n : ℕ) (o : Opens) (s : List ℕ) → feedOn r b o s (now (t .entry)) ≡ arrived n i (feedOn f b o s (now (t .entry)))) ⌝ }
 {
     let inside = f.inside;
     if inside {
@@ -223,6 +225,47 @@ fn ended_at(a: Applied) -> Applied
     }
 }
 
+// The next block of each input after the first half
+fn read_first(
+    n: u32,
+    s: &[u8],
+    t: &mut [[u32; 6]],
+    o: &mut [[u32; 4]; 32],
+    f: Feed,
+    a: Applied,
+) -> Block
+    ensures { λ r. ⌜ record { block = blockIn r (now (o .exit)); table = now (t .exit) } ≡ readBy n (now (s .entry)) f (blockIn (a .first) (now (o .entry))) (now (t .entry)) ⌝ }
+{
+    let b = a.first;
+    read_on(n, s, t, o, f, b)
+}
+
+fn read_second(
+    n: u32,
+    s: &[u8],
+    t: &mut [[u32; 6]],
+    o: &mut [[u32; 4]; 32],
+    f: Feed,
+    a: Applied,
+) -> Block
+    ensures { λ r. ⌜ record { block = blockIn r (now (o .exit)); table = now (t .exit) } ≡ readBy n (now (s .entry)) f (blockIn (a .second) (now (o .entry))) (now (t .entry)) ⌝ }
+{
+    let b = a.second;
+    read_on(n, s, t, o, f, b)
+}
+
+// After the second half, b: the halves met.
+fn met(x: Walked, b: Applied) -> Applied
+    ensures { λ r. ⌜ r ≡ record { walked = x; first = b .first; second = b .second; ended = false } ⌝ }
+{
+    Applied {
+        walked: x,
+        first: first_of(b),
+        second: second_of(b),
+        ended: false,
+    }
+}
+
 fn went_on(x: Walked, b1: Block, b2: Block) -> Applied
     ensures { λ r. ⌜ r ≡ record { walked = x; first = b1; second = b2; ended = false } ⌝ }
 {
@@ -248,6 +291,8 @@ fn texts(
     g: Feed,
     b1: Block,
     b2: Block,
+    o1: &mut [[u32; 4]; 32],
+    o2: &mut [[u32; 4]; 32],
     t1: &mut [[u32; 6]],
     t2: &mut [[u32; 6]],
     t: &mut [[u32; 12]],
@@ -257,7 +302,7 @@ fn texts(
     pen: Pen,
 ) -> Applied
     requires { ⌜ (d ≤ 32) × ((i + d ≤ 33) × (at + 2 ^ d ≤ 4294967296)) ⌝ }
-    ensures { λ r. ⌜ carriedOf r (now (x .entry)) (now (y .entry)) (now (t1 .exit)) (now (t2 .exit)) (now (t .exit)) (now (out .exit)) (now (w .exit)) (now (c .exit)) ≡ walkTexts k d i at m (feedOf f b1 (now (x .entry)) (now (t1 .entry)) ∷ feedOf g b2 (now (y .entry)) (now (t2 .entry)) ∷ []) (now (c .entry)) (now (t .entry)) (now (out .entry)) (now (w .entry)) (penOf pen) ⌝ }
+    ensures { λ r. ⌜ carriedOf r (now (x .entry)) (now (y .entry)) (now (o1 .exit)) (now (o2 .exit)) (now (t1 .exit)) (now (t2 .exit)) (now (t .exit)) (now (out .exit)) (now (w .exit)) (now (c .exit)) ≡ walkTexts k d i at m (feedOf f b1 (now (o1 .entry)) (now (x .entry)) (now (t1 .entry)) ∷ feedOf g b2 (now (o2 .entry)) (now (y .entry)) (now (t2 .entry)) ∷ []) (now (c .entry)) (now (t .entry)) (now (out .entry)) (now (w .entry)) (penOf pen) ⌝ }
 {
     if at_edges(d, f, g) {
         let p = edge_of(f, b1);
@@ -271,7 +316,28 @@ fn texts(
     let p = push(w, m, b'(');
     let f1 = first_feed(t1, i, f, b1);
     let g1 = first_feed(t2, i, g, b2);
-    let a = texts(k, e, j, at, p, x, y, f1, g1, b1, b2, t1, t2, t, out, w, c, pen);
+    let a = texts(
+        k,
+        e,
+        j,
+        at,
+        p,
+        x,
+        y,
+        f1,
+        g1,
+        b1,
+        b2,
+        o1,
+        o2,
+        t1,
+        t2,
+        t,
+        out,
+        w,
+        c,
+        pen,
+    );
     if is_halted(a) {
         return a;
     }
@@ -281,29 +347,50 @@ fn texts(
     let r = walked_of(a);
     let h = half_of(r);
     let z = pen_of(r);
-    let b3 = read_on(k.n, x, t1, f, first_of(a));
-    let b4 = read_on(k.n, y, t2, g, second_of(a));
+    let b3 = read_first(k.n, x, t1, o1, f, a);
+    let b4 = read_second(k.n, y, t2, o2, g, a);
     let f2 = second_feed(t1, i, f, b3);
     let g2 = second_feed(t2, i, g, b4);
     let s = operate(k.op, turn_of(f2, b3), turn_of(g2, b4));
     let u = differs(h.complement, s);
     let q = wait(w, p, h.wrote, h.skipped, h.number);
     let v = push_turn(w, q, u);
-    let b = texts(k, e, j, mid, v, x, y, f2, g2, b3, b4, t1, t2, t, out, w, c, z);
+    let b = texts(
+        k,
+        e,
+        j,
+        mid,
+        v,
+        x,
+        y,
+        f2,
+        g2,
+        b3,
+        b4,
+        o1,
+        o2,
+        t1,
+        t2,
+        t,
+        out,
+        w,
+        c,
+        z,
+    );
     if is_halted(b) {
         return b;
     }
     let l = second(k.size, i, v, u, h, walked_of(b), t, out, w);
-    went_on(l, first_of(b), second_of(b))
+    met(l, b)
 }
 
 // ---- The whole run
 
-// THE FIRST BLOCK of a stream: the input at the outermost node
-pub fn begin(n: u32, s: &[u8], t: &mut [[u32; 6]]) -> Begun
-    ensures { λ r. ⌜ feedOf (r .feed) (r .block) (now (s .entry)) (now (t .exit)) ≡ begunFeed n (now (s .entry)) (now (t .entry)) ⌝ }
+// THE FIRST BLOCK of a stream: the input at the outermost node. o: cells for its open nodes
+pub fn begin(n: u32, s: &[u8], t: &mut [[u32; 6]], o: &mut [[u32; 4]; 32]) -> Begun
+    ensures { λ r. ⌜ feedOf (r .feed) (r .block) (now (o .exit)) (now (s .entry)) (now (t .exit)) ≡ begunFrom n (now (s .entry)) (now (o .entry)) (now (t .entry)) ⌝ }
 {
-    let b = next_block(n, s, t, first_cursor());
+    let b = next_block(n, s, t, o, first_cursor());
     let f = Feed {
         inside: true,
         number: 0,
@@ -318,7 +405,7 @@ pub fn begin(n: u32, s: &[u8], t: &mut [[u32; 6]]) -> Begun
 // After the walk: of a whole run what waits, and the point. m: how much waited before it
 fn finish(n: u32, covered: u64, m: usize, a: Applied, out: &mut [u8], w: &mut [u8]) -> Sent
     requires { ⌜ n ≤ 32 ⌝ }
-    ensures { λ r. ⌜ sentOf r (now (out .exit)) (now (w .exit)) ≡ finishIn n covered m (carriedOf a [] [] [] [] [] (now (out .entry)) (now (w .entry)) [] .applied) ⌝ }
+    ensures { λ r. ⌜ sentOf r (now (out .exit)) (now (w .exit)) ≡ finishIn n covered m (carriedOf a [] [] [] [] [] [] [] (now (out .entry)) (now (w .entry)) [] .applied) ⌝ }
 {
     let r = walked_of(a);
     if covered == 1u64 << n {
@@ -340,6 +427,8 @@ fn nodes(
     g: Feed,
     b1: Block,
     b2: Block,
+    o1: &mut [[u32; 4]; 32],
+    o2: &mut [[u32; 4]; 32],
     t1: &mut [[u32; 6]],
     t2: &mut [[u32; 6]],
     t: &mut [[u32; 12]],
@@ -349,11 +438,32 @@ fn nodes(
     head: Sent,
 ) -> Sent
     requires { ⌜ k .n ≤ 32 ⌝ }
-    ensures { λ r. ⌜ sentOf r (now (out .exit)) (now (w .exit)) ≡ nodesBy k (feedOf f b1 (now (x .entry)) (now (t1 .entry)) ∷ feedOf g b2 (now (y .entry)) (now (t2 .entry)) ∷ []) (now (c .entry)) (now (t .entry)) (sentOf head (now (out .entry)) (now (w .entry))) ⌝ }
+    ensures { λ r. ⌜ sentOf r (now (out .exit)) (now (w .exit)) ≡ nodesBy k (feedOf f b1 (now (o1 .entry)) (now (x .entry)) (now (t1 .entry)) ∷ feedOf g b2 (now (o2 .entry)) (now (y .entry)) (now (t2 .entry)) ∷ []) (now (c .entry)) (now (t .entry)) (sentOf head (now (out .entry)) (now (w .entry))) ⌝ }
 {
     let m = push_turn(w, 0, operate(k.op, turn_of(f, b1), turn_of(g, b2)));
     let z = pen_after(head);
-    let a = texts(k, k.n, 1, 0, m, x, y, f, g, b1, b2, t1, t2, t, out, w, c, z);
+    let a = texts(
+        k,
+        k.n,
+        1,
+        0,
+        m,
+        x,
+        y,
+        f,
+        g,
+        b1,
+        b2,
+        o1,
+        o2,
+        t1,
+        t2,
+        t,
+        out,
+        w,
+        c,
+        z,
+    );
     finish(k.n, k.covered, m, a, out, w)
 }
 
@@ -377,6 +487,8 @@ pub fn stream(
     g: Feed,
     b1: Block,
     b2: Block,
+    o1: &mut [[u32; 4]; 32],
+    o2: &mut [[u32; 4]; 32],
     t1: &mut [[u32; 6]],
     t2: &mut [[u32; 6]],
     t: &mut [[u32; 12]],
@@ -384,7 +496,7 @@ pub fn stream(
     w: &mut [u8],
     c: &mut [[u32; 9]],
 ) -> Sent
-    ensures { λ r. ⌜ sentOf r (now (out .exit)) (now (w .exit)) ≡ streamBy k (feedOf f b1 (now (x .entry)) (now (t1 .entry)) ∷ feedOf g b2 (now (y .entry)) (now (t2 .entry)) ∷ []) (now (c .entry)) (now (t .entry)) (now (out .entry)) (now (w .entry)) ⌝ }
+    ensures { λ r. ⌜ sentOf r (now (out .exit)) (now (w .exit)) ≡ streamBy k (feedOf f b1 (now (o1 .entry)) (now (x .entry)) (now (t1 .entry)) ∷ feedOf g b2 (now (o2 .entry)) (now (y .entry)) (now (t2 .entry)) ∷ []) (now (c .entry)) (now (t .entry)) (now (out .entry)) (now (w .entry)) ⌝ }
 {
     if 32 < k.n {
         return Sent {
@@ -398,5 +510,5 @@ pub fn stream(
     if is_over(head, k.covered) {
         return head;
     }
-    nodes(k, x, y, f, g, b1, b2, t1, t2, t, out, w, c, head)
+    nodes(k, x, y, f, g, b1, b2, o1, o2, t1, t2, t, out, w, c, head)
 }

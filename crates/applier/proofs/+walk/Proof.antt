@@ -15,7 +15,7 @@ use Rattle.applier.proofs.key_of.Reads as key-of
 use Rattle.applier.proofs.note.Reads as note
 use Rattle.applier.proofs.operate.Reads as operates
 use Rattle.applier.proofs.recall.Reads as recall
-use Rattle.applier.proofs.row_at.Reads as row-at
+use Rattle.reader.proofs.get.Reads as get
 use Rattle.applier.proofs.second_edge.Reads as second-edge
 use Rattle.applier.proofs.slot.Reads as slot
 use Rattle.meeting.proofs.constant.Reads as constant
@@ -52,12 +52,52 @@ module _ (t : ℕ) where
   -- what each callee asks, and what it gives
   abbrev K : walk-lts.Claims
   K = (
-    operates.Asked, operates.Learnt, constant.Asked, constant.Learnt, kept.Asked, kept.Learnt, is-fixed.Asked, is-fixed.Learnt,
-    row-at.Asked, row-at.Learnt, key-of.Asked, key-of.Learnt, slot.Asked, slot.Learnt, recall.Asked, recall.Learnt, half-told.Asked,
-    half-told.Learnt, push.Asked, push.Learnt, first-edge.Asked, first-edge.Learnt, below t, walk.Post, pen-of.Asked, pen-of.Learnt,
-    half-of.Asked, half-of.Learnt, both-pass.Asked, both-pass.Learnt, second-edge.Asked, second-edge.Learnt, differs.Asked,
-    differs.Learnt, wait.Asked, wait.Learnt, push-turn.Asked, push-turn.Learnt, is-alike.Asked, is-alike.Learnt, numbered.Asked,
-    numbered.Learnt, second.Asked, second.Learnt, note.Asked, note.Learnt
+    operates.Asked,
+    operates.Learnt,
+    constant.Asked,
+    constant.Learnt,
+    kept.Asked,
+    kept.Learnt,
+    is-fixed.Asked,
+    is-fixed.Learnt,
+    get.Asked,
+    get.Learnt,
+    key-of.Asked,
+    key-of.Learnt,
+    slot.Asked,
+    slot.Learnt,
+    recall.Asked,
+    recall.Learnt,
+    half-told.Asked,
+    half-told.Learnt,
+    push.Asked,
+    push.Learnt,
+    first-edge.Asked,
+    first-edge.Learnt,
+    below t,
+    walk.Post,
+    pen-of.Asked,
+    pen-of.Learnt,
+    half-of.Asked,
+    half-of.Learnt,
+    both-pass.Asked,
+    both-pass.Learnt,
+    second-edge.Asked,
+    second-edge.Learnt,
+    differs.Asked,
+    differs.Learnt,
+    wait.Asked,
+    wait.Learnt,
+    push-turn.Asked,
+    push-turn.Learnt,
+    is-alike.Asked,
+    is-alike.Learnt,
+    numbered.Asked,
+    numbered.Learnt,
+    second.Asked,
+    second.Learnt,
+    note.Asked,
+    note.Learnt,
   )
 
   operate-requires : walk-lts.Need-operate-requires K (at t) walk.Post
@@ -71,13 +111,13 @@ module _ (t : ℕ) where
 
   returns : walk-lts.Need-returns K (at t) walk.Post
   returns c =
-    let c1 = c .before in
-    let c2 = c1 .before in
-    let c3 = c2 .before in
-    let c6 = c3 .before .before .before in
-    let a = c6 .args in
-    constant-in (c .kept .result) (c1 .constant .result) (a .pen) (c2 .operate .result) (a .t .now) (a .out .now) (a .w .now) (a .c .now) (c .kept .ensures) (c1 .constant .ensures)
-    ∙ recall-word slotOf (operate (a .op)) (a .size) (a .d) (a .i) (a .m) (pair (a .x) (a .t1 .now) (a .y) (a .t2 .now)) (a .c .now) (a .t .now) (a .out .now) (a .w .now) (penOf (a .pen)) (c2 .operate .result) (c3 .if1 .taken) (c2 .operate .ensures)
+      let c1 = c .before in
+      let c2 = c1 .before in
+      let c3 = c2 .before in
+      let c6 = c3 .before .before .before in
+      let a = c6 .args in
+      constant-in (c .kept .result) (c1 .constant .result) (a .pen) (c2 .operate .result) (a .t .now) (a .out .now) (a .w .now) (a .c .now) (c .kept .ensures) (c1 .constant .ensures)
+      ∙ recall-word slotOf (operate (a .op)) (a .size) (a .d) (a .i) (a .m) (pair (a .x) (a .t1 .now) (a .y) (a .t2 .now)) (a .c .now) (a .t .now) (a .out .now) (a .w .now) (penOf (a .pen)) (c2 .operate .result) (c3 .if1 .taken) (c2 .operate .ensures)
 
   is-fixed-requires : walk-lts.Need-is-fixed-requires K (at t) walk.Post
   is-fixed-requires c κs = tt
@@ -93,21 +133,21 @@ module _ (t : ℕ) where
 
   returns-2 : walk-lts.Need-returns-2 K (at t) walk.Post
   returns-2 c =
-    let c1 = c .before in
-    let c2 = c1 .before in
-    let c3 = c2 .before in
-    let c4 = c3 .before in
-    let c5 = c4 .before in
-    let c8 = c5 .before .before .before in
-    let a = c8 .args in
-    constant-in (c .kept2 .result) (c1 .constant2 .result) (a .pen) (c2 .operate2 .result) (a .t .now) (a .out .now) (a .w .now) (a .c .now) (c .kept2 .ensures) (c1 .constant2 .ensures)
-    ∙ recall-constant slotOf (operate (a .op)) (a .size) (a .d - 1) (a .i) (a .m) (pair (a .x) (a .t1 .now) (a .y) (a .t2 .now)) (a .c .now) (a .t .now) (a .out .now) (a .w .now) (penOf (a .pen)) (a .d) (c2 .operate2 .result) (one-down (a .d) (c5 .if1 .left)) (sym (c4 .is-fixed .ensures (a .t1 .now) (a .t2 .now)) ∙ c3 .if2 .taken) (c2 .operate2 .ensures)
+      let c1 = c .before in
+      let c2 = c1 .before in
+      let c3 = c2 .before in
+      let c4 = c3 .before in
+      let c5 = c4 .before in
+      let c8 = c5 .before .before .before in
+      let a = c8 .args in
+      constant-in (c .kept2 .result) (c1 .constant2 .result) (a .pen) (c2 .operate2 .result) (a .t .now) (a .out .now) (a .w .now) (a .c .now) (c .kept2 .ensures) (c1 .constant2 .ensures)
+      ∙ recall-constant slotOf (operate (a .op)) (a .size) (a .d - 1) (a .i) (a .m) (pair (a .x) (a .t1 .now) (a .y) (a .t2 .now)) (a .c .now) (a .t .now) (a .out .now) (a .w .now) (penOf (a .pen)) (a .d) (c2 .operate2 .result) (one-down (a .d) (c5 .if1 .left)) (sym (c4 .is-fixed .ensures (a .t1 .now) (a .t2 .now)) ∙ c3 .if2 .taken) (c2 .operate2 .ensures)
 
-  row-at-requires : walk-lts.Need-row-at-requires K (at t) walk.Post
-  row-at-requires c κs = tt
+  get-requires : walk-lts.Need-get-requires K (at t) walk.Post
+  get-requires c κs = tt
 
-  row-at-requires-2 : walk-lts.Need-row-at-requires-2 K (at t) walk.Post
-  row-at-requires-2 c κs = tt
+  get-requires-2 : walk-lts.Need-get-requires-2 K (at t) walk.Post
+  get-requires-2 c κs = tt
 
   key-of-requires : walk-lts.Need-key-of-requires K (at t) walk.Post
   key-of-requires c κs = tt
@@ -132,33 +172,33 @@ module _ (t : ℕ) where
 
   returns-3 : walk-lts.Need-returns-3 K (at t) walk.Post
   returns-3 c =
-    let c1 = c .before in
-    let c2 = c1 .before in
-    let c3 = c2 .before in
-    let c6 = c3 .before .before .before in
-    let c7 = c6 .before in
-    let c8 = c7 .before in
-    let c9 = c8 .before in
-    let c10 = c9 .before in
-    let c11 = c10 .before in
-    let c12 = c11 .before in
-    let c15 = c12 .before .before .before in
-    let a = c15 .args in
-    kept-in (c .kept3 .result) (c1 .half-told .result) (a .pen) (a .t .now) (a .out .now) (a .w .now) (a .c .now) (c .kept3 .ensures)
-    ∙ pair-told (a .op) (a .size) (a .d - 1) (a .i) (a .m) (a .x) (a .y) (a .t1 .now) (a .t2 .now) (a .c .now) (a .t .now) (a .out .now) (a .w .now) (penOf (a .pen)) (a .d) (one-down (a .d) (c12 .if1 .left)) (sym (c11 .is-fixed .ensures (a .t1 .now) (a .t2 .now)) ∙ c10 .if2 .left)
-    (c9 .row-at .result) (c8 .row-at2 .result) (c9 .row-at .ensures) (c8 .row-at2 .ensures) (c7 .key-of .result) (c7 .key-of .ensures) (c6 .slot .result) (c6 .slot .ensures) (c3 .recall .result) (c3 .recall .ensures)
-    (c1 .half-told .result) (c1 .half-told .ensures) (c2 .if3 .taken)
+      let c1 = c .before in
+      let c2 = c1 .before in
+      let c3 = c2 .before in
+      let c6 = c3 .before .before .before in
+      let c7 = c6 .before in
+      let c8 = c7 .before in
+      let c9 = c8 .before in
+      let c10 = c9 .before in
+      let c11 = c10 .before in
+      let c12 = c11 .before in
+      let c15 = c12 .before .before .before in
+      let a = c15 .args in
+      kept-in (c .kept3 .result) (c1 .half-told .result) (a .pen) (a .t .now) (a .out .now) (a .w .now) (a .c .now) (c .kept3 .ensures)
+      ∙ pair-told (a .op) (a .size) (a .d - 1) (a .i) (a .m) (a .x) (a .y) (a .t1 .now) (a .t2 .now) (a .c .now) (a .t .now) (a .out .now) (a .w .now) (penOf (a .pen)) (a .d) (one-down (a .d) (c12 .if1 .left)) (sym (c11 .is-fixed .ensures (a .t1 .now) (a .t2 .now)) ∙ c10 .if2 .left)
+      (c9 .get .result) (c8 .get2 .result) (c9 .get .ensures) (c8 .get2 .ensures) (c7 .key-of .result) (c7 .key-of .ensures) (c6 .slot .result) (c6 .slot .ensures) (c3 .recall .result) (c3 .recall .ensures)
+      (c1 .half-told .result) (c1 .half-told .ensures) (c2 .if3 .taken)
 
   sub-e : walk-lts.Need-sub-e K (at t) walk.Post
   sub-e c =
-    let c10 = c .before .before .before .before .before .before .before .before .before .before in
-    let c13 = c10 .before .before .before in
-    let a = c13 .args in one-asks (a .d) (c10 .if1 .left)
+      let c10 = c .before .before .before .before .before .before .before .before .before .before in
+      let c13 = c10 .before .before .before in
+      let a = c13 .args in one-asks (a .d) (c10 .if1 .left)
 
   add-j : walk-lts.Need-add-j K (at t) walk.Post
   add-j c =
-    let c13 = c .before .before .before .before .before .before .before .before .before .before .before .before .before in
-    let z = c13 .pre in omega (arith, z)
+      let c13 = c .before .before .before .before .before .before .before .before .before .before .before .before .before in
+      let z = c13 .pre in omega (arith, z)
 
   push-requires : walk-lts.Need-push-requires K (at t) walk.Post
   push-requires c κs = tt
@@ -171,9 +211,9 @@ module _ (t : ℕ) where
 
   walk-requires : walk-lts.Need-walk-requires K (at t) walk.Post
   walk-requires c κs =
-    let c20 = c .before .before .before .before .before .before .before .before .before .before .before .before .before .before .before .before .before .before .before .before in
-    let c23 = c20 .before .before .before in
-    let a = c23 .args in half-asks (a .d) (a .i) t (c23 .pre) (c20 .if1 .left)
+      let c20 = c .before .before .before .before .before .before .before .before .before .before .before .before .before .before .before .before .before .before .before .before in
+      let c23 = c20 .before .before .before in
+      let a = c23 .args in half-asks (a .d) (a .i) t (c23 .pre) (c20 .if1 .left)
 
   pen-of-requires : walk-lts.Need-pen-of-requires K (at t) walk.Post
   pen-of-requires c κs = tt
@@ -186,34 +226,34 @@ module _ (t : ℕ) where
 
   same-length-5 : walk-lts.Need-same-length-5 K (at t) walk.Post
   same-length-5 c =
-    let c4 = c .before .before .before .before in
-    let c16 = c4 .before .before .before .before .before .before .before .before .before .before .before .before in
-    c4 .w2 .given ∙ c16 .w .given
+      let c4 = c .before .before .before .before in
+      let c16 = c4 .before .before .before .before .before .before .before .before .before .before .before .before in
+      c4 .w2 .given ∙ c16 .w .given
 
   same-length-6 : walk-lts.Need-same-length-6 K (at t) walk.Post
   same-length-6 c = search needs
 
   returns-4 : walk-lts.Need-returns-4 K (at t) walk.Post
   returns-4 c =
-    let c1 = c .before in
-    let c8 = c1 .before .before .before .before .before .before .before in
-    let c13 = c8 .before .before .before .before .before in
-    let c14 = c13 .before in
-    let c17 = c14 .before .before .before in
-    let c19 = c17 .before .before in
-    let c20 = c19 .before in
-    let c23 = c20 .before .before .before in
-    let c24 = c23 .before in
-    let c25 = c24 .before in
-    let c26 = c25 .before in
-    let c27 = c26 .before in
-    let c28 = c27 .before in
-    let c29 = c28 .before in
-    let c32 = c29 .before .before .before in
-    let a = c32 .args in
-    pair-full (a .op) (a .size) (a .d - 1) (a .i) (a .m) (a .x) (a .y) (a .t1 .now) (a .t2 .now) (a .c .now) (a .t .now) (a .out .now) (a .w .now) (penOf (a .pen)) (a .d) (one-down (a .d) (c29 .if1 .left)) (sym (c28 .is-fixed .ensures (a .t1 .now) (a .t2 .now)) ∙ c27 .if2 .left)
-    (c26 .row-at .result) (c25 .row-at2 .result) (c26 .row-at .ensures) (c25 .row-at2 .ensures) (c24 .key-of .result) (c24 .key-of .ensures) (c23 .slot .result) (c23 .slot .ensures) (c20 .recall .result) (c20 .recall .ensures)
-    (c19 .if3 .left) (c14 .first-edge .result) (c13 .first-edge2 .result) _ _ (c14 .first-edge .ensures) (c13 .first-edge2 .ensures) (c17 .push .ensures) (c8 .walk .ensures) (penOf (c1 .pen-of .result)) (ap penOf (c1 .pen-of .ensures)) (c .if4 .taken)
+      let c1 = c .before in
+      let c8 = c1 .before .before .before .before .before .before .before in
+      let c13 = c8 .before .before .before .before .before in
+      let c14 = c13 .before in
+      let c17 = c14 .before .before .before in
+      let c19 = c17 .before .before in
+      let c20 = c19 .before in
+      let c23 = c20 .before .before .before in
+      let c24 = c23 .before in
+      let c25 = c24 .before in
+      let c26 = c25 .before in
+      let c27 = c26 .before in
+      let c28 = c27 .before in
+      let c29 = c28 .before in
+      let c32 = c29 .before .before .before in
+      let a = c32 .args in
+      pair-full (a .op) (a .size) (a .d - 1) (a .i) (a .m) (a .x) (a .y) (a .t1 .now) (a .t2 .now) (a .c .now) (a .t .now) (a .out .now) (a .w .now) (penOf (a .pen)) (a .d) (one-down (a .d) (c29 .if1 .left)) (sym (c28 .is-fixed .ensures (a .t1 .now) (a .t2 .now)) ∙ c27 .if2 .left)
+      (c26 .get .result) (c25 .get2 .result) (c26 .get .ensures) (c25 .get2 .ensures) (c24 .key-of .result) (c24 .key-of .ensures) (c23 .slot .result) (c23 .slot .ensures) (c20 .recall .result) (c20 .recall .ensures)
+      (c19 .if3 .left) (c14 .first-edge .result) (c13 .first-edge2 .result) _ _ (c14 .first-edge .ensures) (c13 .first-edge2 .ensures) (c17 .push .ensures) (c8 .walk .ensures) (penOf (c1 .pen-of .result)) (ap penOf (c1 .pen-of .ensures)) (c .if4 .taken)
 
   half-of-requires : walk-lts.Need-half-of-requires K (at t) walk.Post
   half-of-requires c κs = tt
@@ -253,74 +293,74 @@ module _ (t : ℕ) where
 
   same-length-7 : walk-lts.Need-same-length-7 K (at t) walk.Post
   same-length-7 c =
-    let c4 = c .before .before .before .before in
-    let c34 = c4 .before .before .before .before .before .before .before .before .before .before .before .before .before .before .before .before .before .before .before .before .before .before .before .before .before .before .before .before .before .before in
-    c4 .t2 .given ∙ c34 .t .given
+      let c4 = c .before .before .before .before in
+      let c34 = c4 .before .before .before .before .before .before .before .before .before .before .before .before .before .before .before .before .before .before .before .before .before .before .before .before .before .before .before .before .before .before in
+      c4 .t2 .given ∙ c34 .t .given
 
   same-length-8 : walk-lts.Need-same-length-8 K (at t) walk.Post
   same-length-8 c =
-    let c3 = c .before .before .before in
-    let c33 = c3 .before .before .before .before .before .before .before .before .before .before .before .before .before .before .before .before .before .before .before .before .before .before .before .before .before .before .before .before .before .before in
-    c3 .out2 .given ∙ c33 .out .given
+      let c3 = c .before .before .before in
+      let c33 = c3 .before .before .before .before .before .before .before .before .before .before .before .before .before .before .before .before .before .before .before .before .before .before .before .before .before .before .before .before .before .before in
+      c3 .out2 .given ∙ c33 .out .given
 
   same-length-9 : walk-lts.Need-same-length-9 K (at t) walk.Post
   same-length-9 c =
-    let c1 = c .before in
-    let c14 = c1 .before .before .before .before .before .before .before .before .before .before .before .before .before in
-    let c18 = c14 .before .before .before .before in
-    let c31 = c18 .before .before .before .before .before .before .before .before .before .before .before .before .before in
-    let c43 = c31 .before .before .before .before .before .before .before .before .before .before .before .before in
-    c1 .w5 .given ∙ c14 .w4 .given ∙ c18 .w3 .given ∙ c31 .w2 .given ∙ c43 .w .given
+      let c1 = c .before in
+      let c14 = c1 .before .before .before .before .before .before .before .before .before .before .before .before .before in
+      let c18 = c14 .before .before .before .before in
+      let c31 = c18 .before .before .before .before .before .before .before .before .before .before .before .before .before in
+      let c43 = c31 .before .before .before .before .before .before .before .before .before .before .before .before in
+      c1 .w5 .given ∙ c14 .w4 .given ∙ c18 .w3 .given ∙ c31 .w2 .given ∙ c43 .w .given
 
   same-length-10 : walk-lts.Need-same-length-10 K (at t) walk.Post
   same-length-10 c =
-    let c29 = c .before .before .before .before .before .before .before .before .before .before .before .before .before .before .before .before .before .before .before .before .before .before .before .before .before .before .before .before .before in
-    c29 .c .given
+      let c29 = c .before .before .before .before .before .before .before .before .before .before .before .before .before .before .before .before .before .before .before .before .before .before .before .before .before .before .before .before .before in
+      c29 .c .given
 
   returns-5 : walk-lts.Need-returns-5 K (at t) walk.Post
   returns-5 c =
-    let c5 = c .before .before .before .before .before in
-    let c9 = c5 .before .before .before .before in
-    let c10 = c9 .before in
-    let c11 = c10 .before in
-    let c12 = c11 .before in
-    let c15 = c12 .before .before .before in
-    let c19 = c15 .before .before .before .before in
-    let c21 = c19 .before .before in
-    let c22 = c21 .before in
-    let c23 = c22 .before in
-    let c24 = c23 .before in
-    let c25 = c24 .before in
-    let c26 = c25 .before in
-    let c27 = c26 .before in
-    let c28 = c27 .before in
-    let c35 = c28 .before .before .before .before .before .before .before in
-    let c40 = c35 .before .before .before .before .before in
-    let c41 = c40 .before in
-    let c44 = c41 .before .before .before in
-    let c46 = c44 .before .before in
-    let c47 = c46 .before in
-    let c50 = c47 .before .before .before in
-    let c51 = c50 .before in
-    let c52 = c51 .before in
-    let c53 = c52 .before in
-    let c54 = c53 .before in
-    let c55 = c54 .before in
-    let c56 = c55 .before in
-    let c59 = c56 .before .before .before in
-    let a = c59 .args in
-    pair-again (a .op) (a .size) (a .d - 1) (a .i) (a .m) (a .x) (a .y) (a .t1 .now) (a .t2 .now) (a .c .now) (a .t .now) (a .out .now) (a .w .now) (penOf (a .pen)) (a .d) (one-down (a .d) (c56 .if1 .left)) (sym (c55 .is-fixed .ensures (a .t1 .now) (a .t2 .now)) ∙ c54 .if2 .left)
-    (c53 .row-at .result) (c52 .row-at2 .result) (c53 .row-at .ensures) (c52 .row-at2 .ensures) (c51 .key-of .result) (c51 .key-of .ensures) (c50 .slot .result) (c50 .slot .ensures) (c47 .recall .result) (c47 .recall .ensures)
-    (c46 .if3 .left) (c41 .first-edge .result) (c40 .first-edge2 .result) _ _ (c41 .first-edge .ensures) (c40 .first-edge2 .ensures) (c44 .push .ensures) (c35 .walk .ensures)
-    (halfOf (c26 .half-of .result)) (penOf (c28 .pen-of .result)) (c25 .both-pass .result) (c24 .second-edge .result) (c23 .second-edge2 .result) (c22 .operate3 .result) (c21 .differs .result) _ _ _ _
-    (ap halfOf (c26 .half-of .ensures)) (ap penOf (c28 .pen-of .ensures)) (c27 .if4 .left) (c25 .both-pass .ensures) (c24 .second-edge .ensures) (c23 .second-edge2 .ensures) (c22 .operate3 .ensures) (c21 .differs .ensures) (c19 .wait .ensures) (c15 .push-turn .ensures) (c5 .second .ensures)
-    (c12 .is-alike .result) (c12 .is-alike .ensures) (c11 .if5 .taken) (again-in (c9 .kept4 .result) (c10 .numbered .result) (c26 .half-of .result) (c28 .pen-of .result) (c22 .operate3 .result) _ _ _ _ (c9 .kept4 .ensures) (c10 .numbered .ensures))
+      let c5 = c .before .before .before .before .before in
+      let c9 = c5 .before .before .before .before in
+      let c10 = c9 .before in
+      let c11 = c10 .before in
+      let c12 = c11 .before in
+      let c15 = c12 .before .before .before in
+      let c19 = c15 .before .before .before .before in
+      let c21 = c19 .before .before in
+      let c22 = c21 .before in
+      let c23 = c22 .before in
+      let c24 = c23 .before in
+      let c25 = c24 .before in
+      let c26 = c25 .before in
+      let c27 = c26 .before in
+      let c28 = c27 .before in
+      let c35 = c28 .before .before .before .before .before .before .before in
+      let c40 = c35 .before .before .before .before .before in
+      let c41 = c40 .before in
+      let c44 = c41 .before .before .before in
+      let c46 = c44 .before .before in
+      let c47 = c46 .before in
+      let c50 = c47 .before .before .before in
+      let c51 = c50 .before in
+      let c52 = c51 .before in
+      let c53 = c52 .before in
+      let c54 = c53 .before in
+      let c55 = c54 .before in
+      let c56 = c55 .before in
+      let c59 = c56 .before .before .before in
+      let a = c59 .args in
+      pair-again (a .op) (a .size) (a .d - 1) (a .i) (a .m) (a .x) (a .y) (a .t1 .now) (a .t2 .now) (a .c .now) (a .t .now) (a .out .now) (a .w .now) (penOf (a .pen)) (a .d) (one-down (a .d) (c56 .if1 .left)) (sym (c55 .is-fixed .ensures (a .t1 .now) (a .t2 .now)) ∙ c54 .if2 .left)
+      (c53 .get .result) (c52 .get2 .result) (c53 .get .ensures) (c52 .get2 .ensures) (c51 .key-of .result) (c51 .key-of .ensures) (c50 .slot .result) (c50 .slot .ensures) (c47 .recall .result) (c47 .recall .ensures)
+      (c46 .if3 .left) (c41 .first-edge .result) (c40 .first-edge2 .result) _ _ (c41 .first-edge .ensures) (c40 .first-edge2 .ensures) (c44 .push .ensures) (c35 .walk .ensures)
+      (halfOf (c26 .half-of .result)) (penOf (c28 .pen-of .result)) (c25 .both-pass .result) (c24 .second-edge .result) (c23 .second-edge2 .result) (c22 .operate3 .result) (c21 .differs .result) _ _ _ _
+      (ap halfOf (c26 .half-of .ensures)) (ap penOf (c28 .pen-of .ensures)) (c27 .if4 .left) (c25 .both-pass .ensures) (c24 .second-edge .ensures) (c23 .second-edge2 .ensures) (c22 .operate3 .ensures) (c21 .differs .ensures) (c19 .wait .ensures) (c15 .push-turn .ensures) (c5 .second .ensures)
+      (c12 .is-alike .result) (c12 .is-alike .ensures) (c11 .if5 .taken) (again-in (c9 .kept4 .result) (c10 .numbered .result) (c26 .half-of .result) (c28 .pen-of .result) (c22 .operate3 .result) _ _ _ _ (c9 .kept4 .ensures) (c10 .numbered .ensures))
 
   walk-requires-2 : walk-lts.Need-walk-requires-2 K (at t) walk.Post
   walk-requires-2 c κs =
-    let c49 = c .before .before .before .before .before .before .before .before .before .before .before .before .before .before .before .before .before .before .before .before .before .before .before .before .before .before .before .before .before .before .before .before .before .before .before .before .before .before .before .before .before .before .before .before .before .before .before .before .before in
-    let c52 = c49 .before .before .before in
-    let a = c52 .args in half-asks (a .d) (a .i) t (c52 .pre) (c49 .if1 .left)
+      let c49 = c .before .before .before .before .before .before .before .before .before .before .before .before .before .before .before .before .before .before .before .before .before .before .before .before .before .before .before .before .before .before .before .before .before .before .before .before .before .before .before .before .before .before .before .before .before .before .before .before .before in
+      let c52 = c49 .before .before .before in
+      let a = c52 .args in half-asks (a .d) (a .i) t (c52 .pre) (c49 .if1 .left)
 
   second-requires-2 : walk-lts.Need-second-requires-2 K (at t) walk.Post
   second-requires-2 c κs = tt
@@ -330,72 +370,72 @@ module _ (t : ℕ) where
 
   same-length-11 : walk-lts.Need-same-length-11 K (at t) walk.Post
   same-length-11 c =
-    let c7 = c .before .before .before .before .before .before .before in
-    let c17 = c7 .before .before .before .before .before .before .before .before .before .before in
-    let c46 = c17 .before .before .before .before .before .before .before .before .before .before .before .before .before .before .before .before .before .before .before .before .before .before .before .before .before .before .before .before .before in
-    c7 .t4 .given ∙ c17 .t3 .given ∙ c46 .t .given
+      let c7 = c .before .before .before .before .before .before .before in
+      let c17 = c7 .before .before .before .before .before .before .before .before .before .before in
+      let c46 = c17 .before .before .before .before .before .before .before .before .before .before .before .before .before .before .before .before .before .before .before .before .before .before .before .before .before .before .before .before .before in
+      c7 .t4 .given ∙ c17 .t3 .given ∙ c46 .t .given
 
   same-length-12 : walk-lts.Need-same-length-12 K (at t) walk.Post
   same-length-12 c =
-    let c6 = c .before .before .before .before .before .before in
-    let c16 = c6 .before .before .before .before .before .before .before .before .before .before in
-    let c45 = c16 .before .before .before .before .before .before .before .before .before .before .before .before .before .before .before .before .before .before .before .before .before .before .before .before .before .before .before .before .before in
-    c6 .out4 .given ∙ c16 .out3 .given ∙ c45 .out .given
+      let c6 = c .before .before .before .before .before .before in
+      let c16 = c6 .before .before .before .before .before .before .before .before .before .before in
+      let c45 = c16 .before .before .before .before .before .before .before .before .before .before .before .before .before .before .before .before .before .before .before .before .before .before .before .before .before .before .before .before .before in
+      c6 .out4 .given ∙ c16 .out3 .given ∙ c45 .out .given
 
   same-length-13 : walk-lts.Need-same-length-13 K (at t) walk.Post
   same-length-13 c =
-    let c4 = c .before .before .before .before in
-    let c14 = c4 .before .before .before .before .before .before .before .before .before .before in
-    let c26 = c14 .before .before .before .before .before .before .before .before .before .before .before .before in
-    let c30 = c26 .before .before .before .before in
-    let c43 = c30 .before .before .before .before .before .before .before .before .before .before .before .before .before in
-    let c55 = c43 .before .before .before .before .before .before .before .before .before .before .before .before in
-    c4 .w7 .given ∙ c14 .w6 .given ∙ c26 .w4 .given ∙ c30 .w3 .given ∙ c43 .w2 .given ∙ c55 .w .given
+      let c4 = c .before .before .before .before in
+      let c14 = c4 .before .before .before .before .before .before .before .before .before .before in
+      let c26 = c14 .before .before .before .before .before .before .before .before .before .before .before .before in
+      let c30 = c26 .before .before .before .before in
+      let c43 = c30 .before .before .before .before .before .before .before .before .before .before .before .before .before in
+      let c55 = c43 .before .before .before .before .before .before .before .before .before .before .before .before in
+      c4 .w7 .given ∙ c14 .w6 .given ∙ c26 .w4 .given ∙ c30 .w3 .given ∙ c43 .w2 .given ∙ c55 .w .given
 
   same-length-14 : walk-lts.Need-same-length-14 K (at t) walk.Post
   same-length-14 c =
-    let c12 = c .before .before .before .before .before .before .before .before .before .before .before .before in
-    let c41 = c12 .before .before .before .before .before .before .before .before .before .before .before .before .before .before .before .before .before .before .before .before .before .before .before .before .before .before .before .before .before in
-    c .c3 .given ∙ c12 .c2 .given ∙ c41 .c .given
+      let c12 = c .before .before .before .before .before .before .before .before .before .before .before .before in
+      let c41 = c12 .before .before .before .before .before .before .before .before .before .before .before .before .before .before .before .before .before .before .before .before .before .before .before .before .before .before .before .before .before in
+      c .c3 .given ∙ c12 .c2 .given ∙ c41 .c .given
 
   returns-6 : walk-lts.Need-returns-6 K (at t) walk.Post
   returns-6 c =
-    let c1 = c .before in
-    let c8 = c1 .before .before .before .before .before .before .before in
-    let c18 = c8 .before .before .before .before .before .before .before .before .before .before in
-    let c23 = c18 .before .before .before .before .before in
-    let c24 = c23 .before in
-    let c27 = c24 .before .before .before in
-    let c31 = c27 .before .before .before .before in
-    let c33 = c31 .before .before in
-    let c34 = c33 .before in
-    let c35 = c34 .before in
-    let c36 = c35 .before in
-    let c37 = c36 .before in
-    let c38 = c37 .before in
-    let c39 = c38 .before in
-    let c40 = c39 .before in
-    let c47 = c40 .before .before .before .before .before .before .before in
-    let c52 = c47 .before .before .before .before .before in
-    let c53 = c52 .before in
-    let c56 = c53 .before .before .before in
-    let c58 = c56 .before .before in
-    let c59 = c58 .before in
-    let c62 = c59 .before .before .before in
-    let c63 = c62 .before in
-    let c64 = c63 .before in
-    let c65 = c64 .before in
-    let c66 = c65 .before in
-    let c67 = c66 .before in
-    let c68 = c67 .before in
-    let c71 = c68 .before .before .before in
-    let a = c71 .args in
-    pair-on (a .op) (a .size) (a .d - 1) (a .i) (a .m) (a .x) (a .y) (a .t1 .now) (a .t2 .now) (a .c .now) (a .t .now) (a .out .now) (a .w .now) (penOf (a .pen)) (a .d) (one-down (a .d) (c68 .if1 .left)) (sym (c67 .is-fixed .ensures (a .t1 .now) (a .t2 .now)) ∙ c66 .if2 .left)
-    (c65 .row-at .result) (c64 .row-at2 .result) (c65 .row-at .ensures) (c64 .row-at2 .ensures) (c63 .key-of .result) (c63 .key-of .ensures) (c62 .slot .result) (c62 .slot .ensures) (c59 .recall .result) (c59 .recall .ensures)
-    (c58 .if3 .left) (c53 .first-edge .result) (c52 .first-edge2 .result) _ _ (c53 .first-edge .ensures) (c52 .first-edge2 .ensures) (c56 .push .ensures) (c47 .walk .ensures)
-    (halfOf (c38 .half-of .result)) (penOf (c40 .pen-of .result)) (c37 .both-pass .result) (c36 .second-edge .result) (c35 .second-edge2 .result) (c34 .operate3 .result) (c33 .differs .result) _ _ _ _
-    (ap halfOf (c38 .half-of .ensures)) (ap penOf (c40 .pen-of .ensures)) (c39 .if4 .left) (c37 .both-pass .ensures) (c36 .second-edge .ensures) (c35 .second-edge2 .ensures) (c34 .operate3 .ensures) (c33 .differs .ensures) (c31 .wait .ensures) (c27 .push-turn .ensures) (c8 .second2 .ensures)
-    (c24 .is-alike .result) (c24 .is-alike .ensures) (c23 .if5 .left) (c18 .walk2 .ensures) _ (c1 .note .ensures)
+      let c1 = c .before in
+      let c8 = c1 .before .before .before .before .before .before .before in
+      let c18 = c8 .before .before .before .before .before .before .before .before .before .before in
+      let c23 = c18 .before .before .before .before .before in
+      let c24 = c23 .before in
+      let c27 = c24 .before .before .before in
+      let c31 = c27 .before .before .before .before in
+      let c33 = c31 .before .before in
+      let c34 = c33 .before in
+      let c35 = c34 .before in
+      let c36 = c35 .before in
+      let c37 = c36 .before in
+      let c38 = c37 .before in
+      let c39 = c38 .before in
+      let c40 = c39 .before in
+      let c47 = c40 .before .before .before .before .before .before .before in
+      let c52 = c47 .before .before .before .before .before in
+      let c53 = c52 .before in
+      let c56 = c53 .before .before .before in
+      let c58 = c56 .before .before in
+      let c59 = c58 .before in
+      let c62 = c59 .before .before .before in
+      let c63 = c62 .before in
+      let c64 = c63 .before in
+      let c65 = c64 .before in
+      let c66 = c65 .before in
+      let c67 = c66 .before in
+      let c68 = c67 .before in
+      let c71 = c68 .before .before .before in
+      let a = c71 .args in
+      pair-on (a .op) (a .size) (a .d - 1) (a .i) (a .m) (a .x) (a .y) (a .t1 .now) (a .t2 .now) (a .c .now) (a .t .now) (a .out .now) (a .w .now) (penOf (a .pen)) (a .d) (one-down (a .d) (c68 .if1 .left)) (sym (c67 .is-fixed .ensures (a .t1 .now) (a .t2 .now)) ∙ c66 .if2 .left)
+      (c65 .get .result) (c64 .get2 .result) (c65 .get .ensures) (c64 .get2 .ensures) (c63 .key-of .result) (c63 .key-of .ensures) (c62 .slot .result) (c62 .slot .ensures) (c59 .recall .result) (c59 .recall .ensures)
+      (c58 .if3 .left) (c53 .first-edge .result) (c52 .first-edge2 .result) _ _ (c53 .first-edge .ensures) (c52 .first-edge2 .ensures) (c56 .push .ensures) (c47 .walk .ensures)
+      (halfOf (c38 .half-of .result)) (penOf (c40 .pen-of .result)) (c37 .both-pass .result) (c36 .second-edge .result) (c35 .second-edge2 .result) (c34 .operate3 .result) (c33 .differs .result) _ _ _ _
+      (ap halfOf (c38 .half-of .ensures)) (ap penOf (c40 .pen-of .ensures)) (c39 .if4 .left) (c37 .both-pass .ensures) (c36 .second-edge .ensures) (c35 .second-edge2 .ensures) (c34 .operate3 .ensures) (c33 .differs .ensures) (c31 .wait .ensures) (c27 .push-turn .ensures) (c8 .second2 .ensures)
+      (c24 .is-alike .result) (c24 .is-alike .ensures) (c23 .if5 .left) (c18 .walk2 .ensures) _ (c1 .note .ensures)
 
 pub +walk-spec : {M : Type 1} → statement M
 +walk-spec = close μ λ t. walk-lts.spec (K t) (at t) walk.Post
@@ -408,8 +448,8 @@ pub +walk-spec : {M : Type 1} → statement M
     (constant-requires-2 t)
     (kept-requires-2 t)
     (returns-2 t)
-    (row-at-requires t)
-    (row-at-requires-2 t)
+    (get-requires t)
+    (get-requires-2 t)
     (key-of-requires t)
     (slot-requires t)
     (recall-requires t)

@@ -1,6 +1,6 @@
 -- The first block of the stream, settled if it is all of it. Assumes nothing.
 use mathlib.Core.Path.{_∙_}
-use Rattle.combining.specs.EdgeMade.{begun-made}
+use Rattle.text_walk.specs.FeedMade.{begun-code}
 use borrow.Author.Needs.{needs}
 use Rattle.text_walk.proofs.begin.Statement.{statement}
 use Rattle.text_walk.proofs.begin.Tie as tie
@@ -18,7 +18,7 @@ same-length : tie.Need-same-length
 same-length c = search needs
 
 returns : tie.Need-returns
-returns c = c .settle .ensures (c .before .before .before .before .before .before .args .n) (c .before .before .before .before .before .before .args .s .now) _ ∙ begun-made (c .before .before .before .before .before .before .args .n) (c .before .before .before .before .before .before .args .s .now) (c .before .before .before .before .before .before .args .t .now) (c .before .before .before .first-cursor .result) _ (c .before .before .before .first-cursor .ensures) (c .before .before .next-block .ensures)
+returns c = c .settle .ensures (c .before .before .before .before .before .before .before .args .n) _ (c .before .before .before .before .before .before .before .args .s .now) _ ∙ begun-code (c .before .before .before .before .before .before .before .args .n) (c .before .before .before .before .before .before .before .args .s .now) (c .before .before .before .before .before .before .before .args .o .now) (c .before .before .before .before .before .before .before .args .t .now) (c .before .before .before .first-cursor .result) _ (c .before .before .before .first-cursor .ensures) (c .before .before .next-block .ensures)
 
 pub begin-spec : {M : Type 1} → statement M
 begin-spec = tie.close (tie.spec first-cursor-requires next-block-requires settle-requires same-length returns)

@@ -2,7 +2,7 @@
 use mathlib.Core.Path.{_∙_}
 use Rattle.combining.specs.Tapes.{deepOf, sourceOf, nextTape}
 use Rattle.combining.specs.EdgeMade.{first-inside}
-use Rattle.text_walk.specs.Cite.{feedOf}
+use Rattle.text_walk.specs.Cite.{feedOn}
 use Rattle.text_walk.specs.FeedMade.{first-gone}
 use borrow.Author.Needs.{needs}
 use Rattle.text_walk.proofs.first_feed.Statement.{statement}
@@ -15,13 +15,13 @@ settle-requires : tie.Need-settle-requires
 settle-requires c κs = tt
 
 returns : tie.Need-returns
-returns c = λ n s. c .settle .ensures n s (c .before .before .args .t .now) ∙ first-inside deepOf sourceOf (nextTape n) (c .before .before .args .i) (feedOf (c .before .before .args .f) (c .before .before .args .b) s (c .before .before .args .t .now)) (c .before .if1 .taken)
+returns c = λ n o s. c .settle .ensures n o s (c .before .before .args .t .now) ∙ first-inside deepOf sourceOf (nextTape n) (c .before .before .args .i) (feedOn (c .before .before .args .f) (c .before .before .args .b) o s (c .before .before .args .t .now)) (c .before .if1 .taken)
 
 edge-of-requires : tie.Need-edge-of-requires
 edge-of-requires c κs = tt
 
-row-at-requires : tie.Need-row-at-requires
-row-at-requires c κs = tt
+get-requires : tie.Need-get-requires
+get-requires c κs = tt
 
 first-edge-requires : tie.Need-first-edge-requires
 first-edge-requires c κs = tt
@@ -30,7 +30,7 @@ at-edge-requires : tie.Need-at-edge-requires
 at-edge-requires c κs = tt
 
 returns-2 : tie.Need-returns-2
-returns-2 c = λ n s. first-gone n (c .before .before .before .before .before .args .i) s (c .before .before .before .before .before .args .t .now) (c .before .before .before .before .before .args .f) (c .at-edge .result) (c .before .before .before .before .before .args .b) (c .before .first-edge .result) (c .before .before .before .edge-of .result) (c .at-edge .ensures) (c .before .before .before .before .if1 .left) (c .before .before .before .edge-of .ensures) (c .before .first-edge .ensures (c .before .before .before .before .before .args .t .now) (c .before .before .row-at .ensures))
+returns-2 c = λ n o s. first-gone n (c .before .before .before .before .before .args .i) o s (c .before .before .before .before .before .args .t .now) (c .before .before .before .before .before .args .f) (c .at-edge .result) (c .before .before .before .before .before .args .b) (c .before .first-edge .result) (c .before .before .before .edge-of .result) (c .at-edge .ensures) (c .before .before .before .before .if1 .left) (c .before .before .before .edge-of .ensures) (c .before .first-edge .ensures (c .before .before .before .before .before .args .t .now) (c .before .before .get .ensures))
 
 pub first-feed-spec : {M : Type 1} → statement M
-first-feed-spec = tie.close (tie.spec add-settle settle-requires returns edge-of-requires row-at-requires first-edge-requires at-edge-requires returns-2)
+first-feed-spec = tie.close (tie.spec add-settle settle-requires returns edge-of-requires get-requires first-edge-requires at-edge-requires returns-2)

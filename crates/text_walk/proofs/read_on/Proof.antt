@@ -1,5 +1,6 @@
 -- A block further inside the text, else none. Assumes nothing.
 use mathlib.Core.Path.{refl}
+use Rattle.reader.specs.Lent.{blockIn}
 use Rattle.text_walk.specs.FeedMade.{reads-next, reads-none}
 use borrow.Author.Needs.{needs}
 use Rattle.text_walk.proofs.read_on.Statement.{statement}
@@ -12,10 +13,10 @@ same-length : tie.Need-same-length
 same-length c = search needs
 
 returns : tie.Need-returns
-returns c = reads-next (c .before .before .before .before .before .before .args .n) (c .before .before .before .before .before .before .args .s .now) (c .before .before .before .before .before .before .args .t .now) _ (c .before .before .before .before .before .before .args .f) (c .before .before .before .before .before .before .args .b) (c .before .next-block .result) _ (c .before .before .before .before .if1 .taken) refl (c .before .next-block .ensures)
+returns c = reads-next (c .before .before .before .before .before .before .before .args .n) (c .before .before .before .before .before .before .before .args .s .now) (c .before .before .before .before .before .before .before .args .t .now) _ (c .before .before .before .before .before .before .before .args .f) (blockIn (c .before .before .before .before .before .before .before .args .b) (c .before .before .before .before .before .before .before .args .o .now)) _ _ (c .before .before .before .before .before .if1 .taken) refl (c .before .next-block .ensures)
 
 returns-2 : tie.Need-returns-2
-returns-2 c = reads-none (c .before .before .args .n) (c .before .before .args .s .now) (c .before .before .args .t .now) (c .before .before .args .f) (c .before .before .args .b) (c .if1 .left)
+returns-2 c = reads-none (c .before .before .args .n) (c .before .before .args .s .now) (c .before .before .args .t .now) (c .before .before .args .f) (blockIn (c .before .before .args .b) (c .before .before .args .o .now)) (c .if1 .left)
 
 pub read-on-spec : {M : Type 1} → statement M
 read-on-spec = tie.close (tie.spec next-block-requires same-length returns returns-2)
