@@ -6,7 +6,7 @@ use crate::case::{Call, Case, Combine};
 use crate::streams::{changed, long_stream, stream_of, valid};
 use walk::random::Random;
 use walk::reading::read;
-use walk::run::{combined_text, count_blocks};
+use walk::run::combined_text;
 use walk::shapes::{cut, shaped, small_size};
 use walk::writing::write_words;
 
@@ -25,8 +25,8 @@ const FAULTS: usize = 12;
 /// Pairs with more than 16 options.
 const MANY_OPTIONS: usize = 400;
 
-/// Above 16 options the walk takes pairs of at most so many blocks.
-pub const MOST_BLOCKS: u64 = 2000;
+/// A text that is longer is written to outputs of this length.
+const MOST_OUTPUT: usize = 65_536;
 
 /// For telling this sequence of numbers from that of the other cases of a seed.
 const SALT: u64 = 0x636f_6d62_696e;
@@ -245,7 +245,7 @@ impl Combines {
         }
     }
 
-    /// Streams of few blocks.
+    /// Streams of few nodes.
     fn many_options(&mut self) {
         let n = 17 + self.random.below(16) as u32;
         let streams = [(); 2].map(|()| match self.random.below(4) {
@@ -256,10 +256,8 @@ impl Combines {
             }
             _ => shaped(&mut self.random, n, None),
         });
-        if is_small(n, &streams) {
-            let case = self.taken(n, streams);
-            self.ready.push(case);
-        }
+        let case = self.taken(n, streams);
+        self.ready.push(case);
     }
 
     // ---- Arguments
@@ -297,17 +295,8 @@ impl Combines {
         size as u32
     }
 
-    /// An output for a text of some length: empty, too short, just short, exact, or longer.
     fn output(&mut self, text: usize) -> usize {
-        match self.random.below(12) {
-            0 => 0,
-            1 => self.random.index(7),
-            2..=3 => self.random.index(text + 1),
-            4 => text.saturating_sub(1),
-            5..=6 => text,
-            7 => text + 1,
-            _ => text + 2 + self.random.index(30),
-        }
+        output_for(&mut self.random, text)
     }
 }
 
@@ -347,18 +336,26 @@ pub fn combine(n: u32, op: u32, size: u32, streams: [Vec<u8>; 2], output: usize)
     }
 }
 
-/// The length of what the walk writes; 20 if it turns a stream down.
-fn text(n: u32, op: u32, size: u32, streams: &[Vec<u8>; 2]) -> usize {
-    match (read(n, &streams[0]), read(n, &streams[1])) {
-        (Ok(one), Ok(two)) => combined_text(op.into(), size.into(), &one, &two).len(),
-        _ => 20,
+/// An output for a text of some length: empty, too short, just short, exact, or longer.
+pub fn output_for(random: &mut Random, text: usize) -> usize {
+    match random.below(12) {
+        0 => 0,
+        1 => random.index(7),
+        2..=3 => random.index(text + 1),
+        4 => text.saturating_sub(1),
+        5..=6 => text,
+        7 => text + 1,
+        _ => text + 2 + random.index(30),
     }
 }
 
-/// The walk turns a stream down, or both have few blocks.
-pub fn is_small(n: u32, streams: &[Vec<u8>; 2]) -> bool {
+/// The length of what the walk writes, as far as the longest output; 20 if it turns a stream down.
+fn text(n: u32, op: u32, size: u32, streams: &[Vec<u8>; 2]) -> usize {
     match (read(n, &streams[0]), read(n, &streams[1])) {
-        (Ok(one), Ok(two)) => count_blocks(&one, &two, MOST_BLOCKS).is_some(),
-        _ => true,
+        (Ok(one), Ok(two)) => {
+            let text = combined_text(op.into(), size.into(), &one, &two, MOST_OUTPUT);
+            text.len().min(MOST_OUTPUT)
+        }
+        _ => 20,
     }
 }

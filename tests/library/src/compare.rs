@@ -4,6 +4,7 @@ use crate::case::{Call, Case, Combine};
 use crate::foreign::{self, Checked, Decided, Filled, Place, Stepped, Stream, Written};
 use crate::lent::{Lent, Memory};
 use std::fmt::Debug;
+use std::time::{Duration, Instant};
 use walk::calls::{check, combine, decide, fill, write, Decision};
 use walk::reader::{Element, Reader, Step};
 use walk::refusal::Refusal;
@@ -13,12 +14,15 @@ use walk::run::Ending;
 const GARBAGE: u64 = 7;
 
 /// What the walk says of a case. The cause is 0 if it is taken (for the reader: if the bytes ran out); the
-/// ending is that of a call that writes and is taken.
-#[derive(Clone, Copy, Debug, Default)]
+/// ending is that of a call that writes and is taken, and the text what it writes. `time` is how long the library
+/// combined.
+#[derive(Clone, Debug, Default)]
 pub struct Outcome {
     pub cause: usize,
     pub stream: usize,
     pub ending: usize,
+    pub text: Vec<u8>,
+    pub time: Duration,
 }
 
 impl Outcome {
@@ -30,13 +34,16 @@ impl Outcome {
         }
     }
 
-    fn of_writing(answer: Written) -> Outcome {
+    fn of_writing(answer: Written, mut output: Vec<u8>) -> Outcome {
         let [cause, stream, ending] =
             [answer.cause, answer.stream, answer.ending].map(|number| number as usize);
+        output.truncate(answer.written as usize);
         Outcome {
             cause,
             stream,
             ending,
+            text: output,
+            time: Duration::ZERO,
         }
     }
 }
@@ -49,8 +56,8 @@ pub fn compare(case: &Case) -> Result<Outcome, String> {
         Call::Decide { word } => Outcome::of_cause(compare_decide(case, *word, &mut memory)?),
         Call::Fill { .. } => Outcome::of_cause(compare_fill(case, &mut memory)?),
         Call::Reader => Outcome::of_cause(compare_reader(case, &mut memory)?),
-        Call::Write { size, .. } => Outcome::of_writing(compare_write(case, *size, &mut memory)?),
-        Call::Combine(of) => Outcome::of_writing(compare_combine(case, of, &mut memory)?),
+        Call::Write { size, .. } => compare_write(case, *size, &mut memory)?,
+        Call::Combine(of) => compare_combine(case, of, &mut memory)?,
     };
     if !memory.streams.iter().all(Lent::unchanged) {
         return Err("what was lent to be read or what stands beside it was changed".to_string());
@@ -138,7 +145,7 @@ fn compare_fill(case: &Case, memory: &mut Memory) -> Result<u32, String> {
     Ok(expected.cause)
 }
 
-fn compare_write(case: &Case, size: u32, memory: &mut Memory) -> Result<Written, String> {
+fn compare_write(case: &Case, size: u32, memory: &mut Memory) -> Result<Outcome, String> {
     let mut table = vec![GARBAGE; case.records];
     let mut output = memory.output.was().to_vec();
     let answer = write(
@@ -155,10 +162,10 @@ fn compare_write(case: &Case, size: u32, memory: &mut Memory) -> Result<Written,
     same(expected, given)?;
     same_bytes("output", &memory.output, &output)?;
     same_table("work table", &memory.nodes, is_zero(&table))?;
-    Ok(expected)
+    Ok(Outcome::of_writing(expected, output))
 }
 
-fn compare_combine(case: &Case, of: &Combine, memory: &mut Memory) -> Result<Written, String> {
+fn compare_combine(case: &Case, of: &Combine, memory: &mut Memory) -> Result<Outcome, String> {
     let [mut one, mut two, mut three] = case.tables().map(|records| vec![GARBAGE; records]);
     let mut output = memory.output.was().to_vec();
     let answer = combine(
@@ -170,10 +177,14 @@ fn compare_combine(case: &Case, of: &Combine, memory: &mut Memory) -> Result<Wri
         [&mut one, &mut two, &mut three],
     );
     let expected = written(answer);
-    same(expected, combined(case, of, memory))?;
+    let start = Instant::now();
+    let given = combined(case, of, memory);
+    let time = start.elapsed();
+    same(expected, given)?;
     same_bytes("output", &memory.output, &output)?;
     same_tables(memory, [one, two, three].map(|table| is_zero(&table)))?;
-    Ok(expected)
+    let outcome = Outcome::of_writing(expected, output);
+    Ok(Outcome { time, ..outcome })
 }
 
 /// What the library answers when it combines.

@@ -2,11 +2,14 @@
 //! as long. Both are run by the library alone; their written bytes and their streams are decided by the library too.
 
 use crate::case::{Call, Case};
-use crate::combines::{combine, is_small};
+use crate::combines::combine;
 use crate::compare::combined;
 use crate::foreign::{self, Record, Stream, Table};
 use crate::lent::Memory;
 use crate::streams::valid;
+use std::ops::RangeInclusive;
+use walk::dense::{rule, selected, stream, stream_of_size, SIZES};
+use walk::diagrams::Diagrams;
 use walk::random::Random;
 use walk::run::operate;
 use walk::shapes::{cut, small_size};
@@ -63,7 +66,7 @@ pub fn demand(pair: &Pair, met: &mut Met) -> Result<(), String> {
     }
     met.more_bytes += usize::from(second.bytes.len() > first.bytes.len());
     met.more_words += usize::from(second.covered > first.covered);
-    for word in words(pair) {
+    for word in words(pair, [first.covered, second.covered]) {
         let early = decided(&pair.first, &first, word)?;
         let late = decided(&pair.second, &second, word)?;
         if early.is_some() && late != early {
@@ -75,14 +78,17 @@ pub fn demand(pair: &Pair, met: &mut Met) -> Result<(), String> {
     Ok(())
 }
 
-/// The words to look at: all, or some by chance that only the pair decides, with the first and the last.
-fn words(pair: &Pair) -> Vec<u64> {
+/// The words to look at: all, or some by chance that only the pair decides, with the first and the last and those
+/// before and behind the covered counts.
+fn words(pair: &Pair, covered: [u64; 2]) -> Vec<u64> {
     let all = 1u64 << pair.first.n;
     if pair.first.n <= ALL_WORDS {
         return (0..all).collect();
     }
     let mut random = Random::new(pair.second.hash());
     let mut words = vec![0, all - 1];
+    let ends = covered.map(|count| [count.saturating_sub(1), count]);
+    words.extend(ends.into_iter().flatten().filter(|&word| word < all));
     // Low ones as well, which are covered sooner.
     words.extend(
         (0..SOME_WORDS).map(|place| random.below(all >> (place % u64::from(pair.first.n)))),
@@ -154,6 +160,8 @@ fn verdict(n: u32, bytes: &[u8], word: u64) -> Option<Option<bool>> {
 pub struct Pairs {
     random: Random,
     left: usize,
+    /// The option counts of dense rules, if the pairs are of such.
+    dense: Option<RangeInclusive<u32>>,
 }
 
 impl Pairs {
@@ -161,12 +169,25 @@ impl Pairs {
         Pairs {
             random: Random::new(seed ^ SALT),
             left: count,
+            dense: None,
+        }
+    }
+
+    /// Dense rules with so many options.
+    pub fn dense(seed: u64, count: usize, options: RangeInclusive<u32>) -> Pairs {
+        Pairs {
+            random: Random::new(seed ^ SALT ^ u64::MAX),
+            left: count,
+            dense: Some(options),
         }
     }
 
     /// The next, if there is one.
     pub fn pair(&mut self) -> Option<Pair> {
         self.left = self.left.checked_sub(1)?;
+        if let Some(options) = self.dense.clone() {
+            return Some(self.dense_pair(options));
+        }
         let (n, later) = self.streams();
         let earlier = later.each_ref().map(|stream| {
             let end = self.random.index(stream.len() + 1);
@@ -184,18 +205,67 @@ impl Pairs {
         })
     }
 
-    /// The second run's streams.
-    fn streams(&mut self) -> (u32, [Vec<u8>; 2]) {
-        loop {
-            let n = match self.random.below(8) {
-                0 => 6 + self.random.below(27) as u32,
-                _ => self.random.below(6) as u32,
+    /// Dense rules: the second run's streams are whole, cut, or end in a fault; the first's are cut, both or one of them.
+    fn dense_pair(&mut self, options: RangeInclusive<u32>) -> Pair {
+        let (least, most) = (*options.start(), *options.end());
+        let n = match self.random.below(3) {
+            0 => least + self.random.below(u64::from(most - least + 1)) as u32,
+            _ => most,
+        };
+        let mut diagrams = Diagrams::new();
+        let later = [(); 2].map(|()| {
+            let text = match self.random.below(2) {
+                0 => {
+                    let edge = rule(&mut self.random, &mut diagrams, n);
+                    stream(&mut self.random, &diagrams, n, edge, 4_000)
+                }
+                _ => {
+                    let edge = selected(&mut self.random, &mut diagrams, n, 5);
+                    let size = 3 + self.random.below(40);
+                    stream_of_size(&mut self.random, &diagrams, n, edge, size, 2_000)
+                }
             };
-            let streams = [(); 2].map(|()| self.stream(n));
-            if is_small(n, &streams) {
-                return (n, streams);
+            match self.random.below(12) {
+                0..=1 => cut(&mut self.random, text),
+                2 => {
+                    let mut text = cut(&mut self.random, text);
+                    let count = 1 + self.random.index(6);
+                    text.extend((0..count).map(|_| self.random.pick(b"0000((()))~~:. 1123\n")));
+                    text
+                }
+                _ => text,
+            }
+        });
+        let mut earlier = later.clone();
+        let which = self.random.below(3);
+        for (index, stream) in (0..).zip(&mut earlier) {
+            // Both, mostly.
+            if which == 2 || which == index {
+                stream.truncate(self.random.index(stream.len() + 1));
             }
         }
+        let (op, size) = (
+            self.random.below(16) as u32,
+            self.random.pick(&SIZES) as u32,
+        );
+        let output = match self.random.below(3) {
+            0 => self.random.index(3_000),
+            _ => 8_000,
+        };
+        let more = output + self.random.index(3_000);
+        Pair {
+            first: combine(n, op, size, earlier, output),
+            second: combine(n, op, size, later, more),
+        }
+    }
+
+    /// The second run's streams.
+    fn streams(&mut self) -> (u32, [Vec<u8>; 2]) {
+        let n = match self.random.below(8) {
+            0 => 6 + self.random.below(27) as u32,
+            _ => self.random.below(6) as u32,
+        };
+        (n, [(); 2].map(|()| self.stream(n)))
     }
 
     /// A valid stream, one that is cut, or a cut one with any bytes behind it.

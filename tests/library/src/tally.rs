@@ -1,5 +1,6 @@
 //! How often each kind of case was met.
 
+use crate::buckets::{given_again, Longest};
 use crate::case::{Call, Case, NAMES};
 use crate::compare::Outcome;
 use crate::pairs::Met;
@@ -28,12 +29,55 @@ pub struct Tally {
     /// Refusals of combining by stream, and by cause.
     streams: [[usize; 14]; 3],
     pub stated: usize,
+    pub dense: Dense,
     pub pairs: Met,
+    pub buckets: Longest,
+}
+
+/// The cases with dense rules.
+#[derive(Default)]
+pub struct Dense {
+    pub cases: usize,
+    pub refused: usize,
+    /// By ending.
+    pub endings: [usize; 3],
+    /// How often numbers were given out again, in the streams and in what was written.
+    pub again: [usize; 2],
+    /// What they took in all, what the library took, and what its longest case took, in seconds.
+    pub seconds: [f64; 3],
+}
+
+impl Dense {
+    pub fn count(&mut self, case: &Case, outcome: &Outcome) {
+        self.cases += 1;
+        if outcome.cause != 0 {
+            self.refused += 1;
+            return;
+        }
+        self.endings[outcome.ending] += 1;
+        self.again[0] += given_again(&case.stream) + given_again(case.second());
+        self.again[1] += given_again(&outcome.text);
+        let time = outcome.time.as_secs_f64();
+        self.seconds[1] += time;
+        self.seconds[2] = self.seconds[2].max(time);
+    }
+
+    fn line(&self) -> String {
+        let Dense { cases, refused, .. } = self;
+        let ([whole, ended, full], [all, library, longest]) = (self.endings, self.seconds);
+        let [read, written] = self.again;
+        format!(
+            "dense rules: {cases}, refused {refused}, whole {whole}, input ended {ended}, output full {full}; \
+             numbers given out again {read} in streams, {written} in results; \
+             {all:.1} seconds, the library {library:.1}, its longest case {longest:.4}\n"
+        )
+    }
 }
 
 impl Tally {
-    pub fn count(&mut self, case: &Case, outcome: Outcome) {
+    pub fn count(&mut self, case: &Case, outcome: &Outcome) {
         let call = case.number();
+        self.buckets.see(&outcome.text);
         self.outcomes[call][outcome.cause] += 1;
         if outcome.cause == 0 {
             self.endings[call][outcome.ending] += 1;
@@ -48,8 +92,8 @@ impl Tally {
     }
 
     /// A table of calls by outcome: taken (for the reader: the bytes ran out), causes 1 to 13; then how the calls that
-    /// write ended, and the pairs of runs.
-    pub fn table(&self) -> String {
+    /// write ended, the cases with dense rules, the pairs of runs and the longest buckets.
+    pub fn table(&self, seed: u64) -> String {
         let mut text = format!("{:8} {:>7}", "call", "taken");
         for cause in 1..=13 {
             text += &format!(" {cause:>6}");
@@ -62,7 +106,10 @@ impl Tally {
             }
             text += "\n";
         }
-        text + &self.endings_line() + &self.pairs_line()
+        text + &self.endings_line()
+            + &self.dense.line()
+            + &self.pairs_line()
+            + &self.buckets.lines(seed)
     }
 
     fn endings_line(&self) -> String {
@@ -131,6 +178,13 @@ impl Tally {
             }
         }
         need(self.stated, "stated cases".to_string());
+        need(self.dense.refused, "dense rules, refused".to_string());
+        for (name, count) in ENDING_NAMES.iter().zip(self.dense.endings) {
+            need(count, format!("dense rules, {name}"));
+        }
+        let again = "dense rules, numbers given out again";
+        need(self.dense.again[0], format!("{again} in streams"));
+        need(self.dense.again[1], format!("{again} in results"));
         need(self.pairs.refused, "pairs of runs, refused".to_string());
         need(self.pairs.more_bytes, "pairs with more bytes".to_string());
         need(self.pairs.more_words, "pairs with more words".to_string());

@@ -125,7 +125,7 @@ pub fn combine(
     }
     let first = read_stream(options, 1, streams[0])?;
     let second = read_stream(options, 2, streams[1])?;
-    let text = combined_text(operator, size, &first, &second);
+    let text = combined_text(operator, size, &first, &second, output.len());
     let covered = covered_by_both(&first, &second);
     Ok(put_out(options, covered, &text, output))
 }

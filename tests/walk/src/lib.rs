@@ -14,14 +14,18 @@
 //! - `deciding`: one word, one block, a truth table ("A stream that stops early");
 //! - `writing`: rules 1 to 5 and the queue ("The written stream");
 //! - `run`: covered count, released text, clipping, ending ("The written stream");
+//! - `cached`, over the functions of `diagrams`: the text of a run with no walk over all words;
 //! - `calls`: each call with its refusals and every lent slice ("Turned down");
 //! - `join`: the program ("Program").
 //!
-//! The rest makes test cases: `random`, `functions`, `shapes`, `case`, `generate`.
+//! The rest makes test cases: `random`, `functions`, `shapes`, `dense`, `case`, `generate`.
 
+pub mod cached;
 pub mod calls;
 pub mod case;
 pub mod deciding;
+pub mod dense;
+pub mod diagrams;
 pub mod functions;
 pub mod generate;
 pub mod join;

@@ -1,11 +1,12 @@
 //! A run (document 01, "The written stream"): operator, covered count, the text that is released,
 //! clipping to the output, ending.
 
+use crate::cached;
 use crate::reading::Reading;
 use crate::writing::{heading, write_blocks, write_words, WholeStream};
 
-/// Up to this option count a run walks all words; above it, blocks that both inputs decide at
-/// once. Both give the same text (see `write_blocks`).
+/// Up to this option count a run walks all words; above it, functions (see `cached`). Both give the
+/// same text.
 pub const PLAIN_WALK: u32 = 16;
 
 #[derive(Clone, Copy, Debug, PartialEq, Eq)]
@@ -33,16 +34,21 @@ pub fn covered_by_both(first: &Reading, second: &Reading) -> u64 {
     first.covered.min(second.covered)
 }
 
-/// The text of combining two streams that were read with one option count.
-pub fn combined_text(operator: u64, size: u64, first: &Reading, second: &Reading) -> Vec<u8> {
+/// The text of combining two streams that were read with one option count; with many options, of a
+/// text of more than `most` bytes at least its first `most` + 1.
+pub fn combined_text(
+    operator: u64,
+    size: u64,
+    first: &Reading,
+    second: &Reading,
+    most: usize,
+) -> Vec<u8> {
     let options = first.options;
-    let covered = covered_by_both(first, second);
-    let whole = if options <= PLAIN_WALK {
-        combine_words(operator, size, first, second, false)
-    } else {
-        combine_blocks(operator, size, first, second)
-    };
-    released(options, size, covered, whole)
+    if options > PLAIN_WALK {
+        return cached::combined_text(operator, size, first, second, most);
+    }
+    let whole = combine_words(operator, size, first, second, false);
+    released(options, size, covered_by_both(first, second), whole)
 }
 
 /// The walk over all words. Words that are not covered are taken as `later`: "later words can't
@@ -64,7 +70,8 @@ pub fn combine_words(
     })
 }
 
-/// The same, where a block that both inputs decide at once is one step.
+/// The same, where a block that both inputs decide at once is one step, for many options and few
+/// blocks.
 pub fn combine_blocks(operator: u64, size: u64, first: &Reading, second: &Reading) -> WholeStream {
     write_blocks(first.options, size, |level, word| {
         block(operator, first, second, level, word)

@@ -225,7 +225,7 @@ fn write_out(standing: Standing, turn: bool, words_end: u64, first: &Part, secon
     }
 }
 
-fn ends_in_digit(text: &[u8]) -> bool {
+pub fn ends_in_digit(text: &[u8]) -> bool {
     text.last().is_some_and(u8::is_ascii_digit)
 }
 

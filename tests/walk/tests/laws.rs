@@ -211,7 +211,7 @@ fn later_words_and_blocks() {
         let [one, two] = streams.map(|stream| read(n, &stream).expect("taken"));
         let (operator, size) = (random.below(16), random.below(8));
         let covered = covered_by_both(&one, &two);
-        let text = combined_text(operator, size, &one, &two);
+        let text = combined_text(operator, size, &one, &two, usize::MAX);
         let later = combine_words(operator, size, &one, &two, true);
         assert_eq!(released(n, size, covered, later), text);
         let blocks = combine_blocks(operator, size, &one, &two);
@@ -229,7 +229,7 @@ fn later_words_and_blocks() {
     }
 }
 
-/// Above 16 options a run walks blocks.
+/// Above 16 options a run walks functions; where there are few blocks, they give the same text.
 #[test]
 fn many_options() {
     let mut random = Random::new(5);
@@ -238,12 +238,16 @@ fn many_options() {
         let n = random.pick(&[17, 24, 31, 32]);
         let streams = [shaped(&mut random, n, None), shaped(&mut random, n, None)];
         let [one, two] = [0, 1].map(|index: usize| read(n, &streams[index]).expect("taken"));
-        if count_blocks(&one, &two, 2_000).is_none() {
+        let (operator, size) = (random.below(16), random.below(8));
+        let text = combined_text(operator, size, &one, &two, 65_536);
+        if count_blocks(&one, &two, 2_000).is_some() {
+            met += 1;
+            let blocks = combine_blocks(operator, size, &one, &two);
+            assert_eq!(blocks.text, text);
+        }
+        if text.len() > 65_536 {
             continue;
         }
-        met += 1;
-        let (operator, size) = (random.below(16), random.below(8));
-        let text = combined_text(operator, size, &one, &two);
         let reading = read(n, &text).expect("taken");
         assert_eq!((reading.covered, reading.complete), (1 << n, true));
         for _ in 0..200 {
