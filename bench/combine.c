@@ -1,46 +1,52 @@
 /*
- * combine: the time of combining two streams by an operator. For each case: the bytes of stream 1, of stream 2 and of the output, the words covered,
- * the parts that are walked, microseconds for a call, and nanoseconds for each part. Each call has to clear its three work tables of 1,024 records,
- * and that is in its time. "8 of 16" has just so many set, "2+ of 4" so many or more.
+ * combine [SECONDS]: the time of combining streams, beside that of a program without the library. For each job and table size to write: the bytes of
+ * all streams that are combined, those of the outcome, microseconds of ours and of BuDDy's, the ratio, and "fits" if the outcome's nodes fit its table:
+ * none is without a number, and no number is given out again. A job is skipped with a word if one run of ours takes longer than SECONDS (10 unless
+ * given; 0: any time will do) or writes more than 64 MiB.
  *
- * Beside it, for 16 options, the time of the plain way over all words, and the ratio: both streams filled to truth tables, the operator applied word
- * by word, and the stream of the outcome written. It must be the same stream. Both ways run in turns; the best turn of each counts.
+ * Ours is the calls of rule_combine that the job takes, each with all that it does: two streams checked, combined and written, three work tables
+ * cleared. BuDDy's is reading both texts, which are taken to have no fault, making the diagrams, applying the operator and printing the outcome
+ * (buddy.c). BuDDy begins once, before all; its diagrams are dropped and its caches emptied between two calls, outside of the time, since a new job
+ * finds them so. In a chain, each way goes on from the text that it wrote itself. Both run in turns; the best run of each counts.
  *
- * The parts are counted by a model (parts.c), since the library counts none. Where there are levels that both streams pass over, the count in
- * brackets is that of a walk that takes such a level once; then no time for each part is printed.
+ * Before that, it is tested that the outcome of ours, read by buddy.c, is the diagram of BuDDy's, that both texts are the same but for their size
+ * where the outcome fits, and that the library decides words alike by both.
+ *
+ * Afterwards: the ratios of all that fits, how time grows as options or terms double, and the pace of a text that is long because few nodes or
+ * none can be stored.
  */
-#define _POSIX_C_SOURCE 199309L
-#include "parts.h"
+#define _POSIX_C_SOURCE 200809L
+#include "buddy.h"
 #include "rule.h"
+#include "rules.h"
 
+#include <setjmp.h>
+#include <signal.h>
 #include <stdio.h>
 #include <stdlib.h>
 #include <string.h>
+#include <sys/time.h>
 #include <time.h>
 
-#define STREAM_BYTES (1 << 20)
-#define TRUTH_OPTIONS 16
-#define TRUTH_BYTES (1 << TRUTH_OPTIONS >> 3)
-#define TURNS 30
+#define ROOM (1 << 26)
+#define TURNS 12
+#define RUNS 3
+#define TURNS_FOR 1e6
 #define WORDS_ASKED 2000
+#define BYTES_ASKED 2e8
+#define MOST_RATIOS 200
 
-/* Operators */
-enum { XOR = 6, AND = 8, OR = 14 };
-
+/* What is measured of a job; why it is skipped, if it is. */
 typedef struct {
-    uint8_t bytes[STREAM_BYTES];
-    size_t length;
-} stream;
-
-/* What is combined, but for the streams. */
-typedef struct {
-    const char *name;
-    uint32_t n, op, size;
-} job;
+    const char *skipped;
+    bool fits;
+    size_t in, out;
+    double ours, theirs;
+} measured;
 
 static rule_record table1[RULE_RECORDS], table2[RULE_RECORDS];
 static rule_node table3[RULE_RECORDS];
-static stream stream1, stream2, combined, written;
+static double limit = 10e6;
 
 static void must(bool held, const char *what)
 {
@@ -62,260 +68,102 @@ static double least(double a, double b)
     return a < b ? a : b;
 }
 
-/* ---- The two ways */
+/* ---- Ours */
 
-/* Keeps how long the stream is, which must be whole; gives the covered count. */
-static uint64_t keep(stream *s, rule_written answer)
+static sigjmp_buf too_long;
+
+static void at_alarm(int number)
 {
-    must(answer.cause == RULE_DONE && answer.ending == RULE_WHOLE, "a stream is not written whole");
-    s->length = (size_t)answer.written;
-    return answer.covered;
+    (void)number;
+    siglongjmp(too_long, 1);
 }
 
-static uint64_t combine(job j)
+static void set_alarm(double microseconds)
 {
-    return keep(&combined, rule_combine(j.n, j.op, j.size, stream1.bytes, stream1.length, stream2.bytes, stream2.length, combined.bytes, STREAM_BYTES,
-                                        table1, RULE_RECORDS, table2, RULE_RECORDS, table3, RULE_RECORDS));
+    struct itimerval timer = {{0, 0}, {0, 0}};
+    timer.it_value.tv_sec = (time_t)(microseconds / 1e6);
+    timer.it_value.tv_usec = (suseconds_t)(microseconds - 1e6 * (double)timer.it_value.tv_sec);
+    setitimer(ITIMER_REAL, &timer, NULL);
 }
 
-static void fill(const stream *s, uint8_t *truths)
+static const char *const too_slow = "takes too long", *const too_large = "the text is too long";
+
+/*
+ * One call; adds its time. Gives why it is not done, if it is not. It is left in the middle if the time comes to the limit, which harms nothing: the
+ * library has no state.
+ */
+static const char *combine(const job *j, uint32_t size, text a, text b, text *to, size_t room, double *time)
 {
-    rule_filled filled = rule_fill(TRUTH_OPTIONS, s->bytes, s->length, truths, TRUTH_BYTES, table1, RULE_RECORDS);
-    must(filled.cause == RULE_DONE, "a stream is not filled");
+    rule_written answer;
+    double start;
+    if (sigsetjmp(too_long, 1))
+        return too_slow;
+    if (limit > 0)
+        set_alarm(*time < limit ? limit - *time : 1);
+    start = now();
+    answer = rule_combine(j->n, j->op, size, a.bytes, a.length, b.bytes, b.length, to->bytes, room, table1, RULE_RECORDS, table2, RULE_RECORDS, table3,
+                          RULE_RECORDS);
+    *time += now() - start;
+    set_alarm(0);
+    must(answer.cause == RULE_DONE && answer.covered == UINT64_C(1) << j->n, "a call is refused");
+    to->length = (size_t)answer.written;
+    return answer.ending == RULE_WHOLE ? NULL : too_large;
 }
 
-static void write_truths(uint32_t size, const uint8_t *truths, stream *s)
+/* The nodes of a text with two children are as many as its numbers to store, and these differ. */
+static bool is_fit(text t)
 {
-    keep(s, rule_write(TRUTH_OPTIONS, size, truths, TRUTH_BYTES, s->bytes, STREAM_BYTES, table3, RULE_RECORDS));
-}
-
-static unsigned truth(const uint8_t *truths, uint32_t word)
-{
-    return truths[word / 8] >> word % 8 & 1;
-}
-
-static void plain(job j)
-{
-    static uint8_t a[TRUTH_BYTES], b[TRUTH_BYTES], c[TRUTH_BYTES];
-    uint32_t word;
-    fill(&stream1, a);
-    fill(&stream2, b);
-    memset(c, 0, sizeof c);
-    for (word = 0; word < 1 << TRUTH_OPTIONS; word++)
-        c[word / 8] |= (uint8_t)((j.op >> (2 * truth(a, word) + truth(b, word)) & 1) << word % 8);
-    write_truths(j.size, c, &written);
-}
-
-/* ---- Measuring */
-
-static void show(job j, uint64_t covered, double time)
-{
-    uint64_t parts = parts_walked(j.n, j.op, stream1.bytes, stream1.length, stream2.bytes, stream2.length, false);
-    uint64_t once = parts_walked(j.n, j.op, stream1.bytes, stream1.length, stream2.bytes, stream2.length, true);
-    printf("n %u  %-23s size %4u: %5zu and %5zu to %6zu bytes, %10llu words, %7llu parts", (unsigned)j.n, j.name, (unsigned)j.size, stream1.length,
-           stream2.length, combined.length, (unsigned long long)covered, (unsigned long long)parts);
-    if (once != parts)
-        printf(" (%llu)", (unsigned long long)once);
-    printf("  combine %8.1f us", time);
-    if (once == parts)
-        printf(", %5.1f ns/part", 1e3 * time / (double)parts);
-}
-
-static void measure(job j)
-{
-    double time = 1e30;
-    uint64_t covered = 0;
-    int turn;
-    for (turn = 0; turn < TURNS; turn++) {
-        double start = now();
-        covered = combine(j);
-        time = least(now() - start, time);
+    bool stored[RULE_RECORDS + 1] = {false}, again = false;
+    size_t ends = 0, storings = 0;
+    rule_stepped stepped = rule_step(rule_begin(), t.bytes, t.length);
+    while ((stepped = rule_step(stepped.place, t.bytes, t.length)).outcome == RULE_GOT) {
+        ends += stepped.element == RULE_CONSTANT || stepped.element == RULE_NUMBER;
+        if (stepped.element == RULE_STORING) {
+            storings++;
+            again = again || stored[stepped.number];
+            stored[stepped.number] = true;
+        }
     }
-    show(j, covered, time);
-    printf("\n");
+    return !again && storings == ends - 1;
 }
 
-static void measure_both(job j)
+/* All calls of a job, with two places to write to, of which one has the outcome at the end. */
+static const char *combine_all(const job *j, uint32_t size, text to[2], text *outcome, bool *fits, double *time)
 {
-    double time = 1e30, other = 1e30;
-    uint64_t covered = 0;
-    int turn;
-    for (turn = 0; turn < TURNS; turn++) {
-        double start = now(), middle;
-        covered = combine(j);
-        middle = now();
-        plain(j);
-        time = least(middle - start, time);
-        other = least(now() - middle, other);
+    const char *not_done;
+    uint32_t i;
+    *time = 0;
+    *outcome = j->streams[0];
+    for (i = 1; i < j->count; i++) {
+        if ((not_done = combine(j, size, *outcome, j->streams[i], &to[i % 2], ROOM - 1, time)) != NULL)
+            return not_done;
+        *outcome = to[i % 2];
+        outcome->bytes[outcome->length] = 0;
+        if (fits != NULL)
+            *fits = *fits && is_fit(*outcome);
     }
-    must(combined.length == written.length && memcmp(combined.bytes, written.bytes, written.length) == 0, "the two ways differ");
-    show(j, covered, time);
-    printf("  plain %8.1f us  ratio %.2f\n", other, time / other);
+    return NULL;
 }
 
-/* ---- 16 options: the streams of truth tables */
+/* ---- Theirs */
 
-static unsigned set_in(uint32_t word)
+static void combine_all_by_buddy(const job *j, text to[2], text *outcome, double *time)
 {
-    unsigned set = 0;
-    for (; word != 0; word >>= 1)
-        set += word & 1;
-    return set;
-}
-
-static bool eight(uint32_t word)
-{
-    return set_in(word) == 8;
-}
-
-static bool four(uint32_t word)
-{
-    return set_in(word) == 4;
-}
-
-static bool odd(uint32_t word)
-{
-    return set_in(word) % 2 == 1;
-}
-
-/* Options 1 to 8 are one number, 9 to 16 the other, the most significant digit first: their sum has a ninth digit. */
-static bool carry(uint32_t word)
-{
-    return (word >> 8) + (word & 255) > 255;
-}
-
-static void write_rule(uint32_t size, bool (*admits)(uint32_t), stream *s)
-{
-    static uint8_t truths[TRUTH_BYTES];
-    uint32_t word;
-    memset(truths, 0, sizeof truths);
-    for (word = 0; word < 1 << TRUTH_OPTIONS; word++)
-        truths[word / 8] |= (uint8_t)(admits(word) << word % 8);
-    write_truths(size, truths, s);
-}
-
-static void measure_16(uint32_t size)
-{
-    write_rule(size, eight, &stream1);
-    write_rule(size, four, &stream2);
-    measure_both((job){"8 of 16 AND 4 of 16", TRUTH_OPTIONS, AND, size});
-    measure_both((job){"8 of 16 OR 4 of 16", TRUTH_OPTIONS, OR, size});
-    write_rule(size, carry, &stream1);
-    write_rule(size, odd, &stream2);
-    measure_both((job){"carry XOR odd of 16", TRUTH_OPTIONS, XOR, size});
-}
-
-/* ---- 32 options: streams made here */
-
-/* A rule that admits a word if digit c of `counts` is 1, c being how many of `options` are set in it. Options are given as digits of a word. */
-typedef struct {
-    uint32_t options;
-    uint64_t counts;
-} counting;
-
-#define ODD UINT64_C(0xaaaaaaaaaaaaaaaa)
-#define AT_LEAST(count) (~UINT64_C(0) << (count))
-
-/* The node under each number: its level, and which counts of the options from that level on it admits. 0 is none of them. */
-static struct {
-    uint32_t level;
-    uint64_t counts;
-} stored[RULE_RECORDS + 1];
-static uint32_t given;
-
-static void put(stream *s, const char *text)
-{
-    size_t length = strlen(text);
-    must(length <= STREAM_BYTES - s->length, "a stream is too long");
-    memcpy(s->bytes + s->length, text, length);
-    s->length += length;
-}
-
-static void put_number(stream *s, uint32_t number)
-{
-    char text[12];
-    snprintf(text, sizeof text, "%u", (unsigned)number);
-    put(s, text);
-}
-
-/* The counts 0, 1, ... that there are of the options from a level on. */
-static uint64_t all_counts(uint32_t options, uint32_t level)
-{
-    return level > 32 ? 1 : (UINT64_C(2) << set_in(options & UINT32_MAX >> (level - 1))) - 1;
-}
-
-static uint32_t number_of(uint32_t level, uint64_t counts)
-{
-    uint32_t number;
-    for (number = given; number > 0; number--)
-        if (stored[number].level == level && stored[number].counts == counts)
-            break;
-    return number;
-}
-
-static void store(stream *s, uint32_t level, uint64_t counts)
-{
-    must(given < RULE_RECORDS, "too many nodes");
-    given++;
-    stored[given].level = level;
-    stored[given].counts = counts;
-    put(s, ":");
-    put_number(s, given);
-}
-
-static void put_node(stream *s, uint32_t options, uint32_t level, uint64_t counts);
-
-static bool ends_in_digit(const stream *s)
-{
-    uint8_t last = s->bytes[s->length - 1];
-    return last >= '0' && last <= '9';
-}
-
-static void put_children(stream *s, uint32_t options, uint32_t level, uint64_t counts)
-{
-    uint64_t all = all_counts(options, level + 1), second = counts >> 1;
-    put_node(s, options, level + 1, counts & all);
-    if (second & 1)
-        put(s, "~");
-    else if (ends_in_digit(s) && (second == 0 || number_of(level + 1, second) != 0))
-        put(s, " ");
-    put_node(s, options, level + 1, second & 1 ? second ^ all : second);
-}
-
-/* A constant, a number, a bracket around the next level, or a node with two children. */
-static void put_node(stream *s, uint32_t options, uint32_t level, uint64_t counts)
-{
-    uint32_t number = number_of(level, counts);
-    if (counts == 0) {
-        put(s, "0");
-    } else if (number != 0) {
-        put_number(s, number);
-    } else if ((options >> (32 - level) & 1) == 0) {
-        put(s, "(");
-        put_node(s, options, level + 1, counts);
-        put(s, ")");
-    } else {
-        put(s, "(");
-        put_children(s, options, level, counts);
-        put(s, ")");
-        store(s, level, counts);
+    uint32_t i;
+    *time = 0;
+    *outcome = j->streams[0];
+    for (i = 1; i < j->count; i++) {
+        double start;
+        buddy_clear();
+        start = now();
+        to[i % 2].length = buddy_combine(j->op, outcome->bytes, j->streams[i].bytes, to[i % 2].bytes, ROOM - 1);
+        *time += now() - start;
+        *outcome = to[i % 2];
+        outcome->bytes[outcome->length] = 0;
     }
 }
 
-static void make(stream *s, counting rule)
-{
-    must((rule.counts & 1) == 0, "a rule admits the word 0");
-    given = 0;
-    s->length = 0;
-    put(s, "1024\n");
-    put_node(s, rule.options, 1, rule.counts & all_counts(rule.options, 1));
-    put(s, ".");
-}
-
-static bool admits(counting rule, uint32_t word)
-{
-    return rule.counts >> set_in(word & rule.options) & 1;
-}
+/* ---- Both alike */
 
 static uint32_t draw(void)
 {
@@ -326,51 +174,245 @@ static uint32_t draw(void)
     return state;
 }
 
-/* The output decides words drawn here as the operator and the two rules do; in every other of these words most options are set. */
-static void check(uint32_t op, counting rule1, counting rule2)
+static uint32_t verdict(uint32_t n, text t, uint64_t word)
 {
-    int i;
-    for (i = 0; i < WORDS_ASKED; i++) {
-        uint32_t word = i % 2 == 0 ? draw() : ~(draw() & draw() & draw());
-        uint32_t yes = op >> (2 * admits(rule1, word) + admits(rule2, word)) & 1;
-        rule_decided decided = rule_decide(32, combined.bytes, combined.length, word, table1, RULE_RECORDS);
-        must(decided.cause == RULE_DONE && decided.verdict == (yes ? RULE_YES : RULE_NO), "a word is not decided as it must be");
+    rule_decided decided = rule_decide(n, t.bytes, t.length, word, table1, RULE_RECORDS);
+    must(decided.cause == RULE_DONE, "an outcome is no stream");
+    return decided.verdict;
+}
+
+/* Words drawn at random, every other one with most options as in the word before. */
+static void ask(uint32_t n, text ours, text theirs)
+{
+    int words = (int)least(WORDS_ASKED, BYTES_ASKED / (double)(ours.length + theirs.length)), i;
+    uint32_t word = 0;
+    for (i = 0; i < words; i++) {
+        word = i % 2 == 0 ? draw() : word ^ (draw() & draw() & draw());
+        uint64_t asked = n == 0 ? 0 : word >> (32 - n);
+        must(verdict(n, ours, asked) == verdict(n, theirs, asked), "a word is decided otherwise");
     }
 }
 
-/* Stream 1 has nothing but constants below option 4. */
-static void measure_32(const char *name, uint32_t op, uint32_t size, counting rule)
+static bool same_but_size(text a, text b)
 {
-    static const counting two_of_4 = {0xf0000000, AT_LEAST(2)};
-    make(&stream1, two_of_4);
-    make(&stream2, rule);
-    measure((job){name, 32, op, size});
-    check(op, two_of_4, rule);
+    const uint8_t *from_a = memchr(a.bytes, '\n', a.length), *from_b = memchr(b.bytes, '\n', b.length);
+    size_t rest_a = a.length - (size_t)(from_a - a.bytes), rest_b = b.length - (size_t)(from_b - b.bytes);
+    return rest_a == rest_b && memcmp(from_a, from_b, rest_a) == 0;
 }
 
-static void measure_all_32(uint32_t size)
+static void compare(const job *j, text ours, text theirs, bool fits)
 {
-    /* Constant below option 8 */
-    static const counting odd_of_8 = {0xff000000, ODD};
-    /* Options 1 to 4 and 13 to 20: both streams pass over the levels 5 to 12. */
-    static const counting odd_of_12 = {0xf00ff000, ODD};
-    /* A node at each level. With 16 in place of 28 the model counts 1,577,408,765 parts for AND. */
-    static const counting many_of_32 = {0xffffffff, AT_LEAST(28)};
-    measure_32("2+ of 4 AND odd of 8", AND, size, odd_of_8);
-    measure_32("2+ of 4 OR odd of 8", OR, size, odd_of_8);
-    measure_32("2+ of 4 AND odd of 12", AND, size, odd_of_12);
-    measure_32("2+ of 4 OR odd of 12", OR, size, odd_of_12);
-    measure_32("2+ of 4 AND 28+ of 32", AND, size, many_of_32);
-    measure_32("2+ of 4 OR 28+ of 32", OR, size, many_of_32);
+    uint32_t numbers = buddy_numbers();
+    BDD f;
+    buddy_clear();
+    f = buddy_read(ours.bytes);
+    must(f == buddy_read(theirs.bytes), "the outcomes differ");
+    if (numbers <= RULE_RECORDS) {
+        rule_checked checked = rule_check(j->n, theirs.bytes, theirs.length, table1, RULE_RECORDS);
+        must(checked.cause == RULE_DONE && checked.extent == RULE_COMPLETE, "what is printed is no stream");
+        ask(j->n, ours, theirs);
+    }
+    must(!fits || same_but_size(ours, theirs), "what fits is not the same text");
 }
 
-int main(void)
+/* ---- Measuring */
+
+static text places[4];
+
+/* The best of some runs in a row, so that what the other way left in the processor's cache does not count. */
+static double turn(const job *j, uint32_t size)
 {
-    static const uint32_t sizes[] = {64, 1024};
+    text outcome;
+    double best = 1e30, time;
+    int run;
+    for (run = 0; run < RUNS; run++)
+        if (combine_all(j, size, places, &outcome, NULL, &time) == NULL)
+            best = least(time, best);
+    return best;
+}
+
+static double turn_by_buddy(const job *j)
+{
+    text outcome;
+    double best = 1e30, time;
+    int run;
+    for (run = 0; run < RUNS; run++) {
+        combine_all_by_buddy(j, places + 2, &outcome, &time);
+        best = least(time, best);
+    }
+    return best;
+}
+
+static measured measure(const job *j, uint32_t size)
+{
+    measured m = {.fits = true};
+    text ours, theirs;
+    double start;
+    uint32_t i;
+    for (i = 0; i < j->count; i++)
+        m.in += j->streams[i].length;
+    m.skipped = combine_all(j, size, places, &ours, &m.fits, &m.ours);
+    if (m.skipped != NULL)
+        return m;
+    combine_all_by_buddy(j, places + 2, &theirs, &m.theirs);
+    compare(j, ours, theirs, m.fits);
+    m.out = ours.length;
+    start = now();
+    for (i = 0; i < TURNS && (i == 0 || now() - start < TURNS_FOR); i++) {
+        m.ours = least(turn(j, size), m.ours);
+        m.theirs = least(turn_by_buddy(j), m.theirs);
+    }
+    return m;
+}
+
+/* ---- A line for each job */
+
+static double ratios[MOST_RATIOS];
+static size_t ratio_count, skipped_count, larger_count;
+
+static void show(job j, uint32_t size)
+{
+    measured m = measure(&j, size);
+    printf("%-28s n %2u size %4u: %6zu ", j.name, (unsigned)j.n, (unsigned)size, m.in);
+    if (m.skipped != NULL) {
+        skipped_count++;
+        printf("bytes, skipped: %s\n", m.skipped);
+    } else {
+        printf("to %8zu bytes  ours %10.1f us  BuDDy %8.1f us  ratio %9.2f%s\n", m.out, m.ours, m.theirs, m.ours / m.theirs, m.fits ? "  fits" : "");
+        larger_count += !m.fits;
+        if (m.fits && ratio_count < MOST_RATIOS)
+            ratios[ratio_count++] = m.ours / m.theirs;
+    }
+    fflush(stdout);
+    drop(&j);
+}
+
+static int rising(const void *a, const void *b)
+{
+    double x = *(const double *)a, y = *(const double *)b;
+    return (x > y) - (x < y);
+}
+
+static void show_ratios(void)
+{
+    qsort(ratios, ratio_count, sizeof *ratios, rising);
+    printf("%zu fit their table, %zu do not, %zu skipped\n", ratio_count, larger_count, skipped_count);
+    if (ratio_count > 0)
+        printf("ratios of those that fit: median %.2f, largest %.2f\n", ratios[ratio_count / 2], ratios[ratio_count - 1]);
+}
+
+/* ---- Jobs */
+
+static job (*const families[])(uint32_t) = {odd_with_first, odd_with_middle, odd_with_last,    half_or_quarter, half_and_quarter,
+                                            half_with_odd,  carry_with_odd,  seventh_or_half, half_with_itself};
+#define FAMILIES (sizeof families / sizeof *families)
+
+static void show_all(uint32_t size)
+{
     size_t i;
-    for (i = 0; i < 2; i++)
-        measure_16(sizes[i]);
-    for (i = 0; i < 2; i++)
-        measure_all_32(sizes[i]);
+    uint32_t count;
+    for (i = 0; i < FAMILIES; i++)
+        show(families[i](32), size);
+    show(queens(), size);
+    for (count = 2; count <= 16; count *= 2)
+        show(near_terms(count), size);
+    for (count = 2; count <= 16; count *= 2)
+        show(terms(count), size);
+    show(deep_constant(), size);
+    show(one_bucket(), size);
+}
+
+/* ---- Growth */
+
+/* One time, and how many times the one before it. */
+static void show_growth(job j, double before[2])
+{
+    measured m = measure(&j, RULE_RECORDS);
+    if (m.skipped != NULL) {
+        printf("  %-28s skipped: %s\n", j.name, m.skipped);
+        before[0] = before[1] = 0;
+    } else {
+        printf("  %-28s ours %10.1f us", j.name, m.ours);
+        if (before[0] > 0)
+            printf(" (times %7.2f)", m.ours / before[0]);
+        else
+            printf("                ");
+        printf("  BuDDy %8.1f us", m.theirs);
+        if (before[1] > 0)
+            printf(" (times %7.2f)", m.theirs / before[1]);
+        printf("\n");
+        before[0] = m.ours;
+        before[1] = m.theirs;
+    }
+    fflush(stdout);
+    drop(&j);
+}
+
+static void show_all_growth(void)
+{
+    double before[2];
+    uint32_t n, count;
+    size_t i;
+    printf("as options double, size 1024:\n");
+    for (i = 0; i < FAMILIES; i++)
+        for (n = 8, before[0] = before[1] = 0; n <= 32; n *= 2)
+            show_growth(families[i](n), before);
+    printf("as terms double, size 1024:\n");
+    for (count = 2, before[0] = before[1] = 0; count <= 16; count *= 2)
+        show_growth(near_terms(count), before);
+    for (count = 2, before[0] = before[1] = 0; count <= 16; count *= 2)
+        show_growth(terms(count), before);
+}
+
+/* ---- Pace */
+
+static void show_pace(job j, uint32_t size, size_t room)
+{
+    double best = 1e30;
+    int turn;
+    for (turn = 0; turn < 5; turn++) {
+        double time = 0;
+        if (combine(&j, size, j.streams[0], j.streams[1], &places[0], room, &time) == too_slow) {
+            printf("  %-28s n %2u size %4u: skipped: %s\n", j.name, (unsigned)j.n, (unsigned)size, too_slow);
+            drop(&j);
+            return;
+        }
+        best = least(time, best);
+    }
+    printf("  %-28s n %2u size %4u: %8zu bytes of %s in %10.1f us, %7.2f MB/s\n", j.name, (unsigned)j.n, (unsigned)size, places[0].length,
+           places[0].length < room ? "a whole text" : "a full output", best, (double)places[0].length / best);
+    fflush(stdout);
+    drop(&j);
+}
+
+static void show_all_pace(void)
+{
+    printf("long texts:\n");
+    show_pace(odd_with_first(20), 0, ROOM);
+    show_pace(half_with_odd(20), 0, ROOM);
+    show_pace(half_with_odd(20), 8, ROOM);
+    show_pace(half_or_quarter(20), 8, ROOM);
+    show_pace(half_with_odd(32), 8, 1 << 20);
+    show_pace(half_or_quarter(32), 0, 1 << 20);
+}
+
+int main(int count, char **words)
+{
+    static const uint32_t sizes[] = {1024, 256, 64};
+    struct sigaction action;
+    size_t i;
+    if (count > 1)
+        limit = 1e6 * atof(words[1]);
+    memset(&action, 0, sizeof action);
+    action.sa_handler = at_alarm;
+    sigaction(SIGALRM, &action, NULL);
+    for (i = 0; i < 4; i++)
+        must((places[i].bytes = malloc(ROOM)) != NULL, "no memory");
+    buddy_begin();
+    for (i = 0; i < 3; i++)
+        show_all(sizes[i]);
+    show_ratios();
+    show_all_growth();
+    show_all_pace();
     return 0;
 }

@@ -1,0 +1,40 @@
+/* Combining two streams as a program on a desk does it without the library: both are read to diagrams of BuDDy, and the outcome is printed. */
+#ifndef BUDDY_H
+#define BUDDY_H
+
+#include <bdd.h>
+#include <stdbool.h>
+#include <stddef.h>
+#include <stdint.h>
+
+/* Options, and numbers that a text can give out. */
+#define BUDDY_OPTIONS 32
+#define BUDDY_NUMBERS (1 << 18)
+
+/* Once, before all else. */
+void buddy_begin(void);
+
+/* Drops all diagrams and empties the caches of the operators, as at the beginning of a job. */
+void buddy_clear(void);
+
+/* The diagram of a complete stream without a fault. */
+BDD buddy_read(const uint8_t *stream);
+
+/* The diagram of a two-child node at a level from 1 on. */
+BDD buddy_node(uint32_t level, BDD first, BDD second);
+
+/*
+ * Prints the stream of a diagram; gives its length, or exits if it is over `room`. Every two-child node is printed once, with a number, and by
+ * number from then on; numbers are given out in turn as nodes end, and none is given out again. So it is the stream that document 01 has written if
+ * the nodes fit their table. The declared size is 1,024.
+ */
+size_t buddy_print(BDD f, uint8_t *text, size_t room);
+
+/* How many numbers the last print gave out, and the normal function of each. */
+uint32_t buddy_numbers(void);
+BDD buddy_numbered(uint32_t number);
+
+/* Reads both streams, applies the operator (6, 8 or 14), prints; gives the length of what is printed. */
+size_t buddy_combine(uint32_t op, const uint8_t *stream1, const uint8_t *stream2, uint8_t *text, size_t room);
+
+#endif
