@@ -46,8 +46,8 @@ pub struct Pen {
 }
 
 pub struct Walked {
-    pub half: Half,
     pub pen: Pen,
+    pub half: Half,
 }
 
 pub fn constant(v: bool) -> Half

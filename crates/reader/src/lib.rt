@@ -1095,18 +1095,18 @@ impl Place {
 
 // The children of the two-child node that ended last, and whether a `~` stands between them.
 pub struct Pair {
+    pub turned: bool,
     pub first: Ref,
     pub second: Ref,
-    pub turned: bool,
 }
 
 // What reading has come to, but for the open nodes and the table: the place, the declared size, the covered count, a leading `~`,
 // and the children of the two-child node that ended last.
 pub struct Run {
-    pub at: usize,
-    pub covered: u64,
     pub last: Ref,
     pub pair: Pair,
+    pub at: usize,
+    pub covered: u64,
     pub size: u32,
     pub mark: Mark,
     pub complement: bool,

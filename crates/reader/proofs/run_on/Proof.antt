@@ -33,7 +33,7 @@ take-turn-requires c κs =
     let i = l .inv in (i .0, (i .1 .0, (omega (arith, i .1 .1 .1 .0, if1 .taken), i .1 .1 .1 .1 .shallow)))
 
 same-length : tie.Need-same-length Inv-loop μ-loop
-same-length c = search needs
+same-length c = c .before .t .given ∙ c .before .before .before .before .before .before .before .before .loop .inv .1 .1 .0
 
 returns : tie.Need-returns Inv-loop μ-loop
 returns c =
