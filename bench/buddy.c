@@ -4,15 +4,13 @@
 #include <stdlib.h>
 
 /*
- * Enough that the table of nodes never grows and is never collected within a job (it exits if it is), and no more: a larger table is slower, since
- * less of it stays in the processor's cache. All nodes of a job are dropped before the next, so within a job no node needs a reference.
+ * Enough that the table of nodes does not grow (it exits if it does), and no more: a larger table or cache is slower, since less of it stays in the
+ * processor's cache. Of 1,000 to 40,000 entries this cache is the fastest over all jobs. BuDDy may collect at any call, so what is still needed has a reference.
  */
 #define NODES 60000
-#define CACHE 12000
+#define CACHE 3000
 #define HEADS 4096
-
-/* BuDDy's own maker of nodes, levels from 0 on. It is not in the header; with bdd_ite, which is, a job takes a tenth to four fifths longer. */
-extern int bdd_makenode(unsigned level, int low, int high);
+#define MOST_KEPT (1 << 16)
 
 static void must(bool held, const char *what)
 {
@@ -24,15 +22,6 @@ static void must(bool held, const char *what)
 
 /* ---- Beginning and clearing */
 
-static bool in_job;
-
-static void at_collection(int before, bddGbcStat *stat)
-{
-    (void)before;
-    (void)stat;
-    must(!in_job, "the table of nodes was collected in a job");
-}
-
 static void at_growth(int old, int new)
 {
     (void)old;
@@ -43,23 +32,45 @@ static void at_growth(int old, int new)
 void buddy_begin(void)
 {
     must(bdd_init(NODES, CACHE) == 0 && bdd_setvarnum(BUDDY_OPTIONS) == 0, "BuDDy does not begin");
-    bdd_gbc_hook(at_collection);
+    bdd_gbc_hook(NULL);
     bdd_resize_hook(at_growth);
     bdd_disable_reorder();
-    in_job = true;
+}
+
+static BDD kept[MOST_KEPT];
+static uint32_t kept_count;
+
+BDD buddy_keep(BDD f)
+{
+    must(kept_count < MOST_KEPT, "too many diagrams are kept");
+    return kept[kept_count++] = bdd_addref(f);
 }
 
 void buddy_clear(void)
 {
-    in_job = false;
+    while (kept_count > 0)
+        bdd_delref(kept[--kept_count]);
     bdd_gbc();
-    in_job = true;
+}
+
+/* ---- Nodes, levels from 1 on */
+
+static BDD node_of(uint32_t level, BDD first, BDD second)
+{
+    return bdd_ite(bdd_ithvar((int)level - 1), second, first);
+}
+
+BDD buddy_node(uint32_t level, BDD first, BDD second)
+{
+    return buddy_keep(node_of(level, first, second));
 }
 
 /* ---- Reading */
 
 static const uint8_t *at;
+/* With a reference each, the largest number in use; those not in use are false, which needs none. */
 static BDD stored[BUDDY_NUMBERS + 1];
+static uint32_t last_stored;
 
 static bool is_digit(uint8_t byte)
 {
@@ -80,51 +91,69 @@ static void read_byte(uint8_t byte)
     must(*at++ == byte, "a byte is out of place");
 }
 
-/* A node with the turn or the space before it. */
-static BDD read_second(unsigned level);
+static void store(uint32_t number, BDD node)
+{
+    bdd_delref(stored[number]);
+    stored[number] = bdd_addref(node);
+    last_stored = number > last_stored ? number : last_stored;
+}
 
-static BDD read_node(unsigned level)
+static void drop_stored(void)
+{
+    for (; last_stored > 0; last_stored--) {
+        bdd_delref(stored[last_stored]);
+        stored[last_stored] = bddfalse;
+    }
+}
+
+/* A node with the turn or the space before it; what is read has a reference. */
+static BDD read_second(uint32_t level);
+
+static BDD read_node(uint32_t level)
 {
     BDD node;
     if (is_digit(*at))
-        return stored[read_number()];
+        return bdd_addref(stored[read_number()]);
     read_byte('(');
     node = read_node(level + 1);
-    if (*at != ')')
-        node = bdd_makenode(level, node, read_second(level + 1));
+    if (*at != ')') {
+        BDD first = node, second = read_second(level + 1);
+        node = bdd_addref(node_of(level, first, second));
+        bdd_delref(first);
+        bdd_delref(second);
+    }
     read_byte(')');
     if (*at == ':') {
         at++;
-        stored[read_number()] = node;
+        store(read_number(), node);
     }
     return node;
 }
 
-static BDD read_second(unsigned level)
+static BDD read_second(uint32_t level)
 {
     bool turned = *at == '~';
-    BDD node;
+    BDD node, other;
     if (turned || *at == ' ')
         at++;
     node = read_node(level);
-    return turned ? bdd_not(node) : node;
+    if (!turned)
+        return node;
+    other = bdd_addref(bdd_not(node));
+    bdd_delref(node);
+    return other;
 }
 
 BDD buddy_read(const uint8_t *stream)
 {
     BDD node;
     at = stream;
-    stored[0] = bddfalse;
     read_number();
     read_byte('\n');
-    node = read_second(0);
+    node = read_second(1);
     read_byte('.');
+    drop_stored();
     return node;
-}
-
-BDD buddy_node(uint32_t level, BDD first, BDD second)
-{
-    return bdd_makenode(level - 1, first, second);
 }
 
 /* ---- Printing */
@@ -302,7 +331,7 @@ uint32_t buddy_numbers(void)
 BDD buddy_numbered(uint32_t number)
 {
     BDD f = given[number].node;
-    return is_turned(f) ? bdd_not(f) : f;
+    return buddy_keep(is_turned(f) ? bdd_not(f) : f);
 }
 
 /* ---- Combining */
@@ -322,6 +351,11 @@ static int operator_of(uint32_t op)
 
 size_t buddy_combine(uint32_t op, const uint8_t *stream1, const uint8_t *stream2, uint8_t *text, size_t room)
 {
-    BDD f = buddy_read(stream1), g = buddy_read(stream2);
-    return buddy_print(bdd_apply(f, g, operator_of(op)), text, room);
+    BDD f = buddy_read(stream1), g = buddy_read(stream2), both = bdd_addref(bdd_apply(f, g, operator_of(op)));
+    size_t length;
+    bdd_delref(f);
+    bdd_delref(g);
+    length = buddy_print(both, text, room);
+    bdd_delref(both);
+    return length;
 }

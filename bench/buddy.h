@@ -1,4 +1,7 @@
-/* Combining two streams as a program on a desk does it without the library: both are read to diagrams of BuDDy, and the outcome is printed. */
+/*
+ * Combining two streams as a program on a desk does it without the library: both are read to diagrams of BuDDy, and the outcome is printed. It is
+ * made of BuDDy's public interface as Debian's libbdd-dev gives it: a node is bdd_ite of its option, and what must outlast a call has a reference.
+ */
 #ifndef BUDDY_H
 #define BUDDY_H
 
@@ -14,13 +17,14 @@
 /* Once, before all else. */
 void buddy_begin(void);
 
-/* Drops all diagrams and empties the caches of the operators, as at the beginning of a job. */
+/* Drops all diagrams without a reference, and empties the caches of the operators, as at the beginning of a job. */
 void buddy_clear(void);
 
-/* The diagram of a complete stream without a fault. */
+/* The diagram of a complete stream without a fault, with a reference. */
 BDD buddy_read(const uint8_t *stream);
 
-/* The diagram of a two-child node at a level from 1 on. */
+/* The diagram with a reference until all is cleared; that of a two-child node at a level from 1 on, kept so. */
+BDD buddy_keep(BDD f);
 BDD buddy_node(uint32_t level, BDD first, BDD second);
 
 /*
@@ -30,7 +34,7 @@ BDD buddy_node(uint32_t level, BDD first, BDD second);
  */
 size_t buddy_print(BDD f, uint8_t *text, size_t room);
 
-/* How many numbers the last print gave out, and the normal function of each. */
+/* How many numbers the last print gave out, and the normal function of each, kept as by buddy_keep. */
 uint32_t buddy_numbers(void);
 BDD buddy_numbered(uint32_t number);
 

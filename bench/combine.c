@@ -4,10 +4,11 @@
  * none is without a number, and no number is given out again. A job is skipped with a word if one run of ours takes longer than SECONDS (10 unless
  * given; 0: any time will do) or writes more than 64 MiB.
  *
- * Ours is the calls of rule_combine that the job takes, each with all that it does: two streams checked, combined and written, three work tables
- * cleared. BuDDy's is reading both texts, which are taken to have no fault, making the diagrams, applying the operator and printing the outcome
- * (buddy.c). BuDDy begins once, before all; its diagrams are dropped and its caches emptied between two calls, outside of the time, since a new job
- * finds them so. In a chain, each way goes on from the text that it wrote itself. Both run in turns; the best run of each counts.
+ * Ours is the calls of rule_combine that the job takes, each with all that it does: two streams checked, combined and written, three work tables and
+ * the operation cache cleared. BuDDy's is reading both texts, which are taken to have no fault, making the diagrams, applying the operator and
+ * printing the outcome (buddy.c). BuDDy begins once, before all; its diagrams are dropped and its caches emptied between two calls, outside of the
+ * time, since a new job finds them so. In a chain, each way goes on from the text that it wrote itself. Both run in turns; the best run of each
+ * counts.
  *
  * Before that, it is tested that the outcome of ours, read by buddy.c, is the diagram of BuDDy's, that both texts are the same but for their size
  * where the outcome fits, and that the library decides words alike by both.
@@ -203,10 +204,13 @@ static bool same_but_size(text a, text b)
 static void compare(const job *j, text ours, text theirs, bool fits)
 {
     uint32_t numbers = buddy_numbers();
-    BDD f;
+    BDD f, g;
     buddy_clear();
     f = buddy_read(ours.bytes);
-    must(f == buddy_read(theirs.bytes), "the outcomes differ");
+    g = buddy_read(theirs.bytes);
+    must(f == g, "the outcomes differ");
+    bdd_delref(f);
+    bdd_delref(g);
     if (numbers <= RULE_RECORDS) {
         rule_checked checked = rule_check(j->n, theirs.bytes, theirs.length, table1, RULE_RECORDS);
         must(checked.cause == RULE_DONE && checked.extent == RULE_COMPLETE, "what is printed is no stream");
@@ -303,23 +307,11 @@ static void show_ratios(void)
 
 /* ---- Jobs */
 
-static job (*const families[])(uint32_t) = {odd_with_first, odd_with_middle, odd_with_last,    half_or_quarter, half_and_quarter,
-                                            half_with_odd,  carry_with_odd,  seventh_or_half, half_with_itself};
-#define FAMILIES (sizeof families / sizeof *families)
-
 static void show_all(uint32_t size)
 {
-    size_t i;
-    uint32_t count;
-    for (i = 0; i < FAMILIES; i++)
-        show(families[i](32), size);
-    show(queens(), size);
-    for (count = 2; count <= 16; count *= 2)
-        show(near_terms(count), size);
-    for (count = 2; count <= 16; count *= 2)
-        show(terms(count), size);
-    show(deep_constant(), size);
-    show(one_bucket(), size);
+    uint32_t i;
+    for (i = 0; i < JOBS; i++)
+        show(nth_job(i), size);
 }
 
 /* ---- Growth */

@@ -94,12 +94,12 @@ job odd_with_first(uint32_t n)
     return odd_with(n, 1);
 }
 
-job odd_with_middle(uint32_t n)
+static job odd_with_middle(uint32_t n)
 {
     return odd_with(n, n / 2);
 }
 
-job odd_with_last(uint32_t n)
+static job odd_with_last(uint32_t n)
 {
     return odd_with(n, n);
 }
@@ -112,7 +112,7 @@ job half_or_quarter(uint32_t n)
     return j;
 }
 
-job half_and_quarter(uint32_t n)
+static job half_and_quarter(uint32_t n)
 {
     job j = begin(n, AND, "%u of %u AND %u of %u", n / 2, n, n / 4, n);
     add(&j, just(n, n / 2));
@@ -128,7 +128,7 @@ job half_with_odd(uint32_t n)
     return j;
 }
 
-job carry_with_odd(uint32_t n)
+static job carry_with_odd(uint32_t n)
 {
     job j = begin(n, XOR, "carry of %u + %u XOR odd", n / 2, n / 2);
     BDD f = bddfalse;
@@ -140,7 +140,7 @@ job carry_with_odd(uint32_t n)
     return j;
 }
 
-job seventh_or_half(uint32_t n)
+static job seventh_or_half(uint32_t n)
 {
     job j = begin(n, OR, "7th of %u OR %u of %u", n, n / 2, n);
     add(&j, counting(1, n, SEVENTH));
@@ -148,13 +148,16 @@ job seventh_or_half(uint32_t n)
     return j;
 }
 
-job half_with_itself(uint32_t n)
+static job half_with_itself(uint32_t n)
 {
     job j = begin(n, XOR, "%u of %u XOR itself", n / 2, n);
     add(&j, just(n, n / 2));
     add(&j, just(n, n / 2));
     return j;
 }
+
+job (*const families[FAMILIES])(uint32_t) = {odd_with_first, odd_with_middle, odd_with_last,    half_or_quarter, half_and_quarter,
+                                             half_with_odd,  carry_with_odd,  seventh_or_half, half_with_itself};
 
 /* ---- Chains */
 
@@ -186,7 +189,7 @@ static BDD no_threat(uint32_t field)
     return bdd_apply(bdd_nithvar((int)field), none, bddop_or);
 }
 
-job queens(void)
+static job queens(void)
 {
     job j = begin(BOARD * BOARD, AND, "queens, %u rules", BOARD + BOARD * BOARD);
     uint32_t i;
@@ -246,7 +249,7 @@ job terms(uint32_t count)
 
 /* ---- The worst known */
 
-job deep_constant(void)
+static job deep_constant(void)
 {
     job j = begin(30, OR, "(0 0) at level 30 OR 0");
     uint8_t bytes[80];
@@ -272,6 +275,19 @@ job deep_constant(void)
 #define BUCKET 512
 #define MOST_LEAVES (1 << (LOW - LEVELS - 2))
 
+/* One round of mixing, and the bucket of a node, as crates/unique_table has them. */
+static uint64_t stir(uint32_t k, uint64_t v)
+{
+    uint64_t x = (uint32_t)v, p = x * (uint32_t)(x + k);
+    return (p >> 32) + (uint32_t)p;
+}
+
+static uint32_t bucket_of(uint32_t level, uint32_t first, uint32_t second, uint32_t turn)
+{
+    uint64_t x = (((uint64_t)first * 2048 + second) * 64 + level) * 2 + turn;
+    return (uint32_t)(stir(UINT32_C(2246822519), stir(UINT32_C(2654435769), x)) % 1024);
+}
+
 /* All nodes of the bucket at one level whose children are among the first `count` numbers; gives how many there are now. */
 static uint32_t fill_bucket(BDD *leaves, uint32_t found, uint32_t level, uint32_t count)
 {
@@ -279,9 +295,9 @@ static uint32_t fill_bucket(BDD *leaves, uint32_t found, uint32_t level, uint32_
     for (a = 1; a <= count; a++)
         for (b = 1; b <= count; b++)
             for (turn = 0; turn < 2; turn++)
-                if ((269 * a + 31 * b + 7 * level + turn) % 1024 == BUCKET && !(a == b && turn == 0) && found < MOST_LEAVES) {
+                if (bucket_of(level, a, b, turn) == BUCKET && !(a == b && turn == 0) && found < MOST_LEAVES) {
                     BDD second = buddy_numbered(b);
-                    leaves[found++] = buddy_node(level, buddy_numbered(a), turn ? bdd_not(second) : second);
+                    leaves[found++] = buddy_node(level, buddy_numbered(a), turn ? buddy_keep(bdd_not(second)) : second);
                 }
     return found;
 }
@@ -294,13 +310,13 @@ static BDD link(const BDD *leaves, uint32_t count, uint32_t level)
     return buddy_node(level, link(leaves, count / 2, level + 1), link(leaves + count / 2, count - count / 2, level + 1));
 }
 
-job one_bucket(void)
+static job one_bucket(void)
 {
     static uint8_t bytes[ROOM];
     static BDD leaves[MOST_LEAVES];
     uint32_t count, found = 0, level;
     job j;
-    BDD low = bdd_apply(counting(LOW, 32, UINT64_C(0x2d9c6)), counting(LOW + 1, 32, UINT64_C(0x3b4)), bddop_and);
+    BDD low = buddy_keep(bdd_apply(counting(LOW, 32, UINT64_C(0x2d9c6)), counting(LOW + 1, 32, UINT64_C(0x3b4)), bddop_and));
     buddy_print(low, bytes, sizeof bytes);
     count = buddy_numbers();
     for (level = LOW - LEVELS; level < LOW; level++)
@@ -309,4 +325,21 @@ job one_bucket(void)
     add(&j, buddy_node(1, low, link(leaves, found, 2)));
     add(&j, bddfalse);
     return j;
+}
+
+/* ---- All */
+
+job nth_job(uint32_t index)
+{
+    uint32_t i = index - FAMILIES;
+    must(index < JOBS, "no such job");
+    if (index < FAMILIES)
+        return families[index](32);
+    if (i == 0)
+        return queens();
+    if (i <= 4)
+        return near_terms(UINT32_C(1) << i);
+    if (i <= 8)
+        return terms(UINT32_C(1) << (i - 4));
+    return i == 9 ? deep_constant() : one_bucket();
 }
