@@ -1,2 +1,2 @@
-# crates/combiner/src/lib.rt
+# crates/text_walk/src/lib.rt
 /^fn is_around/,/^}/s/^    (i - 1) as usize == d/    i as usize == d/

@@ -1,2 +1,2 @@
 # crates/combiner/src/lib.rt
-/^fn nodes/,/^}/s/begun(k\.n, y, t2)/begun(k.n, x, t2)/
+s/enter(n, y, t2, /enter(n, x, t2, /

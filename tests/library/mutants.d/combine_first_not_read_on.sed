@@ -1,2 +1,2 @@
-# crates/combiner/src/lib.rt
-s/second_feed(k\.n, x, t1, i, with_block(f, first_of(a)))/second_feed(k.n, x, t1, i, f)/
+# crates/text_walk/src/lib.rt
+s/read_first(k\.n, x, t1, o1, f, a)/read_on(k.n, x, t1, o1, f, b1)/

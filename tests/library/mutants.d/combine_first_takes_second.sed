@@ -1,2 +1,2 @@
-# crates/combiner/src/lib.rt
-/^fn first_edge/,/^}/s/number: r\.first,/number: r.second,/
+# crates/applier/src/lib.rt
+/^pub fn first_edge/,/^}/s/number: r\.first,/number: r.second,/

@@ -1,2 +1,2 @@
-# crates/combiner/src/lib.rt
+# crates/applier/src/lib.rt
 /^fn is_fixed/,/^}/s/^        operate(op, !x\.turned, y\.turned),/        operate(op, x.turned, y.turned),/

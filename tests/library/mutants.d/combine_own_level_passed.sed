@@ -1,2 +1,2 @@
-# crates/combiner/src/lib.rt
+# crates/applier/src/lib.rt
 /^fn is_passed/,/^}/s/^    i < r\.level/    i <= r.level/

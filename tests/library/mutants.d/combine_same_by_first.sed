@@ -1,2 +1,2 @@
-# crates/combiner/src/lib.rt
-/^fn is_same/,/^}/s/^    passes(t2, i, y)/    passes(t1, i, x)/
+# crates/applier/src/lib.rt
+/^fn both_pass/,/^}/s/^    is_passed(i, j, s)/    is_passed(i, k, r)/

@@ -1,2 +1,2 @@
-# crates/combiner/src/lib.rt
-/^fn is_same/,/^}/s/^    if !passes(t1, i, x) {/    if !passes(t2, i, y) {/
+# crates/applier/src/lib.rt
+/^fn both_pass/,/^}/s/^    if !is_passed(i, k, r) {/    if !is_passed(i, j, s) {/

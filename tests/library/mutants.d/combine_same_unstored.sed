@@ -1,2 +1,2 @@
-# crates/combiner/src/lib.rt
-/^fn is_same/,/^}/s/^    if h\.number == 0 {/    if h.number == 4294967295 {/
+# crates/applier/src/lib.rt
+/^fn is_alike/,/^}/s/^    let text_only = h\.temporary;/    let text_only = false;/

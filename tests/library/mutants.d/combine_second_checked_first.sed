@@ -1,2 +1,2 @@
 # crates/combiner/src/lib.rt
-s/^    let z = both_checked(a, b);/    let z = both_checked(b, a);/
+s/^    let z = both_loaded(a, b);/    let z = both_loaded(b, a);/

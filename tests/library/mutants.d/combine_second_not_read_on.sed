@@ -1,2 +1,2 @@
-# crates/combiner/src/lib.rt
-s/second_feed(k\.n, y, t2, i, with_block(g, second_of(a)))/second_feed(k.n, y, t2, i, g)/
+# crates/text_walk/src/lib.rt
+s/read_second(k\.n, y, t2, o2, g, a)/read_on(k.n, y, t2, o2, g, b2)/

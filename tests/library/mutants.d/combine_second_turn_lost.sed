@@ -1,2 +1,2 @@
-# crates/combiner/src/lib.rt
-/^fn second_edge/,/^}/s/turned: differs(r\.complement, x\.turned),/turned: x.turned,/
+# crates/applier/src/lib.rt
+/^pub fn second_edge/,/^}/s/turned: differs(r\.complement, x\.turned),/turned: x.turned,/

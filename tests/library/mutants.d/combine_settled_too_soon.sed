@@ -1,2 +1,2 @@
-# crates/combiner/src/lib.rt
+# crates/applier/src/lib.rt
 /^fn is_settled/,/^}/s/^    !differs(.*/    true/

@@ -1,5 +1,5 @@
 # crates/combiner/src/lib.rt
-/^    let b = check(n, y, t2);/{
+/^    let b = load(n, y, t2);/{
 n
 s/^    clear(t);/    \/\/ clear(t);/
 }

@@ -1,2 +1,2 @@
-# crates/combiner/src/lib.rt
+# crates/text_walk/src/lib.rt
 /^fn turn_of/,/^}/s/return b\.turned;/return f.turned;/

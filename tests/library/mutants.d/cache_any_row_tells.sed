@@ -1,0 +1,2 @@
+# crates/applier/src/lib.rt
+/^fn recall(/,/^}/s/^    if !is_held(r, k) {/    if r[0] == 0 {/

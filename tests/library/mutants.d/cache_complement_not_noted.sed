@@ -1,0 +1,2 @@
+# crates/applier/src/lib.rt
+/^fn remember/,/^}/s/either(h\.complement, 2, 1),/1,/

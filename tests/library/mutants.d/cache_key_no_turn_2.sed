@@ -1,0 +1,2 @@
+# crates/applier/src/lib.rt
+/^fn is_held/,/^}/s/^    r\[8\] == k\.turned2/    true/

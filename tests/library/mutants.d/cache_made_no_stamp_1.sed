@@ -1,0 +1,2 @@
+# crates/applier/src/lib.rt
+/^fn key_of/,/^}/s/stamp1: g,/stamp1: 0,/

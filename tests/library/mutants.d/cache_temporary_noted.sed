@@ -1,0 +1,2 @@
+# crates/applier/src/lib.rt
+/^fn note/,/^}/s/^    let temporary = h\.temporary;/    let temporary = false;/
