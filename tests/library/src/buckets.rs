@@ -25,10 +25,14 @@ pub struct Node {
 /// The bucket of a node, from 1 on: the library's `bucketOf`.
 pub fn bucket(node: Node) -> usize {
     let x = ((node.first * 2048 + node.second) * 64 + node.level) * 2 + node.turn;
-    let p = (x % (1 << 32)) * 2_654_435_769;
-    let h = p / (1 << 32) + p % (1 << 32);
-    let q = (h % (1 << 32)) * 2_246_822_519;
-    ((q / (1 << 32) + q % (1 << 32)) % 1024 + 1) as usize
+    (stir(2_246_822_519, stir(2_654_435_769, x)) % 1024 + 1) as usize
+}
+
+/// One round of mixing: the library's `stir`.
+fn stir(k: u64, v: u64) -> u64 {
+    let x = v % (1 << 32);
+    let p = x * ((x + k) % (1 << 32));
+    p / (1 << 32) + p % (1 << 32)
 }
 
 /// The longest buckets that were seen.
