@@ -178,10 +178,10 @@ pub struct Task {
 
 // What a part came to, with the block of each input that was read last; the first word that is not covered was met
 struct Applied {
+    ended: bool,
     walked: Walked,
     first: Block,
     second: Block,
-    ended: bool,
 }
 
 fn walked_of(a: Applied) -> Walked
