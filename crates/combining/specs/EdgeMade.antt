@@ -11,11 +11,8 @@ use borrow.Author.Tests.{eq-eqb, ne-eqb}
 use Rattle.lists.specs.Lists.{differ, decide-eq}
 use Rattle.reading.specs.Nodes.{Node, node}
 use Rattle.writing.specs.Run.{digitAt}
-use Rattle.engine.specs.Applying.{Source, passes, firstSource, secondSource, fixed}
-use Rattle.engine.specs.Taping.{Feed, onTape, atEdge, edgeOf, settle, firstFeed, secondFeed}
-use Rattle.combining.specs.Tapes.{Tape, tapeAt, deepOf, sourceOf, nextTape, begunFeed}
-use Rattle.reader.specs.ReadOn.{Next, firstCursor, nextBlock}
-use Rattle.reader.specs.Lent.{ReadCursor}
+use Rattle.engine.specs.Applying.{Source, firstSource, secondSource, fixed}
+use Rattle.engine.specs.Taping.{Feed, atEdge, edgeOf, settle, firstFeed}
 use Rattle.reader.specs.Table.{getIn}
 use Rattle.reader.specs.Simulation.{rowNode}
 use Rattle.reader.specs.TableLaws.{tableOf, table-node}
@@ -61,10 +58,6 @@ module _ (t : List (List ℕ)) (z i k : ℕ) (v : Bool) (r : Row) (read : r ≡ 
 
   level : (eqb k 0 || ltb i (r .level)) ≡ (eqb k 0 || ltb i (node (tableOf t z) k .level))
   level = ap (λ (y : Node). eqb k 0 || ltb i (y .level)) same
-
-  -- whether it is passed over
-  pub passes-made : (b : Bool) → b ≡ (eqb k 0 || ltb i (r .level)) → b ≡ passes i x
-  passes-made b e = e ∙ level
 
   -- it is passed over
   pub first-passed : (eqb k 0 || ltb i (r .level)) ≡ true → x ≡ firstSource i x
@@ -133,28 +126,6 @@ module _ {Tape : Type 0} (deepOf : Tape → ℕ) (sourceOf : Tape → Source) (n
   first-edge x e h =
       ap (atEdge f) h
       ∙ ap (λ (b : Bool). cond b (settle deepOf sourceOf next (i + 1) f) (atEdge f (firstSource i (edgeOf deepOf sourceOf next f)))) (sym e)
-
-  -- at the second half; τ: the tape a block further
-  pub second-inside : (τ : Tape) → f .inText ≡ true → τ ≡ next (f .tape)
-      → settle deepOf sourceOf next (i + 1) (onTape f τ) ≡ secondFeed deepOf sourceOf next i f
-  second-inside τ e h =
-      ap (λ (τ : Tape). settle deepOf sourceOf next (i + 1) (onTape f τ)) h
-      ∙ ap (λ (b : Bool). cond b (settle deepOf sourceOf next (i + 1) (onTape f (next (f .tape))))
-      (atEdge f (secondSource i (edgeOf deepOf sourceOf next f)))) (sym e)
-
-  pub second-edge : (x : Source) → f .inText ≡ false → x ≡ secondSource i (edgeOf deepOf sourceOf next f)
-      → atEdge f x ≡ secondFeed deepOf sourceOf next i f
-  second-edge x e h =
-      ap (atEdge f) h
-      ∙ ap (λ (b : Bool). cond b (settle deepOf sourceOf next (i + 1) (onTape f (next (f .tape))))
-      (atEdge f (secondSource i (edgeOf deepOf sourceOf next f)))) (sym e)
-
--- at the outermost node, from the first block
-pub begun-made : (n : ℕ) (s : List ℕ) (t : List (List ℕ)) (c : ReadCursor) (x : Next) → c ≡ firstCursor → x ≡ nextBlock n s c t
-    → settle deepOf sourceOf (nextTape n) 1 (record { tape = tapeAt s x; inText = true; number = 0; turned = false }) ≡ begunFeed n s t
-begun-made n s t c x e h =
-    ap (λ (x : Next). settle deepOf sourceOf (nextTape n) 1 (record { tape = tapeAt s x; inText = true; number = 0; turned = false }))
-    (h ∙ ap (λ (c : ReadCursor). nextBlock n s c t) e)
 
 -- the second of two, if there is no more
 pub and-none : (b : Bool) → b ≡ (b && true)

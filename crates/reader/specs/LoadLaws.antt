@@ -4,7 +4,6 @@ use mathlib.Core.Path.{_≡_, refl, sym, ap, ap₂, _∙_, subst}
 use mathlib.Core.Logic.{⊎-elim}
 use mathlib.Core.Bool.{Bool, true, false, cond, not, _&&_, false≢true}
 use mathlib.Core.List.{List, []}
-use mathlib.Core.Option.{none}
 use Prim.Native.Nat.{ℕ, suc, _<_, _≤_, _^_}
 use native.Mathlib.Omega.{arith}
 use lib.Dec.{eqb}
@@ -29,7 +28,7 @@ use Rattle.reader.specs.Simulation.{child-of}
 use Rattle.reader.specs.Advance.{stateAt, bars-row}
 use Rattle.reader.specs.Lent.{ReadReached}
 use Rattle.reader.specs.Loop.{firstRun, firstOpens, stands-first}
-use Rattle.reader.specs.CallsMade.{checkedBy, Reads, all-reads, reads-clean, check-options, check-table, check-made}
+use Rattle.reader.specs.CallsMade.{checkedBy, Reads, all-reads, check-options, check-table, check-made}
 use Rattle.reader.specs.ReadOn.{ReadTo, readAll, read-length, read-reaches}
 use Rattle.reader.specs.Load.{LoadTo, staysIn, wholeBy, refusedLoad, loadOf, load, load-options, load-table, load-on}
 
@@ -162,14 +161,6 @@ module _ (n : ℕ) (bytes : List ℕ) (t : List (List ℕ)) (x : LoadTo) (called
   pub load-deep : 0 < x .number → 1 ≤ node (tableOf (x .table) (x .size)) (x .number) .level
   load-deep = by-whole (λ (x : LoadTo). 0 < x .number → 1 ≤ node (tableOf (x .table) (x .size)) (x .number) .level) (λ few h k. whole-deep n bytes _ _ h k)
 
-  -- All words are covered,
+  -- All words are covered.
   pub load-covers : covered n bytes ≡ 2 ^ n
   load-covers = by-whole (λ _. covered n bytes ≡ 2 ^ n) (λ few h k. rooted-covers n bytes (rooted n bytes _ _ h k))
-
-  -- without a fault,
-  pub load-clean : reading n bytes .fault ≡ none
-  load-clean = by-whole (λ _. reading n bytes .fault ≡ none) (λ few h k. reads-clean n bytes _ _ h (k .clean))
-
-  -- and there are no more options than the limit.
-  pub load-few : n ≤ 32
-  load-few = by-whole (λ _. n ≤ 32) (λ few h k. few)
