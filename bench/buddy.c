@@ -5,8 +5,8 @@
 
 /*
  * Enough that the table of nodes does not grow (it exits if it does), and no more: a larger table or cache is slower, since less of it stays in the
- * processor's cache. Of 1,000 to 40,000 entries this cache is the fastest over all jobs. BuDDy may collect at any call, so what is still needed has a
- * reference.
+ * processor's cache. Of five sizes from 1,000 to 40,000 entries, 1,000 and this one were the fastest: 1,000 a little on small jobs, this one on long
+ * chains. BuDDy may collect at any call, so what is still needed has a reference.
  */
 #define NODES 60000
 #define CACHE 3000
