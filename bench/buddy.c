@@ -3,13 +3,8 @@
 #include <stdio.h>
 #include <stdlib.h>
 
-/*
- * Enough that the table of nodes does not grow (it exits if it does), and no more: a larger table or cache is slower, since less of it stays in the
- * processor's cache. Of five sizes from 1,000 to 40,000 entries, 1,000 and this one were the fastest: 1,000 a little on small jobs, this one on long
- * chains. BuDDy may collect at any call, so what is still needed has a reference.
- */
+/* BuDDy may collect at any call, so what is still needed has a reference. */
 #define NODES 60000
-#define CACHE 3000
 #define HEADS 4096
 #define MOST_KEPT (1 << 16)
 
@@ -26,16 +21,28 @@ static void must(bool held, const char *what)
 static void at_growth(int old, int new)
 {
     (void)old;
-    (void)new;
-    must(false, "the table of nodes grew");
+    must(new <= NODES, "the table of nodes grew");
 }
 
-void buddy_begin(void)
+/*
+ * A larger table or cache takes longer to begin with, and is slower, since less of it stays in the processor's cache; a smaller one collects, grows or
+ * forgets. The last has room for every job.
+ */
+static const struct {
+    int nodes, cache;
+} sizes[BUDDY_SIZES] = {{1000, 100}, {2000, 300}, {5000, 1000}, {20000, 1000}, {NODES, 3000}};
+
+void buddy_begin(uint32_t size)
 {
-    must(bdd_init(NODES, CACHE) == 0 && bdd_setvarnum(BUDDY_OPTIONS) == 0, "BuDDy does not begin");
+    must(bdd_init(sizes[size].nodes, sizes[size].cache) == 0 && bdd_setvarnum(BUDDY_OPTIONS) == 0, "BuDDy does not begin");
     bdd_gbc_hook(NULL);
     bdd_resize_hook(at_growth);
     bdd_disable_reorder();
+}
+
+void buddy_end(void)
+{
+    bdd_done();
 }
 
 static BDD kept[MOST_KEPT];

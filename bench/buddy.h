@@ -10,12 +10,14 @@
 #include <stddef.h>
 #include <stdint.h>
 
-/* Options, and numbers that a text can give out. */
+/* Options, numbers that a text can give out, and sizes that BuDDy can begin with. */
 #define BUDDY_OPTIONS 32
 #define BUDDY_NUMBERS (1 << 18)
+#define BUDDY_SIZES 5
 
-/* Once, before all else. */
-void buddy_begin(void);
+/* Before all else, with one of the sizes, the last being the largest; after all else. */
+void buddy_begin(uint32_t size);
+void buddy_end(void);
 
 /* Drops all diagrams without a reference, and empties the caches of the operators, as at the beginning of a job. */
 void buddy_clear(void);

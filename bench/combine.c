@@ -1,14 +1,15 @@
 /*
  * combine [SECONDS]: the time of combining streams, beside that of a program without the library. For each job and table size to write: the bytes of
- * all streams that are combined, those of the outcome, microseconds of ours and of BuDDy's, the ratio, and "fits" if the outcome's nodes fit its table:
- * none is without a number, and no number is given out again. A job is skipped with a word if one run of ours takes longer than SECONDS (10 unless
- * given; 0: any time will do) or writes more than 64 MiB.
+ * all streams that are combined, those of the outcome, microseconds of ours and of BuDDy's, the ratio, microseconds and ratio of a BuDDy that stands
+ * ready, and "fits" if the outcome's nodes fit its table: none is without a number, and no number is given out again. A job is skipped with a word if
+ * one run of ours takes longer than SECONDS (10 unless given; 0: any time will do) or writes more than 64 MiB.
  *
  * Ours is the calls of rule_combine that the job takes, each with all that it does: two streams checked, combined and written, three work tables and
- * the operation cache cleared. BuDDy's is reading both texts, which are taken to have no fault, making the diagrams, applying the operator and
- * printing the outcome (buddy.c). BuDDy begins once, before all; its diagrams are dropped and its caches emptied between two calls, outside of the
- * time, since a new job finds them so. In a chain, each way goes on from the text that it wrote itself. Both run in turns; the best run of each
- * counts.
+ * the operation cache cleared. BuDDy's is beginning (bdd_init, bdd_setvarnum), reading both texts, which are taken to have no fault, making the
+ * diagrams, applying the operator, printing the outcome and ending (bdd_done), for each call (buddy.c); of five sizes that it may begin with, the
+ * fastest for the job counts. So each way begins with memory of any content and leaves it clean. Of a BuDDy that stands ready neither beginning nor
+ * cleaning counts: it begins once, with the largest size, and between two calls its diagrams are dropped and its caches emptied outside of the time.
+ * In a chain, each way goes on from the text that it wrote itself. All run in turns; the best run of each counts.
  *
  * Before that, it is tested that the outcome of ours, read by buddy.c, is the diagram of BuDDy's, that both texts are the same but for their size
  * where the outcome fits, and that the library decides words alike by both.
@@ -42,7 +43,7 @@ typedef struct {
     const char *skipped;
     bool fits;
     size_t in, out;
-    double ours, theirs;
+    double ours, theirs, ready;
 } measured;
 
 static rule_record table1[RULE_RECORDS], table2[RULE_RECORDS];
@@ -148,16 +149,31 @@ static const char *combine_all(const job *j, uint32_t size, text to[2], text *ou
 
 /* ---- Theirs */
 
-static void combine_all_by_buddy(const job *j, text to[2], text *outcome, double *time)
+/* The size of a BuDDy that stands ready. */
+#define LARGEST (BUDDY_SIZES - 1)
+
+static void clear_or_begin(bool ready, uint32_t size)
+{
+    if (ready)
+        buddy_clear();
+    else
+        buddy_begin(size);
+}
+
+/* All calls of a job: by a BuDDy that stands ready, or by one that begins and ends with each call. */
+static void combine_all_by_buddy(const job *j, bool ready, uint32_t size, text to[2], text *outcome, double *time)
 {
     uint32_t i;
     *time = 0;
     *outcome = j->streams[0];
     for (i = 1; i < j->count; i++) {
-        double start;
-        buddy_clear();
-        start = now();
+        double start = now();
+        clear_or_begin(ready, size);
+        if (ready)
+            start = now();
         to[i % 2].length = buddy_combine(j->op, outcome->bytes, j->streams[i].bytes, to[i % 2].bytes, ROOM - 1);
+        if (!ready)
+            buddy_end();
         *time += now() - start;
         *outcome = to[i % 2];
         outcome->bytes[outcome->length] = 0;
@@ -235,15 +251,27 @@ static double turn(const job *j, uint32_t size)
     return best;
 }
 
-static double turn_by_buddy(const job *j)
+static double turn_by_buddy(const job *j, bool ready, uint32_t size)
 {
     text outcome;
     double best = 1e30, time;
     int run;
     for (run = 0; run < RUNS; run++) {
-        combine_all_by_buddy(j, places + 2, &outcome, &time);
+        combine_all_by_buddy(j, ready, size, places + 2, &outcome, &time);
         best = least(time, best);
     }
+    return best;
+}
+
+/* With each size that BuDDy may begin with; the one that stands ready is gone meanwhile. */
+static double turn_by_begun(const job *j)
+{
+    double best = 1e30;
+    uint32_t size;
+    buddy_end();
+    for (size = 0; size < BUDDY_SIZES; size++)
+        best = least(turn_by_buddy(j, false, size), best);
+    buddy_begin(LARGEST);
     return best;
 }
 
@@ -258,20 +286,22 @@ static measured measure(const job *j, uint32_t size)
     m.skipped = combine_all(j, size, places, &ours, &m.fits, &m.ours);
     if (m.skipped != NULL)
         return m;
-    combine_all_by_buddy(j, places + 2, &theirs, &m.theirs);
+    combine_all_by_buddy(j, true, LARGEST, places + 2, &theirs, &m.ready);
     compare(j, ours, theirs, m.fits);
     m.out = ours.length;
+    m.theirs = 1e30;
     start = now();
     for (i = 0; i < TURNS && (i == 0 || now() - start < TURNS_FOR); i++) {
         m.ours = least(turn(j, size), m.ours);
-        m.theirs = least(turn_by_buddy(j), m.theirs);
+        m.ready = least(turn_by_buddy(j, true, LARGEST), m.ready);
+        m.theirs = least(turn_by_begun(j), m.theirs);
     }
     return m;
 }
 
 /* ---- A line for each job */
 
-static double ratios[MOST_RATIOS];
+static double ratios[2][MOST_RATIOS];
 static size_t ratio_count, skipped_count, larger_count;
 
 static void show(job j, uint32_t size)
@@ -282,10 +312,13 @@ static void show(job j, uint32_t size)
         skipped_count++;
         printf("bytes, skipped: %s\n", m.skipped);
     } else {
-        printf("to %8zu bytes  ours %10.1f us  BuDDy %8.1f us  ratio %9.2f%s\n", m.out, m.ours, m.theirs, m.ours / m.theirs, m.fits ? "  fits" : "");
+        printf("to %8zu bytes  ours %10.1f us  BuDDy %8.1f us  ratio %9.2f  ready %8.1f us  ratio %9.2f%s\n", m.out, m.ours, m.theirs,
+               m.ours / m.theirs, m.ready, m.ours / m.ready, m.fits ? "  fits" : "");
         larger_count += !m.fits;
-        if (m.fits && ratio_count < MOST_RATIOS)
-            ratios[ratio_count++] = m.ours / m.theirs;
+        if (m.fits && ratio_count < MOST_RATIOS) {
+            ratios[0][ratio_count] = m.ours / m.theirs;
+            ratios[1][ratio_count++] = m.ours / m.ready;
+        }
     }
     fflush(stdout);
     drop(&j);
@@ -297,12 +330,18 @@ static int rising(const void *a, const void *b)
     return (x > y) - (x < y);
 }
 
+static void show_ratios_of(const char *name, double *all)
+{
+    qsort(all, ratio_count, sizeof *all, rising);
+    if (ratio_count > 0)
+        printf("ratios of those that fit, %s: median %.2f, largest %.2f\n", name, all[ratio_count / 2], all[ratio_count - 1]);
+}
+
 static void show_ratios(void)
 {
-    qsort(ratios, ratio_count, sizeof *ratios, rising);
     printf("%zu fit their table, %zu do not, %zu skipped\n", ratio_count, larger_count, skipped_count);
-    if (ratio_count > 0)
-        printf("ratios of those that fit: median %.2f, largest %.2f\n", ratios[ratio_count / 2], ratios[ratio_count - 1]);
+    show_ratios_of("BuDDy", ratios[0]);
+    show_ratios_of("BuDDy that stands ready", ratios[1]);
 }
 
 /* ---- Jobs */
@@ -400,7 +439,7 @@ int main(int count, char **words)
     sigaction(SIGALRM, &action, NULL);
     for (i = 0; i < 4; i++)
         must((places[i].bytes = malloc(ROOM)) != NULL, "no memory");
-    buddy_begin();
+    buddy_begin(LARGEST);
     for (i = 0; i < 3; i++)
         show_all(sizes[i]);
     show_ratios();

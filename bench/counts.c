@@ -69,7 +69,7 @@ int main(void)
     uint32_t i, k;
     for (i = 0; i < 2; i++)
         must((places[i] = malloc(ROOM)) != NULL, "no memory");
-    buddy_begin();
+    buddy_begin(BUDDY_SIZES - 1);
     for (i = 0; i < 3; i++)
         for (k = 0; k < JOBS; k++)
             show(nth_job(k), sizes[i]);
