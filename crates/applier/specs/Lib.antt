@@ -1,3 +1,2 @@
 pub mod Cite
-pub mod KeyMade
 pub mod WalkMade

@@ -28,10 +28,12 @@ use Rattle.meeting.specs.Cite.{halfOf, penOf, kept-as, again-as}
 use Rattle.meeting.specs.declared.Half.{Half}
 use Rattle.meeting.specs.declared.Pen.{Pen}
 use Rattle.meeting.specs.declared.Walked.{Walked}
-use Rattle.applier.specs.Cite.{edgeIn, keyCells, holds, tellsBy, notedBy, recalledOf, applied}
-use Rattle.applier.specs.declared.Edge.{Edge}
-use Rattle.applier.specs.declared.Key.{Key}
-use Rattle.applier.specs.declared.Told.{Told}
+use Rattle.edges.specs.Cite.{edgeIn}
+use Rattle.edges.specs.declared.Edge.{Edge}
+use Rattle.operation_cache.specs.Cite.{keyCells, holds, tellsBy, notedBy}
+use Rattle.operation_cache.specs.declared.Key.{Key}
+use Rattle.operation_cache.specs.declared.Told.{Told}
+use Rattle.applier.specs.Cite.{recalledOf, applied}
 
 -- two inputs at their edges
 abbrev pub pair : Edge → List (List ℕ) → Edge → List (List ℕ) → List Source

@@ -13,8 +13,8 @@ use Rattle.reader.specs.declared.Block.{Block}
 use Rattle.reader.specs.declared.Opens.{Opens}
 use Rattle.reader.specs.Lent.{ReadCursor, ReadBlock, cursorIn}
 use Rattle.reader.specs.declared.Cursor.{Cursor}
-use Rattle.applier.specs.Cite.{edgeIn}
-use Rattle.applier.specs.declared.Edge.{Edge}
+use Rattle.edges.specs.Cite.{edgeIn}
+use Rattle.edges.specs.declared.Edge.{Edge}
 use Rattle.text_walk.specs.Cite.{tapeIn, onTape, feedOn, readBy, arrived, begunFrom}
 use Rattle.text_walk.specs.declared.Feed.{Feed}
 

@@ -26,9 +26,10 @@ use Rattle.engine.specs.Merging.{mergeIn}
 use Rattle.combining.specs.Tapes.{Tape, deepOf, sourceOf, nextTape}
 use Rattle.meeting.specs.Cite.{walkedOf}
 use Rattle.meeting.specs.declared.Walked.{Walked}
-use Rattle.applier.specs.Cite.{edgeIn, recalledOf, applied}
+use Rattle.edges.specs.Cite.{edgeIn}
+use Rattle.applier.specs.Cite.{recalledOf, applied}
 use Rattle.applier.specs.WalkMade.{applied-within}
-use Rattle.applier.specs.declared.Edge.{Edge}
+use Rattle.edges.specs.declared.Edge.{Edge}
 use Rattle.reader.specs.Lent.{ReadBlock}
 use Rattle.reader.specs.declared.Block.{Block}
 use Rattle.text_walk.specs.Cite.{tapeIn, tapeOf, onTape, feedOf, readBy, arrived, carriedOn, walkTexts, nodesBy, streamBy}

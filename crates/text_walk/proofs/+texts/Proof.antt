@@ -7,7 +7,7 @@ use Rattle.text_walk.proofs.texts.Kinds as texts-kinds
 use Rattle.text_walk.proofs.+texts.Lts-texts as texts-lts
 use Rattle.text_walk.proofs.texts.Reads as texts
 use Rattle.applier.proofs.apply.Reads as apply
-use Rattle.applier.proofs.operate.Reads as operates
+use Rattle.edges.proofs.operate.Reads as operates
 use Rattle.meeting.proofs.differs.Reads as differs
 use Rattle.meeting.proofs.half_of.Reads as half-of
 use Rattle.meeting.proofs.pen_of.Reads as pen-of
@@ -38,6 +38,8 @@ use Rattle.engine.specs.TextMade.{inside-option}
 use Rattle.reader.specs.TruthLaws.{both-halves}
 use Rattle.meeting.specs.Cite.{halfOf, penOf}
 use Rattle.meeting.specs.declared.Walked.{Walked}
+use Rattle.reader.specs.Lent.{blockIn}
+use Rattle.text_walk.specs.Cite.{tapeOf}
 use Rattle.text_walk.specs.TextsMade.{one-down, first-asks, second-asks, texts-edges, texts-halted, texts-ended, texts-done, texts-on}
 
 abbrev μ : Measures 10 texts-kinds.ps ℕ
@@ -147,8 +149,9 @@ module _ (t : ℕ) where
       let c17 = c16 .before in
       let c22 = c17 .before .before .before .before .before in
       let a = c22 .args in
+      let l = c7 .apply .last .1 .1 .1 .1 .1 .1 .1 .1 .1 in
       rw (c .went-on .ensures) (texts-edges (a .k) (a .d) (a .i) (a .at) (a .m) (a .x .now) (a .y .now) (a .f) (a .g) (a .b1) (a .b2) (a .o1 .now) (a .o2 .now) (a .t1 .now) (a .t2 .now) (a .c .now) (a .t .now) (a .out .now) (a .w .now) (penOf (a .pen))
-      (c15 .edge-of .result) (c14 .edge-of2 .result) (c7 .apply .result) _ _ _ _ (sym (c17 .at-edges .ensures) ∙ c16 .if1 .taken) (omega (arith, c22 .pre)) (omega (arith, c22 .pre)) (c15 .edge-of .ensures) (c14 .edge-of2 .ensures) (c7 .apply .ensures))
+      (c15 .edge-of .result) (c14 .edge-of2 .result) (c7 .apply .result) (l .0) (l .1 .0) (l .1 .1 .0) (l .1 .1 .1 .0) (sym (c17 .at-edges .ensures) ∙ c16 .if1 .taken) (omega (arith, c22 .pre)) (omega (arith, c22 .pre)) (c15 .edge-of .ensures) (c14 .edge-of2 .ensures) (c7 .apply .ensures))
 
   sub-e : texts-lts.Need-sub-e K (at t) texts.Post
   sub-e c =
@@ -236,9 +239,9 @@ module _ (t : ℕ) where
       let c27 = c25 .before .before in
       let c28 = c27 .before in
       let c33 = c28 .before .before .before .before .before in
-      let a = c33 .args in let z = inside-option (a .d) (a .f .inside || (a .g .inside || false)) (sym (c28 .at-edges .ensures) ∙ c27 .if1 .left) in
+      let a = c33 .args in let l = c10 .texts .last .1 .1 .1 .1 .1 .1 .1 .1 .1 .1 .1 in let z = inside-option (a .d) (a .f .inside || (a .g .inside || false)) (sym (c28 .at-edges .ensures) ∙ c27 .if1 .left) in
       texts-halted (a .k) (a .d) (a .i) (a .at) (a .m) (a .x .now) (a .y .now) (a .f) (a .g) (a .b1) (a .b2) (a .o1 .now) (a .o2 .now) (a .t1 .now) (a .t2 .now) (a .c .now) (a .t .now) (a .out .now) (a .w .now) (penOf (a .pen))
-      (a .d - 1) (one-down (a .d) z) (sym (c28 .at-edges .ensures) ∙ c27 .if1 .left) (c21 .first-feed .result) (c19 .first-feed2 .result) _ (c10 .texts .result) _ _ _ _ _ _ (c21 .first-feed .ensures (a .k .n) _ (a .x .now)) (c19 .first-feed2 .ensures (a .k .n) _ (a .y .now)) (c25 .push .ensures) (c10 .texts .ensures)
+      (a .d - 1) (one-down (a .d) z) (sym (c28 .at-edges .ensures) ∙ c27 .if1 .left) (c21 .first-feed .result) (c19 .first-feed2 .result) (record { bytes = c25 .push .last .0; count = c25 .push .result }) (c10 .texts .result) (tapeOf (c10 .texts .result .first) (l .0) (a .x .now) (l .1 .1 .0)) (tapeOf (c10 .texts .result .second) (l .1 .0) (a .y .now) (l .1 .1 .1 .0)) (l .1 .1 .1 .1 .0) (l .1 .1 .1 .1 .1 .0) (l .1 .1 .1 .1 .1 .1 .0) (l .1 .1 .1 .1 .1 .1 .1 .0) (c21 .first-feed .ensures (a .k .n) _ (a .x .now)) (c19 .first-feed2 .ensures (a .k .n) _ (a .y .now)) (c25 .push .ensures) (c10 .texts .ensures)
       (c1 .is-halted .result) (c1 .is-halted .ensures) (c .if2 .taken)
 
   ended-at-requires : texts-lts.Need-ended-at-requires K (at t) texts.Post
@@ -287,9 +290,9 @@ module _ (t : ℕ) where
       let c30 = c28 .before .before in
       let c31 = c30 .before in
       let c36 = c31 .before .before .before .before .before in
-      let a = c36 .args in let z = inside-option (a .d) (a .f .inside || (a .g .inside || false)) (sym (c31 .at-edges .ensures) ∙ c30 .if1 .left) in
+      let a = c36 .args in let l = c13 .texts .last .1 .1 .1 .1 .1 .1 .1 .1 .1 .1 .1 in let z = inside-option (a .d) (a .f .inside || (a .g .inside || false)) (sym (c31 .at-edges .ensures) ∙ c30 .if1 .left) in
       rw (c .ended-at .ensures) (texts-ended (a .k) (a .d) (a .i) (a .at) (a .m) (a .x .now) (a .y .now) (a .f) (a .g) (a .b1) (a .b2) (a .o1 .now) (a .o2 .now) (a .t1 .now) (a .t2 .now) (a .c .now) (a .t .now) (a .out .now) (a .w .now) (penOf (a .pen))
-      (a .d - 1) (one-down (a .d) z) (sym (c31 .at-edges .ensures) ∙ c30 .if1 .left) (c24 .first-feed .result) (c22 .first-feed2 .result) _ (c13 .texts .result) _ _ _ _ _ _ (c24 .first-feed .ensures (a .k .n) _ (a .x .now)) (c22 .first-feed2 .ensures (a .k .n) _ (a .y .now)) (c28 .push .ensures) (c13 .texts .ensures)
+      (a .d - 1) (one-down (a .d) z) (sym (c31 .at-edges .ensures) ∙ c30 .if1 .left) (c24 .first-feed .result) (c22 .first-feed2 .result) (record { bytes = c28 .push .last .0; count = c28 .push .result }) (c13 .texts .result) (tapeOf (c13 .texts .result .first) (l .0) (a .x .now) (l .1 .1 .0)) (tapeOf (c13 .texts .result .second) (l .1 .0) (a .y .now) (l .1 .1 .1 .0)) (l .1 .1 .1 .1 .0) (l .1 .1 .1 .1 .1 .0) (l .1 .1 .1 .1 .1 .1 .0) (l .1 .1 .1 .1 .1 .1 .1 .0) (c24 .first-feed .ensures (a .k .n) _ (a .x .now)) (c22 .first-feed2 .ensures (a .k .n) _ (a .y .now)) (c28 .push .ensures) (c13 .texts .ensures)
       (1 * 2 ^ (a .d - 1) % 18446744073709551616) (shift-words (a .d - 1) (omega (arith, c36 .pre))) (c4 .is-halted .result) (c4 .is-halted .ensures) (c3 .if2 .left)
       (c1 .if3 .taken))
 
@@ -414,11 +417,11 @@ module _ (t : ℕ) where
       let c75 = c73 .before .before in
       let c76 = c75 .before in
       let c81 = c76 .before .before .before .before .before in
-      let a = c81 .args in let z = inside-option (a .d) (a .f .inside || (a .g .inside || false)) (sym (c76 .at-edges .ensures) ∙ c75 .if1 .left) in
+      let a = c81 .args in let l = c58 .texts .last .1 .1 .1 .1 .1 .1 .1 .1 .1 .1 .1 in let q = c10 .texts2 .last .1 .1 .1 .1 .1 .1 .1 .1 .1 .1 .1 in let z = inside-option (a .d) (a .f .inside || (a .g .inside || false)) (sym (c76 .at-edges .ensures) ∙ c75 .if1 .left) in
       texts-done (a .k) (a .d) (a .i) (a .at) (a .m) (a .x .now) (a .y .now) (a .f) (a .g) (a .b1) (a .b2) (a .o1 .now) (a .o2 .now) (a .t1 .now) (a .t2 .now) (a .c .now) (a .t .now) (a .out .now) (a .w .now) (penOf (a .pen))
-      (a .d - 1) (one-down (a .d) z) (sym (c76 .at-edges .ensures) ∙ c75 .if1 .left) (c69 .first-feed .result) (c67 .first-feed2 .result) _ (c58 .texts .result) _ _ _ _ _ _ (c69 .first-feed .ensures (a .k .n) _ (a .x .now)) (c67 .first-feed2 .ensures (a .k .n) _ (a .y .now)) (c73 .push .ensures) (c58 .texts .ensures)
+      (a .d - 1) (one-down (a .d) z) (sym (c76 .at-edges .ensures) ∙ c75 .if1 .left) (c69 .first-feed .result) (c67 .first-feed2 .result) (record { bytes = c73 .push .last .0; count = c73 .push .result }) (c58 .texts .result) (tapeOf (c58 .texts .result .first) (l .0) (a .x .now) (l .1 .1 .0)) (tapeOf (c58 .texts .result .second) (l .1 .0) (a .y .now) (l .1 .1 .1 .0)) (l .1 .1 .1 .1 .0) (l .1 .1 .1 .1 .1 .0) (l .1 .1 .1 .1 .1 .1 .0) (l .1 .1 .1 .1 .1 .1 .1 .0) (c69 .first-feed .ensures (a .k .n) _ (a .x .now)) (c67 .first-feed2 .ensures (a .k .n) _ (a .y .now)) (c73 .push .ensures) (c58 .texts .ensures)
       (1 * 2 ^ (a .d - 1) % 18446744073709551616) (shift-words (a .d - 1) (omega (arith, c81 .pre))) (c49 .is-halted .result) (c49 .is-halted .ensures) (c48 .if2 .left)
-      (omega (arith, c46 .if3 .left)) _ _ _ _ _ _ _ _ (c33 .second-feed .result) (c31 .second-feed2 .result) (halfOf (c44 .half-of .result)) (penOf (c43 .pen-of .result)) (c30 .turn-of .result) (c29 .turn-of2 .result) (c28 .operate .result) (c27 .differs .result) _ _ (c10 .texts2 .result) _ _ _ _ _ _
+      (omega (arith, c46 .if3 .left)) (blockIn (c58 .texts .result .first) (l .0)) (blockIn (c58 .texts .result .second) (l .1 .0)) (blockIn (c40 .read-first .result) (c40 .read-first .last .1 .1 .1 .0)) (blockIn (c36 .read-second .result) (c36 .read-second .last .1 .1 .1 .0)) (l .1 .1 .0) (l .1 .1 .1 .0) (c40 .read-first .last .1 .1 .0) (c36 .read-second .last .1 .1 .0) (c33 .second-feed .result) (c31 .second-feed2 .result) (halfOf (c44 .half-of .result)) (penOf (c43 .pen-of .result)) (c30 .turn-of .result) (c29 .turn-of2 .result) (c28 .operate .result) (c27 .differs .result) (record { bytes = c25 .wait .last .0; count = c25 .wait .result }) (record { bytes = c21 .push-turn .last .0; count = c21 .push-turn .result }) (c10 .texts2 .result) (tapeOf (c10 .texts2 .result .first) (q .0) (a .x .now) (q .1 .1 .0)) (tapeOf (c10 .texts2 .result .second) (q .1 .0) (a .y .now) (q .1 .1 .1 .0)) (q .1 .1 .1 .1 .0) (q .1 .1 .1 .1 .1 .0) (q .1 .1 .1 .1 .1 .1 .0) (q .1 .1 .1 .1 .1 .1 .1 .0)
       (c40 .read-first .ensures) (c36 .read-second .ensures) refl refl (c33 .second-feed .ensures (a .k .n) _ (a .x .now)) (c31 .second-feed2 .ensures (a .k .n) _ (a .y .now))
       (ap halfOf (c44 .half-of .ensures ∙ ap (λ (w : Walked). w .half) (c45 .walked-of .ensures))) (ap penOf (c43 .pen-of .ensures ∙ ap (λ (w : Walked). w .pen) (c45 .walked-of .ensures)))
       (c30 .turn-of .ensures) (c29 .turn-of2 .ensures) (c28 .operate .ensures) (c27 .differs .ensures) (c25 .wait .ensures) (c21 .push-turn .ensures) (c10 .texts2 .ensures)
@@ -507,15 +510,15 @@ module _ (t : ℕ) where
       let c86 = c84 .before .before in
       let c87 = c86 .before in
       let c92 = c87 .before .before .before .before .before in
-      let a = c92 .args in let z = inside-option (a .d) (a .f .inside || (a .g .inside || false)) (sym (c87 .at-edges .ensures) ∙ c86 .if1 .left) in
+      let a = c92 .args in let l = c69 .texts .last .1 .1 .1 .1 .1 .1 .1 .1 .1 .1 .1 in let q = c21 .texts2 .last .1 .1 .1 .1 .1 .1 .1 .1 .1 .1 .1 in let z = inside-option (a .d) (a .f .inside || (a .g .inside || false)) (sym (c87 .at-edges .ensures) ∙ c86 .if1 .left) in
       rw (c .met .ensures) (texts-on (a .k) (a .d) (a .i) (a .at) (a .m) (a .x .now) (a .y .now) (a .f) (a .g) (a .b1) (a .b2) (a .o1 .now) (a .o2 .now) (a .t1 .now) (a .t2 .now) (a .c .now) (a .t .now) (a .out .now) (a .w .now) (penOf (a .pen))
-      (a .d - 1) (one-down (a .d) z) (sym (c87 .at-edges .ensures) ∙ c86 .if1 .left) (c80 .first-feed .result) (c78 .first-feed2 .result) _ (c69 .texts .result) _ _ _ _ _ _ (c80 .first-feed .ensures (a .k .n) _ (a .x .now)) (c78 .first-feed2 .ensures (a .k .n) _ (a .y .now)) (c84 .push .ensures) (c69 .texts .ensures)
+      (a .d - 1) (one-down (a .d) z) (sym (c87 .at-edges .ensures) ∙ c86 .if1 .left) (c80 .first-feed .result) (c78 .first-feed2 .result) (record { bytes = c84 .push .last .0; count = c84 .push .result }) (c69 .texts .result) (tapeOf (c69 .texts .result .first) (l .0) (a .x .now) (l .1 .1 .0)) (tapeOf (c69 .texts .result .second) (l .1 .0) (a .y .now) (l .1 .1 .1 .0)) (l .1 .1 .1 .1 .0) (l .1 .1 .1 .1 .1 .0) (l .1 .1 .1 .1 .1 .1 .0) (l .1 .1 .1 .1 .1 .1 .1 .0) (c80 .first-feed .ensures (a .k .n) _ (a .x .now)) (c78 .first-feed2 .ensures (a .k .n) _ (a .y .now)) (c84 .push .ensures) (c69 .texts .ensures)
       (1 * 2 ^ (a .d - 1) % 18446744073709551616) (shift-words (a .d - 1) (omega (arith, c92 .pre))) (c60 .is-halted .result) (c60 .is-halted .ensures) (c59 .if2 .left)
-      (omega (arith, c57 .if3 .left)) _ _ _ _ _ _ _ _ (c44 .second-feed .result) (c42 .second-feed2 .result) (halfOf (c55 .half-of .result)) (penOf (c54 .pen-of .result)) (c41 .turn-of .result) (c40 .turn-of2 .result) (c39 .operate .result) (c38 .differs .result) _ _ (c21 .texts2 .result) _ _ _ _ _ _
+      (omega (arith, c57 .if3 .left)) (blockIn (c69 .texts .result .first) (l .0)) (blockIn (c69 .texts .result .second) (l .1 .0)) (blockIn (c51 .read-first .result) (c51 .read-first .last .1 .1 .1 .0)) (blockIn (c47 .read-second .result) (c47 .read-second .last .1 .1 .1 .0)) (l .1 .1 .0) (l .1 .1 .1 .0) (c51 .read-first .last .1 .1 .0) (c47 .read-second .last .1 .1 .0) (c44 .second-feed .result) (c42 .second-feed2 .result) (halfOf (c55 .half-of .result)) (penOf (c54 .pen-of .result)) (c41 .turn-of .result) (c40 .turn-of2 .result) (c39 .operate .result) (c38 .differs .result) (record { bytes = c36 .wait .last .0; count = c36 .wait .result }) (record { bytes = c32 .push-turn .last .0; count = c32 .push-turn .result }) (c21 .texts2 .result) (tapeOf (c21 .texts2 .result .first) (q .0) (a .x .now) (q .1 .1 .0)) (tapeOf (c21 .texts2 .result .second) (q .1 .0) (a .y .now) (q .1 .1 .1 .0)) (q .1 .1 .1 .1 .0) (q .1 .1 .1 .1 .1 .0) (q .1 .1 .1 .1 .1 .1 .0) (q .1 .1 .1 .1 .1 .1 .1 .0)
       (c51 .read-first .ensures) (c47 .read-second .ensures) refl refl (c44 .second-feed .ensures (a .k .n) _ (a .x .now)) (c42 .second-feed2 .ensures (a .k .n) _ (a .y .now))
       (ap halfOf (c55 .half-of .ensures ∙ ap (λ (w : Walked). w .half) (c56 .walked-of .ensures))) (ap penOf (c54 .pen-of .ensures ∙ ap (λ (w : Walked). w .pen) (c56 .walked-of .ensures)))
       (c41 .turn-of .ensures) (c40 .turn-of2 .ensures) (c39 .operate .ensures) (c38 .differs .ensures) (c36 .wait .ensures) (c32 .push-turn .ensures) (c21 .texts2 .ensures)
-      (c12 .is-halted2 .result) (c12 .is-halted2 .ensures) (c11 .if4 .left) (c10 .walked-of2 .result) (c6 .second .result) _ _ _ (c10 .walked-of2 .ensures) (c6 .second .ensures))
+      (c12 .is-halted2 .result) (c12 .is-halted2 .ensures) (c11 .if4 .left) (c10 .walked-of2 .result) (c6 .second .result) (c6 .second .last .1 .1 .1 .1 .1 .1 .0) (c6 .second .last .1 .1 .1 .1 .1 .1 .1 .0) (c6 .second .last .1 .1 .1 .1 .1 .1 .1 .1 .0) (c10 .walked-of2 .ensures) (c6 .second .ensures))
 
 pub +texts-spec : {M : Type 1} → statement M
 +texts-spec = close μ λ t. texts-lts.spec (K t) (at t) texts.Post

@@ -1,0 +1,116 @@
+// The operator, and inputs at edges of their own tables: at the two halves of a part, and where terminals fix what the operator gives.
+ghost use mathlib.Core.Path.{_≡_};
+ghost use mathlib.Core.Bool.{true, _&&_, _||_};
+ghost use mathlib.Core.List.{List, [], _∷_};
+ghost use lib.Dec.{eqb, ltb};
+ghost use Prim.Native.Nat.{ℕ};
+ghost use Rattle.writing.specs.Run.{digitAt, operate};
+ghost use Rattle.reader.specs.Table.{getIn};
+ghost use Rattle.engine.specs.Applying.{firstSource, secondSource, fixed};
+ghost use Rattle.edges.specs.Cite.{edgeIn};
+use meeting::differs;
+use reader::Row;
+use unique_table::either;
+
+// ---- The operator
+
+// The digit that two decisions give
+fn digit(a: bool, b: bool) -> u32
+    ensures { λ r. ⌜ r ≡ digitAt (a ∷ b ∷ []) ⌝ }
+{
+    either(a, either(b, 3, 2), either(b, 1, 0))
+}
+
+// What the operator gives for two decisions
+pub fn operate(op: u32, a: bool, b: bool) -> bool
+    ensures { λ r. ⌜ r ≡ operate op (a ∷ b ∷ []) ⌝ }
+{
+    (op >> digit(a, b)) % 2 == 1
+}
+
+// ---- Edges
+
+// An input at an edge of its own table, which has so many numbers: a number (0: the terminal), turned about or not
+pub struct Edge {
+    pub number: u32,
+    pub turned: bool,
+    pub size: u32,
+}
+
+// At level i the number k, with the record r, is passed over: the terminal, or of a deeper level
+fn is_passed(i: u32, k: u32, r: Row) -> bool
+    ensures { λ x. ⌜ x ≡ (eqb k 0 || ltb i (r .level)) ⌝ }
+{
+    if k == 0 {
+        return true;
+    }
+    i < r.level
+}
+
+// The edge at the two halves of a part of level i; r: the record of its number
+pub fn first_edge(i: u32, x: Edge, r: Row) -> Edge
+    ensures { λ y. ⌜ ((t : List (List ℕ)) → r ≡ getIn t (x .size) (x .number) → edgeIn y t ≡ firstSource i (edgeIn x t)) ⌝ }
+{
+    if is_passed(i, x.number, r) {
+        return x;
+    }
+    Edge {
+        number: r.first,
+        turned: x.turned,
+        size: x.size,
+    }
+}
+
+pub fn second_edge(i: u32, x: Edge, r: Row) -> Edge
+    ensures { λ y. ⌜ ((t : List (List ℕ)) → r ≡ getIn t (x .size) (x .number) → edgeIn y t ≡ secondSource i (edgeIn x t)) ⌝ }
+{
+    if is_passed(i, x.number, r) {
+        return x;
+    }
+    Edge {
+        number: r.second,
+        turned: differs(r.complement, x.turned),
+        size: x.size,
+    }
+}
+
+// Both are the same at the two halves of a part of level i; k and r, j and s: their numbers with the records
+pub fn both_pass(i: u32, k: u32, r: Row, j: u32, s: Row) -> bool
+    ensures { λ x. ⌜ x ≡ ((eqb k 0 || ltb i (r .level)) && ((eqb j 0 || ltb i (s .level)) && true)) ⌝ }
+{
+    if !is_passed(i, k, r) {
+        return false;
+    }
+    is_passed(i, j, s)
+}
+
+// ---- What terminals fix
+
+// With the first decision a, the operator gives the same for both decisions of y, or y is the terminal
+fn is_settled(op: u32, a: bool, y: Edge) -> bool
+    ensures { λ r. ⌜ ((t : List (List ℕ)) → r ≡ fixed (λ ds. operate op (a ∷ ds)) (edgeIn y t ∷ [])) ⌝ }
+{
+    if y.number == 0 {
+        return true;
+    }
+    !differs(operate(op, a, y.turned), operate(op, a, !y.turned))
+}
+
+// The terminals among x and y fix what the operator gives.
+pub fn is_fixed(op: u32, x: Edge, y: Edge) -> bool
+    ensures { λ r. ⌜ ((t u : List (List ℕ)) → r ≡ fixed (operate op) (edgeIn x t ∷ edgeIn y u ∷ [])) ⌝ }
+{
+    if !is_settled(op, x.turned, y) {
+        return false;
+    }
+    if x.number == 0 {
+        return true;
+    }
+    if !is_settled(op, !x.turned, y) {
+        return false;
+    }
+    !differs(
+        operate(op, x.turned, y.turned),
+        operate(op, !x.turned, y.turned),
+    )
+}
