@@ -21,8 +21,9 @@ use Rattle.combining.specs.RootFeed.{rootFeed}
 use Rattle.combining.specs.CombineMade.{bothIn}
 use Rattle.combining.specs.Merged.{emptyRows}
 use Rattle.combining.specs.Entering.{ignoresFirst, ignoresSecond, blindFeed, entered, entered-made}
-use Rattle.text_walk.specs.Cite.{begunFrom, streamBy}
-use Rattle.text_walk.specs.FeedMade.{begun-zero}
+use Rattle.feeds.specs.Cite.{begunFrom}
+use Rattle.text_walk.specs.Cite.{streamBy}
+use Rattle.feeds.specs.FeedMade.{begun-zero}
 use Rattle.text_walk.specs.TextsMade.{stream-within}
 
 -- ---- What the operator does not ask ----------------------------------------------------------

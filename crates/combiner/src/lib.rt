@@ -13,10 +13,13 @@ ghost use Rattle.combining.specs.CombineMade.{afterFirst, bothIn};
 ghost use Rattle.combining.specs.Entering.{ignoresFirst, ignoresSecond, entered};
 ghost use Rattle.reader.specs.Lent.{blockIn};
 ghost use Rattle.reader.specs.Load.{loadIn};
-ghost use Rattle.text_walk.specs.Cite.{feedOf, begunFrom};
+ghost use Rattle.feeds.specs.Cite.{begunIn, begunFrom};
 ghost use Rattle.meeting.specs.Cite.{writtenOf, writingOf};
 ghost use Rattle.combiner.specs.Cite.{bothOf};
-use applier::operate;
+use edges::operate;
+use feeds::Begun;
+use feeds::Feed;
+use feeds::begin;
 use meeting::Writing;
 use meeting::Written;
 use meeting::differs;
@@ -28,10 +31,7 @@ use reader::Checking;
 use reader::Loaded;
 use reader::Refusal;
 use reader::load;
-use text_walk::Begun;
-use text_walk::Feed;
 use text_walk::Task;
-use text_walk::begin;
 use text_walk::stream;
 use unique_table::clear;
 
@@ -147,7 +147,7 @@ fn ignores_second(op: u32) -> bool
 // Where an input enters the run: at its outermost node, if its table has that, or at the terminal there, if it is not asked (v); else at the first
 // block of its text.
 fn enter(n: u32, s: &[u8], t: &mut [[u32; 6]], o: &mut [[u32; 4]; 32], l: Loaded, v: bool) -> Begun
-    ensures { λ r. ⌜ feedOf (r .feed) (r .block) (now (o .exit)) (now (s .entry)) (now (t .exit)) ≡ entered v (now (s .entry)) (blockIn (l .block) (now (o .entry))) (loadIn l (now (t .entry))) (begunFrom n (now (s .entry)) (now (o .entry)) (now (t .entry))) ⌝ }
+    ensures { λ r. ⌜ begunIn r (now (o .exit)) (now (s .entry)) (now (t .exit)) ≡ entered v (now (s .entry)) (blockIn (l .block) (now (o .entry))) (loadIn l (now (t .entry))) (begunFrom n (now (s .entry)) (now (o .entry)) (now (t .entry))) ⌝ }
 {
     let whole = l.whole;
     if !whole {
@@ -240,10 +240,8 @@ pub fn combine(
         k,
         x,
         y,
-        f.feed,
-        g.feed,
-        f.block,
-        g.block,
+        f,
+        g,
         &mut o1,
         &mut o2,
         t1,

@@ -1,73 +1,53 @@
--- How code holds what the engine speaks of: inputs in their texts, the walk over texts, and the stream of a run. Assumes nothing.
-use mathlib.Core.Bool.{true, false, cond}
+-- How code holds what the engine's walk over texts speaks of, and the stream of a run. Assumes nothing.
+use mathlib.Core.Bool.{Bool, true, cond}
 use mathlib.Core.List.{List, [], _∷_}
-use Prim.Native.Nat.{ℕ, _+_}
+use Prim.Native.Nat.{ℕ}
 use lib.Dec.{ltb}
+use Rattle.lists.specs.Lists.{differ}
+use Rattle.writing.specs.Texts.{tildeIf}
 use Rattle.writing.specs.Run.{operate}
+use Rattle.engine.specs.Pending.{Waiting, pushAll, waitIn}
 use Rattle.engine.specs.Engine as E
-use Rattle.engine.specs.Applying.{secondSource}
 use Rattle.engine.specs.Taping as T
 use Rattle.engine.specs.Memo.{slotOf}
 use Rattle.engine.specs.Carrying.{Carried, carryIn}
 use Rattle.engine.specs.Merging.{mergeNodesIn, mergeIn}
-use Rattle.combining.specs.Tapes.{Tape, tapeAt, deepOf, sourceOf, nextTape}
-use Rattle.reader.specs.ReadOn.{Next, startCursor, nextBlock}
-use Rattle.reader.specs.Lent.{ReadBlock, cursorIn, blockIn}
-use Rattle.reader.specs.declared.Block.{Block}
-use Rattle.reader.specs.declared.Opens.{Opens}
-use Rattle.meeting.specs.Cite.{walkedOf}
+use Rattle.combining.specs.Tapes.{Tape, deepOf, sourceOf, nextTape}
+use Rattle.meeting.specs.Cite.{halfOf, penOf, walkedOf}
+use Rattle.meeting.specs.declared.Walked.{Walked}
 use Rattle.pending_text.specs.declared.Sent.{Sent}
+use Rattle.feeds.specs.Cite.{tapeOf}
+use Rattle.feeds.specs.declared.Begun.{Begun}
 use Rattle.text_walk.specs.declared.Applied.{Applied}
-use Rattle.text_walk.specs.declared.Feed.{Feed}
+use Rattle.text_walk.specs.declared.Gap.{Gap}
 use Rattle.text_walk.specs.declared.Task.{Task}
 
--- ---- Inputs ----------------------------------------------------------------------------------
+-- ---- Between the halves ----------------------------------------------------------------------
 
--- the block that was read last of the stream s, with the lent table
-abbrev pub tapeIn : ReadBlock → List ℕ → List (List ℕ) → Tape
-tapeIn b s t = record { stream = s; block = b; table = t }
+-- what an input decides at the first word of a part
+abbrev pub turnOf : Begun → Bool
+turnOf x = cond (x .feed .inside) (x .block .turned) (x .feed .turned)
 
--- with the open nodes o there
-abbrev pub blockOn : Block → Opens → ReadBlock
-blockOn b o =
-    record {
-      cursor = record { run = b .cursor .run; opens = o };
-      from = b .from;
-      deep = b .deep;
-      number = b .number;
-      turned = b .turned;
-      halted = b .halted;
-    }
+-- the first half, the pen after it, the `~` of the second, and what waits
+pub record Between : Type 0 where
+  pub half : E.Half
+  pub pen : E.Pen
+  pub turned : Bool
+  pub waiting : Waiting
 
--- with those that the cells o hold
-abbrev pub tapeOf : Block → List (List ℕ) → List ℕ → List (List ℕ) → Tape
-tapeOf b o s t = tapeIn (blockIn b o) s t
+abbrev pub gapIn : Gap → List ℕ → Between
+gapIn g w =
+    record { half = halfOf (g .half); pen = penOf (g .pen); turned = g .turned; waiting = record { bytes = w; count = g .count } }
 
--- an input on its tape
-abbrev pub onTape : Feed → Tape → T.Feed Tape
-onTape f τ = record { tape = τ; inText = f .inside; number = f .number; turned = f .turned }
+-- u: the `~`, q: with the first half waiting
+abbrev pub gapWith : Walked → Bool → Waiting → Between
+gapWith a u q =
+    record { half = halfOf (a .half); pen = penOf (a .pen); turned = u; waiting = pushAll (q .bytes) (q .count) (tildeIf u) }
 
-abbrev pub feedOn : Feed → Block → Opens → List ℕ → List (List ℕ) → T.Feed Tape
-feedOn f b o s t = onTape f (tapeIn (blockOn b o) s t)
-
-abbrev pub feedOf : Feed → Block → List (List ℕ) → List ℕ → List (List ℕ) → T.Feed Tape
-feedOf f b o s t = onTape f (tapeOf b o s t)
-
--- the next block, if the input is inside its text
-abbrev pub readBy : ℕ → List ℕ → Feed → ReadBlock → List (List ℕ) → Next
-readBy n s f b t = cond (f .inside) (nextBlock n s (b .cursor) t) (record { block = b; table = t })
-
--- at the second half of a part of level i, with the block for it read
-abbrev pub arrived : ℕ → ℕ → T.Feed Tape → T.Feed Tape
-arrived n i f =
-    cond (f .inText) (T.settle deepOf sourceOf (nextTape n) (i + 1) f)
-    (T.atEdge f (secondSource i (T.edgeOf deepOf sourceOf (nextTape n) f)))
-
--- at the outermost node, with the cells o for the open nodes: in its text unless its first block is all of it
-abbrev pub begunFrom : ℕ → List ℕ → List (List ℕ) → List (List ℕ) → T.Feed Tape
-begunFrom n s o t =
-    T.settle deepOf sourceOf (nextTape n) 1
-    (record { tape = tapeAt s (nextBlock n s (cursorIn startCursor o) t); inText = true; number = 0; turned = false })
+-- q₁, q₂: what the inputs decide at the first word of the second half, m bytes waiting before the first, a
+abbrev pub gapBy : ℕ → ℕ → Bool → Bool → Walked → List ℕ → Between
+gapBy op m q₁ q₂ a w =
+    gapWith a (differ (a .half .complement) (operate op (q₁ ∷ q₂ ∷ []))) (waitIn w m (a .half .wrote) (a .half .skipped) (a .half .number))
 
 -- ---- The walk --------------------------------------------------------------------------------
 

@@ -1,3 +1,2 @@
 pub mod Cite
-pub mod FeedMade
 pub mod TextsMade

@@ -26,25 +26,19 @@ use Rattle.engine.specs.Merging.{mergeIn}
 use Rattle.combining.specs.Tapes.{Tape, deepOf, sourceOf, nextTape}
 use Rattle.meeting.specs.Cite.{walkedOf}
 use Rattle.meeting.specs.declared.Walked.{Walked}
-use Rattle.edges.specs.Cite.{edgeIn}
 use Rattle.applier.specs.Cite.{recalledOf, applied}
 use Rattle.applier.specs.WalkMade.{applied-within}
-use Rattle.edges.specs.declared.Edge.{Edge}
-use Rattle.reader.specs.Lent.{ReadBlock}
-use Rattle.reader.specs.declared.Block.{Block}
-use Rattle.text_walk.specs.Cite.{tapeIn, tapeOf, onTape, feedOf, readBy, arrived, carriedOn, walkTexts, nodesBy, streamBy}
-use Rattle.text_walk.specs.FeedMade.{second-arrived}
+use Rattle.text_walk.specs.Cite.{Between, gapWith, gapBy, carriedOn, walkTexts, nodesBy, streamBy}
 use Rattle.text_walk.specs.declared.Applied.{Applied}
-use Rattle.text_walk.specs.declared.Feed.{Feed}
 use Rattle.text_walk.specs.declared.Task.{Task}
 
--- two inputs on their tapes
-abbrev pub feeds : Feed → Tape → Feed → Tape → List (T.Feed Tape)
-feeds f τ g σ = onTape f τ ∷ onTape g σ ∷ []
-
 -- no option is left, or no input is in its text
-abbrev pub atEdges : ℕ → Feed → Feed → Bool
-atEdges d f g = eqb d 0 || not (f .inside || (g .inside || false))
+abbrev pub atEdges : ℕ → T.Feed Tape → T.Feed Tape → Bool
+atEdges d φ ψ = eqb d 0 || not (φ .inText || (ψ .inText || false))
+
+-- what an input decides at the first word of a part
+abbrev pub turnAt : T.Feed Tape → Bool
+turnAt φ = cond (φ .inText) (sourceOf (φ .tape) .turned) (φ .turned)
 
 -- ---- What is asked ---------------------------------------------------------------------------
 
@@ -71,44 +65,39 @@ abbrev pub cameTo : Walked → Bool → Tape → Tape → List (List ℕ) → Li
 cameTo r b τ σ t out w μ =
     record { applied = record { walked = walkedOf r t out w; tapes = τ ∷ σ ∷ []; ended = b }; memo = μ }
 
-module _ (k : Task) (e i at m : ℕ) (x y : List ℕ) (f g : Feed) (b₁ b₂ : Block) (o₁ o₂ t₁ t₂ μ t : List (List ℕ)) (out w : List ℕ)
-    (pen : E.Pen) where
+module _ (k : Task) (e i at m : ℕ) (φ ψ : T.Feed Tape) (μ t : List (List ℕ)) (out w : List ℕ) (pen : E.Pen) where
   abbrev inputs : List (T.Feed Tape)
-  inputs = feedOf f b₁ o₁ x t₁ ∷ feedOf g b₂ o₂ y t₂ ∷ []
+  inputs = φ ∷ ψ ∷ []
 
   abbrev whole : Carried Tape
   whole = walkTexts k e i at m inputs μ t out w pen
 
   -- all inputs at edges, p and q
-  pub texts-edges : (p q : Edge) (r : Walked) (v : List (List ℕ)) (o z : List ℕ) (ν : List (List ℕ))
-      → atEdges e f g ≡ true → e ≤ 32 → i + e ≤ 33
-      → p ≡ record { number = f .number; turned = f .turned; size = b₁ .cursor .run .size }
-      → q ≡ record { number = g .number; turned = g .turned; size = b₂ .cursor .run .size }
-      → recalledOf r v o z ν ≡ applied (k .op) (k .size) e i m (edgeIn p t₁ ∷ edgeIn q t₂ ∷ []) μ t out w pen
-      → cameTo r false (tapeOf b₁ o₁ x t₁) (tapeOf b₂ o₂ y t₂) v o z ν ≡ whole
+  pub texts-edges : (p q : Source) (r : Walked) (v : List (List ℕ)) (o z : List ℕ) (ν : List (List ℕ))
+      → atEdges e φ ψ ≡ true → e ≤ 32 → i + e ≤ 33
+      → p ≡ T.edgeOf deepOf sourceOf (nextTape (k .n)) φ → q ≡ T.edgeOf deepOf sourceOf (nextTape (k .n)) ψ
+      → recalledOf r v o z ν ≡ applied (k .op) (k .size) e i m (p ∷ q ∷ []) μ t out w pen
+      → cameTo r false (φ .tape) (ψ .tape) v o z ν ≡ whole
   texts-edges p q r v o z ν h few low pe qe walked =
-      ap (λ (r : Recalled). recalledOn r (tapeOf b₁ o₁ x t₁ ∷ tapeOf b₂ o₂ y t₂ ∷ []))
-      (walked ∙ sym (applied-within (k .op) (k .size) e i m (edgeIn p t₁ ∷ edgeIn q t₂ ∷ []) μ t out w pen few (omega (arith, low)))
-      ∙ ap₂ (λ (p q : Edge). recallIn slotOf (operate (k .op)) (k .size) e i m (edgeIn p t₁ ∷ edgeIn q t₂ ∷ []) μ t out w pen) pe qe)
+      ap (λ (r : Recalled). recalledOn r (φ .tape ∷ ψ .tape ∷ []))
+      (walked ∙ sym (applied-within (k .op) (k .size) e i m (p ∷ q ∷ []) μ t out w pen few (omega (arith, low)))
+      ∙ ap₂ (λ (p q : Source). recallIn slotOf (operate (k .op)) (k .size) e i m (p ∷ q ∷ []) μ t out w pen) pe qe)
       ∙ carry-edges deepOf sourceOf (nextTape (k .n)) slotOf (operate (k .op)) (k .covered) (k .size) i at m inputs μ t out w pen e h
 
-  -- f₁, g₁: the inputs at the first half; p: what waits before it; a: what code came to there, on the tapes τ₁ and σ₁
-  module _ (d : ℕ) (n : e ≡ suc d) (h : atEdges e f g ≡ false) (f₁ g₁ : Feed) (p : Waiting) (a : Applied) (τ₁ σ₁ : Tape)
-      (v : List (List ℕ)) (o z : List ℕ) (ν : List (List ℕ))
-      (first₁ : feedOf f₁ b₁ o₁ x t₁ ≡ T.firstFeed deepOf sourceOf (nextTape (k .n)) i (feedOf f b₁ o₁ x t₁))
-      (first₂ : feedOf g₁ b₂ o₂ y t₂ ≡ T.firstFeed deepOf sourceOf (nextTape (k .n)) i (feedOf g b₂ o₂ y t₂))
-      (pushed : p ≡ pushAll w m (opener ∷ []))
-      (walked : carriedOn a τ₁ σ₁ v o z ν
-      ≡ walkTexts k d (i + 1) at (p .count) (feedOf f₁ b₁ o₁ x t₁ ∷ feedOf g₁ b₂ o₂ y t₂ ∷ []) μ t out (p .bytes) pen) where
+  -- φ₁, ψ₁: the inputs at the first half; p: what waits before it; a: what code came to there, on the tapes τ₁ and σ₁
+  module _ (d : ℕ) (n : e ≡ suc d) (h : atEdges e φ ψ ≡ false) (φ₁ ψ₁ : T.Feed Tape) (p : Waiting) (a : Applied) (τ₁ σ₁ : Tape)
+      (v : List (List ℕ)) (o z : List ℕ) (ν : List (List ℕ)) (first₁ : φ₁ ≡ T.firstFeed deepOf sourceOf (nextTape (k .n)) i φ)
+      (first₂ : ψ₁ ≡ T.firstFeed deepOf sourceOf (nextTape (k .n)) i ψ) (pushed : p ≡ pushAll w m (opener ∷ []))
+      (walked : carriedOn a τ₁ σ₁ v o z ν ≡ walkTexts k d (i + 1) at (p .count) (φ₁ ∷ ψ₁ ∷ []) μ t out (p .bytes) pen) where
     -- the inputs there
     abbrev inputs₁ : List (T.Feed Tape)
-    inputs₁ = feedOf f₁ b₁ o₁ x t₁ ∷ feedOf g₁ b₂ o₂ y t₂ ∷ []
+    inputs₁ = φ₁ ∷ ψ₁ ∷ []
 
     went : inputs₁ ≡ T.firstFeeds deepOf sourceOf (nextTape (k .n)) i inputs
     went = ap₂ (λ (a b : T.Feed Tape). a ∷ b ∷ []) first₁ first₂
 
     some : T.anyText inputs ≡ true
-    some = inside-text e (f .inside || (g .inside || false)) h
+    some = inside-text e (φ .inText || (ψ .inText || false)) h
 
     -- what code came to there
     abbrev here : Carried Tape
@@ -128,38 +117,44 @@ module _ (k : Task) (e i at m : ℕ) (x y : List ℕ) (f g : Feed) (b₁ b₂ : 
           carry-ended deepOf sourceOf (nextTape (k .n)) slotOf (operate (k .op)) (k .covered) (k .size) d i at m inputs μ t out w
           pen e n some inputs₁ p here went pushed walked j words (sym ce ∙ goes) (le-leb (k .covered) (at + j) l)
 
-      -- c₁, c₂: the blocks after the first half, u₁, u₂: the tables; b₃, b₄ and z₁, z₂: those for the second half; f₂, g₂: the inputs
-      -- there; half, after: the first half and the pen after it; q₁, q₂: what they decide at its first word, l: what that comes to,
-      -- u: the `~` between the halves; b: what code came to there, on the tapes τ₃ and σ₃
-      module _ (more : at + j < k .covered) (c₁ c₂ b₃ b₄ : ReadBlock) (u₁ u₂ z₁ z₂ : List (List ℕ)) (f₂ g₂ : Feed) (half : E.Half)
-          (after : E.Pen) (q₁ q₂ l u : Bool) (q r : Waiting) (b : Applied) (τ₃ σ₃ : Tape) (y₃ : List (List ℕ)) (o₃ w₂ : List ℕ)
-          (ν₂ : List (List ℕ)) (read₁ : record { block = b₃; table = z₁ } ≡ readBy (k .n) x f c₁ u₁)
-          (read₂ : record { block = b₄; table = z₂ } ≡ readBy (k .n) y g c₂ u₂) (tape₁ : tapeIn c₁ x u₁ ≡ τ₁) (tape₂ : tapeIn c₂ y u₂ ≡ σ₁)
-          (second₁ : onTape f₂ (tapeIn b₃ x z₁) ≡ arrived (k .n) i (onTape f (tapeIn b₃ x z₁)))
-          (second₂ : onTape g₂ (tapeIn b₄ y z₂) ≡ arrived (k .n) i (onTape g (tapeIn b₄ y z₂)))
-          (came : half ≡ here .applied .walked .half) (left : after ≡ here .applied .walked .pen)
-          (turn₁ : q₁ ≡ cond (f₂ .inside) (b₃ .turned) (f₂ .turned))
-          (turn₂ : q₂ ≡ cond (g₂ .inside) (b₄ .turned) (g₂ .turned)) (first : l ≡ operate (k .op) (q₁ ∷ q₂ ∷ []))
-          (turned : u ≡ differ (half .complement) l)
-          (waited : q ≡ waitIn z (p .count) (half .wrote) (half .skipped) (half .number))
-          (ready : r ≡ pushAll (q .bytes) (q .count) (tildeIf u))
+      -- φ₂, ψ₂: the inputs at the second half; gap: what is between the halves; b: what code came to there, on the tapes τ₃ and σ₃
+      module _ (more : at + j < k .covered) (φ₂ ψ₂ : T.Feed Tape) (gap : Between) (b : Applied) (τ₃ σ₃ : Tape) (y₃ : List (List ℕ))
+          (o₃ w₂ : List ℕ) (ν₂ : List (List ℕ)) (second₁ : φ₂ ≡ T.secondFeed deepOf sourceOf (nextTape (k .n)) i (T.onTape φ τ₁))
+          (second₂ : ψ₂ ≡ T.secondFeed deepOf sourceOf (nextTape (k .n)) i (T.onTape ψ σ₁))
+          (crossed : gap ≡ gapBy (k .op) (p .count) (turnAt φ₂) (turnAt ψ₂) (a .walked) z)
           (both : carriedOn b τ₃ σ₃ y₃ o₃ w₂ ν₂
-          ≡ walkTexts k d (i + 1) (at + j) (r .count) (onTape f₂ (tapeIn b₃ x z₁) ∷ onTape g₂ (tapeIn b₄ y z₂) ∷ []) ν v o (r .bytes) after)
+          ≡ walkTexts k d (i + 1) (at + j) (gap .waiting .count) (φ₂ ∷ ψ₂ ∷ []) ν v o (gap .waiting .bytes) (gap .pen))
         where
           -- the inputs there
           abbrev inputs₂ : List (T.Feed Tape)
-          inputs₂ = onTape f₂ (tapeIn b₃ x z₁) ∷ onTape g₂ (tapeIn b₄ y z₂) ∷ []
+          inputs₂ = φ₂ ∷ ψ₂ ∷ []
 
           gone : inputs₂ ≡ T.secondFeeds deepOf sourceOf (nextTape (k .n)) i (T.resume inputs (here .applied .tapes))
-          gone =
-              ap₂ (λ (a b : T.Feed Tape). a ∷ b ∷ [])
-              (second-arrived (k .n) i x u₁ z₁ f f₂ c₁ b₃ read₁ second₁
-              ∙ ap (λ (τ : Tape). T.secondFeed deepOf sourceOf (nextTape (k .n)) i (onTape f τ)) tape₁)
-              (second-arrived (k .n) i y u₂ z₂ g g₂ c₂ b₄ read₂ second₂
-              ∙ ap (λ (τ : Tape). T.secondFeed deepOf sourceOf (nextTape (k .n)) i (onTape g τ)) tape₂)
+          gone = ap₂ (λ (a b : T.Feed Tape). a ∷ b ∷ []) second₁ second₂
 
-          starts : l ≡ operate (k .op) (T.turnsOf deepOf sourceOf (nextTape (k .n)) inputs₂)
-          starts = first ∙ ap₂ (λ (a b : Bool). operate (k .op) (a ∷ b ∷ [])) turn₁ turn₂
+          -- what the first word of the second half comes to, and what waits of the first
+          abbrev starts : Bool
+          starts = operate (k .op) (turnAt φ₂ ∷ turnAt ψ₂ ∷ [])
+
+          abbrev waits : Waiting
+          waits = waitIn z (p .count) (a .walked .half .wrote) (a .walked .half .skipped) (a .walked .half .number)
+
+          half : gap .half ≡ here .applied .walked .half
+          half = ap (λ (x : Between). x .half) crossed
+
+          after : gap .pen ≡ here .applied .walked .pen
+          after = ap (λ (x : Between). x .pen) crossed
+
+          turned : gap .turned ≡ differ (gap .half .complement) starts
+          turned = ap (λ (x : Between). x .turned) crossed ∙ ap (λ (x : E.Half). differ (x .complement) starts) (sym half)
+
+          waited : waits ≡ waitIn z (p .count) (gap .half .wrote) (gap .half .skipped) (gap .half .number)
+          waited = ap (λ (x : E.Half). waitIn z (p .count) (x .wrote) (x .skipped) (x .number)) (sym half)
+
+          ready : gap .waiting ≡ pushAll (waits .bytes) (waits .count) (tildeIf (gap .turned))
+          ready =
+              ap (λ (x : Between). x .waiting) crossed
+              ∙ ap (λ (u : Bool). pushAll (waits .bytes) (waits .count) (tildeIf u)) (sym (ap (λ (x : Between). x .turned) crossed))
 
           abbrev there : Carried Tape
           there = carriedOn b τ₃ σ₃ y₃ o₃ w₂ ν₂
@@ -169,31 +164,42 @@ module _ (k : Task) (e i at m : ℕ) (x y : List ℕ) (f g : Feed) (b₁ b₂ : 
           texts-done c′ e′ f′ =
               carry-done deepOf sourceOf (nextTape (k .n)) slotOf (operate (k .op)) (k .covered) (k .size) d i at m inputs μ t out w
               pen e n some inputs₁ p here went pushed walked j words (sym ce ∙ goes) (lt-leb (k .covered) (at + j) more)
-              half after inputs₂ l u q r there came left gone starts turned waited ready both (sym e′ ∙ f′)
+              (gap .half) (gap .pen) inputs₂ starts (gap .turned) waits (gap .waiting) there half after gone refl turned waited ready both
+              (sym e′ ∙ f′)
 
           -- the halves meet: s
           pub texts-on : (c′ : Bool) → c′ ≡ (b .ended || b .walked .pen .full) → c′ ≡ false → (r′ s : Walked)
               (s₃ : List (List ℕ)) (o₄ w₃ : List ℕ) → r′ ≡ b .walked
-              → walkedOf s s₃ o₄ w₃ ≡ E.secondIn (k .size) i (r .count) u half (walkedOf r′ y₃ o₃ w₂)
+              → walkedOf s s₃ o₄ w₃ ≡ E.secondIn (k .size) i (gap .waiting .count) (gap .turned) (gap .half) (walkedOf r′ y₃ o₃ w₂)
               → cameTo s false τ₃ σ₃ s₃ o₄ w₃ ν₂ ≡ whole
           texts-on c′ e′ f′ r′ s s₃ o₄ w₃ re met =
               ap (λ (s : E.Walked). record { applied = record { walked = s; tapes = τ₃ ∷ σ₃ ∷ []; ended = false }; memo = ν₂ })
-              (met ∙ ap (λ (r′ : Walked). E.secondIn (k .size) i (r .count) u half (walkedOf r′ y₃ o₃ w₂)) re)
+              (met ∙ ap (λ (r′ : Walked). E.secondIn (k .size) i (gap .waiting .count) (gap .turned) (gap .half) (walkedOf r′ y₃ o₃ w₂)) re)
               ∙ carry-on deepOf sourceOf (nextTape (k .n)) slotOf (operate (k .op)) (k .covered) (k .size) d i at m inputs μ t out w
               pen e n some inputs₁ p here went pushed walked j words (sym ce ∙ goes) (lt-leb (k .covered) (at + j) more)
-              half after inputs₂ l u q r there came left gone starts turned waited ready both (sym e′ ∙ f′)
+              (gap .half) (gap .pen) inputs₂ starts (gap .turned) waits (gap .waiting) there half after gone refl turned waited ready both
+              (sym e′ ∙ f′)
+
+-- ---- Between the halves ----------------------------------------------------------------------
+
+-- as code has it; r: the first half, u: the `~`, q: with the first half waiting
+pub gap-made : (op m : ℕ) (q₁ q₂ u₁ u₂ l u : Bool) (a r : Walked) (w : List ℕ) (q : Waiting) → r ≡ a → q₁ ≡ u₁ → q₂ ≡ u₂
+    → l ≡ operate op (q₁ ∷ q₂ ∷ []) → u ≡ differ (r .half .complement) l
+    → q ≡ waitIn w m (r .half .wrote) (r .half .skipped) (r .half .number) → gapWith r u q ≡ gapBy op m u₁ u₂ a w
+gap-made op m q₁ q₂ u₁ u₂ l u a r w q re e₁ e₂ le ue qe =
+    ap₂ (gapWith r) (ue ∙ ap (differ (r .half .complement)) (le ∙ ap₂ (λ (a b : Bool). operate op (a ∷ b ∷ [])) e₁ e₂)) qe
+    ∙ ap (λ (r : Walked). gapBy op m u₁ u₂ r w) re
 
 -- ---- The stream ------------------------------------------------------------------------------
 
 -- s: what is sent before the outermost node; q₁, q₂: what the inputs decide at the first word; a: what code came to
-pub nodes-code : (k : Task) (f g : Feed) (τ σ : Tape) (μ t : List (List ℕ)) (q₁ q₂ l : Bool) (s : E.Sent) (m : Waiting) (pen : E.Pen)
+pub nodes-code : (k : Task) (φ ψ : T.Feed Tape) (μ t : List (List ℕ)) (q₁ q₂ l : Bool) (s : E.Sent) (m : Waiting) (pen : E.Pen)
     (a : Applied) (τ₁ σ₁ : Tape) (v : List (List ℕ)) (o z : List ℕ) (ν : List (List ℕ))
-    → q₁ ≡ cond (f .inside) (sourceOf τ .turned) (f .turned) → q₂ ≡ cond (g .inside) (sourceOf σ .turned) (g .turned)
-    → l ≡ operate (k .op) (q₁ ∷ q₂ ∷ []) → m ≡ pushAll (s .waits) 0 (tildeIf l) → pen ≡ E.penAfter s
-    → carriedOn a τ₁ σ₁ v o z ν ≡ walkTexts k (k .n) 1 0 (m .count) (feeds f τ g σ) μ t (s .output) (m .bytes) pen
-    → finishIn (k .n) (k .covered) (m .count) (carriedOn a τ₁ σ₁ v o z ν .applied) ≡ nodesBy k (feeds f τ g σ) μ t s
-nodes-code k f g τ σ μ t q₁ q₂ l s m pen a τ₁ σ₁ v o z ν turn₁ turn₂ first pushed pe walked =
-    merge-made deepOf sourceOf (nextTape (k .n)) slotOf (operate (k .op)) (k .n) (k .covered) (k .size) (feeds f τ g σ) μ t s l m pen
+    → q₁ ≡ turnAt φ → q₂ ≡ turnAt ψ → l ≡ operate (k .op) (q₁ ∷ q₂ ∷ []) → m ≡ pushAll (s .waits) 0 (tildeIf l) → pen ≡ E.penAfter s
+    → carriedOn a τ₁ σ₁ v o z ν ≡ walkTexts k (k .n) 1 0 (m .count) (φ ∷ ψ ∷ []) μ t (s .output) (m .bytes) pen
+    → finishIn (k .n) (k .covered) (m .count) (carriedOn a τ₁ σ₁ v o z ν .applied) ≡ nodesBy k (φ ∷ ψ ∷ []) μ t s
+nodes-code k φ ψ μ t q₁ q₂ l s m pen a τ₁ σ₁ v o z ν turn₁ turn₂ first pushed pe walked =
+    merge-made deepOf sourceOf (nextTape (k .n)) slotOf (operate (k .op)) (k .n) (k .covered) (k .size) (φ ∷ ψ ∷ []) μ t s l m pen
     (carriedOn a τ₁ σ₁ v o z ν)
     (first ∙ ap₂ (λ (a b : Bool). operate (k .op) (a ∷ b ∷ [])) turn₁ turn₂) pushed pe walked
 

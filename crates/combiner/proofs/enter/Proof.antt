@@ -2,7 +2,7 @@
 use borrow.Author.Tests.{not-true, not-false}
 use Rattle.reader.specs.Lent.{blockIn}
 use Rattle.reader.specs.Load.{loadIn}
-use Rattle.text_walk.specs.Cite.{begunFrom}
+use Rattle.feeds.specs.Cite.{begunFrom}
 use Rattle.combiner.specs.CallMade.{enter-text, enter-blind, enter-root}
 use borrow.Author.Needs.{needs}
 use Rattle.combiner.proofs.enter.Statement.{statement}

@@ -4,7 +4,8 @@ use native.Mathlib.Omega.{arith}
 use Prim.Native.Nat.{_+_, _≤_, _^_}
 use lib.Pow.{pow-mono}
 use Rattle.meeting.specs.Cite.{penOf}
-use Rattle.text_walk.specs.Cite.{tapeOf}
+use Rattle.feeds.specs.Cite.{tapeOf, begunIn}
+use Rattle.text_walk.specs.Cite.{sentOf}
 use Rattle.text_walk.specs.TextsMade.{nodes-code}
 use borrow.Author.Needs.{needs}
 use Rattle.text_walk.proofs.nodes.Statement.{statement}
@@ -26,10 +27,17 @@ pen-after-requires : tie.Need-pen-after-requires
 pen-after-requires c κs = tt
 
 texts-requires : tie.Need-texts-requires
-texts-requires c κs = let p : 2 ^ c .before .before .before .before .before .before .before .before .before .before .before .before .before .before .before .before .before .before .before .before .args .k .n ≤ 2 ^ 32 = pow-mono (c .before .before .before .before .before .before .before .before .before .before .before .before .before .before .before .before .before .before .before .before .pre) in let h : (c .before .before .before .before .before .before .before .before .before .before .before .before .before .before .before .before .before .before .before .before .args .k .n ≤ 32) × ((1 + c .before .before .before .before .before .before .before .before .before .before .before .before .before .before .before .before .before .before .before .before .args .k .n ≤ 33) × (0 + 2 ^ c .before .before .before .before .before .before .before .before .before .before .before .before .before .before .before .before .before .before .before .before .args .k .n ≤ 4294967296)) = omega (arith, c .before .before .before .before .before .before .before .before .before .before .before .before .before .before .before .before .before .before .before .before .pre, p) in h
+texts-requires c κs =
+    let c20 = c .before .before .before .before .before .before .before .before .before .before .before .before .before .before .before .before .before .before .before .before in
+    let n = c20 .args .k .n in
+    let p : 2 ^ n ≤ 2 ^ 32 = pow-mono (c20 .pre) in
+    let h : (n ≤ 32) × ((1 + n ≤ 33) × (0 + 2 ^ n ≤ 4294967296)) = omega (arith, c20 .pre, p) in
+    h
 
 finish-requires : tie.Need-finish-requires
-finish-requires c κs = let h : c .before .before .before .before .before .before .before .before .before .before .before .before .before .before .before .before .before .before .before .before .before .before .before .before .before .before .before .before .before .before .before .args .k .n ≤ 32 = c .before .before .before .before .before .before .before .before .before .before .before .before .before .before .before .before .before .before .before .before .before .before .before .before .before .before .before .before .before .before .before .pre in h
+finish-requires c κs =
+    let c31 = c .before .before .before .before .before .before .before .before .before .before .before .before .before .before .before .before .before .before .before .before .before .before .before .before .before .before .before .before .before .before .before in
+    let h : c31 .args .k .n ≤ 32 = c31 .pre in h
 
 same-length : tie.Need-same-length
 same-length c = search needs
@@ -44,13 +52,32 @@ same-length-4 : tie.Need-same-length-4
 same-length-4 c = search needs
 
 same-length-5 : tie.Need-same-length-5
-same-length-5 c = c .before .w3 .given ∙ c .before .before .before .before .before .before .before .before .before .w2 .given ∙ c .before .before .before .before .before .before .before .before .before .before .before .before .before .before .before .before .before .before .before .before .before .before .before .before .before .before .w .given
+same-length-5 c =
+    let c1 = c .before in
+    let c9 = c1 .before .before .before .before .before .before .before .before in
+    let c26 = c9 .before .before .before .before .before .before .before .before .before .before .before .before .before .before .before .before .before in
+    c1 .w3 .given ∙ c9 .w2 .given ∙ c26 .w .given
 
 same-length-6 : tie.Need-same-length-6
 same-length-6 c = search needs
 
 returns : tie.Need-returns
-returns c = c .before .before .before .before .finish .ensures ∙ nodes-code (c .before .before .before .before .before .before .before .before .before .before .before .before .before .before .before .before .before .before .before .before .before .before .before .before .before .before .before .before .before .before .before .before .before .before .before .before .args .k) (c .before .before .before .before .before .before .before .before .before .before .before .before .before .before .before .before .before .before .before .before .before .before .before .before .before .before .before .before .before .before .before .before .before .before .before .before .args .f) (c .before .before .before .before .before .before .before .before .before .before .before .before .before .before .before .before .before .before .before .before .before .before .before .before .before .before .before .before .before .before .before .before .before .before .before .before .args .g) (tapeOf (c .before .before .before .before .before .before .before .before .before .before .before .before .before .before .before .before .before .before .before .before .before .before .before .before .before .before .before .before .before .before .before .before .before .before .before .before .args .b1) (c .before .before .before .before .before .before .before .before .before .before .before .before .before .before .before .before .before .before .before .before .before .before .before .before .before .before .before .before .before .before .before .before .before .before .before .before .args .o1 .now) (c .before .before .before .before .before .before .before .before .before .before .before .before .before .before .before .before .before .before .before .before .before .before .before .before .before .before .before .before .before .before .before .before .before .before .before .before .args .x .now) (c .before .before .before .before .before .before .before .before .before .before .before .before .before .before .before .before .before .before .before .before .before .before .before .before .before .before .before .before .before .before .before .before .before .before .before .before .args .t1 .now)) (tapeOf (c .before .before .before .before .before .before .before .before .before .before .before .before .before .before .before .before .before .before .before .before .before .before .before .before .before .before .before .before .before .before .before .before .before .before .before .before .args .b2) (c .before .before .before .before .before .before .before .before .before .before .before .before .before .before .before .before .before .before .before .before .before .before .before .before .before .before .before .before .before .before .before .before .before .before .before .before .args .o2 .now) (c .before .before .before .before .before .before .before .before .before .before .before .before .before .before .before .before .before .before .before .before .before .before .before .before .before .before .before .before .before .before .before .before .before .before .before .before .args .y .now) (c .before .before .before .before .before .before .before .before .before .before .before .before .before .before .before .before .before .before .before .before .before .before .before .before .before .before .before .before .before .before .before .before .before .before .before .before .args .t2 .now)) (c .before .before .before .before .before .before .before .before .before .before .before .before .before .before .before .before .before .before .before .before .before .before .before .before .before .before .before .before .before .before .before .before .before .before .before .before .args .c .now) (c .before .before .before .before .before .before .before .before .before .before .before .before .before .before .before .before .before .before .before .before .before .before .before .before .before .before .before .before .before .before .before .before .before .before .before .before .args .t .now) (c .before .before .before .before .before .before .before .before .before .before .before .before .before .before .before .before .before .before .before .before .before .before .before .before .before .before .before .before .before .before .turn-of .result) (c .before .before .before .before .before .before .before .before .before .before .before .before .before .before .before .before .before .before .before .before .before .before .before .before .before .before .before .before .before .turn-of2 .result) (c .before .before .before .before .before .before .before .before .before .before .before .before .before .before .before .before .before .before .before .before .before .before .before .before .before .before .before .before .operate .result) _ _ (penOf (c .before .before .before .before .before .before .before .before .before .before .before .before .before .before .before .before .before .before .before .before .before .before .before .before .pen-after .result)) (c .before .before .before .before .before .before .before .before .before .before .before .before .before .before .before .texts .result) _ _ _ _ _ _ (c .before .before .before .before .before .before .before .before .before .before .before .before .before .before .before .before .before .before .before .before .before .before .before .before .before .before .before .before .before .before .turn-of .ensures) (c .before .before .before .before .before .before .before .before .before .before .before .before .before .before .before .before .before .before .before .before .before .before .before .before .before .before .before .before .before .turn-of2 .ensures) (c .before .before .before .before .before .before .before .before .before .before .before .before .before .before .before .before .before .before .before .before .before .before .before .before .before .before .before .before .operate .ensures) (c .before .before .before .before .before .before .before .before .before .before .before .before .before .before .before .before .before .before .before .before .before .before .before .before .before .before .before .push-turn .ensures) (ap penOf (c .before .before .before .before .before .before .before .before .before .before .before .before .before .before .before .before .before .before .before .before .before .before .before .before .pen-after .ensures)) (c .before .before .before .before .before .before .before .before .before .before .before .before .before .before .before .texts .ensures)
+returns c =
+    let c4 = c .before .before .before .before in
+    let c15 = c4 .before .before .before .before .before .before .before .before .before .before .before in
+    let c24 = c15 .before .before .before .before .before .before .before .before .before in
+    let c27 = c24 .before .before .before in
+    let c28 = c27 .before in
+    let c29 = c28 .before in
+    let c30 = c29 .before in
+    let c36 = c30 .before .before .before .before .before .before in
+    let a = c36 .args in
+    let l = c15 .texts .last .1 .1 .1 .1 .1 .1 .1 .1 .1 in
+    c4 .finish .ensures
+    ∙ nodes-code (a .k) (begunIn (a .f) (a .o1 .now) (a .x .now) (a .t1 .now)) (begunIn (a .g) (a .o2 .now) (a .y .now) (a .t2 .now)) (a .c .now) (a .t .now) (c30 .turn-of .result) (c29 .turn-of2 .result) (c28 .operate .result)
+    (sentOf (a .head) (a .out .now) (a .w .now)) (record { bytes = c27 .push-turn .last .0; count = c27 .push-turn .result }) (penOf (c24 .pen-after .result)) (c15 .texts .result)
+    (tapeOf (c15 .texts .result .first) (l .0) (a .x .now) (l .1 .1 .0)) (tapeOf (c15 .texts .result .second) (l .1 .0) (a .y .now) (l .1 .1 .1 .0)) (l .1 .1 .1 .1 .0) (l .1 .1 .1 .1 .1 .0) (l .1 .1 .1 .1 .1 .1 .0) (l .1 .1 .1 .1 .1 .1 .1 .0)
+    (c30 .turn-of .ensures) (c29 .turn-of2 .ensures) (c28 .operate .ensures) (c27 .push-turn .ensures) (ap penOf (c24 .pen-after .ensures)) (c15 .texts .ensures)
 
 pub nodes-spec : {M : Type 1} → statement M
 nodes-spec = tie.close (tie.spec turn-of-requires turn-of-requires-2 operate-requires push-turn-requires pen-after-requires texts-requires finish-requires same-length same-length-2 same-length-3 same-length-4 same-length-5 same-length-6 returns)

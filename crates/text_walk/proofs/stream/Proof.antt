@@ -1,19 +1,23 @@
 -- The size and its LF, and the nodes unless no more goes out. Assumes nothing.
-use mathlib.Core.Path.{sym, _∙_}
-use mathlib.Core.List.{[], _∷_}
-use native.Mathlib.Omega.{arith}
+use mathlib.Core.Path.{_∙_}
+use mathlib.Core.List.{List, [], _∷_}
 use Prim.Native.Nat.{_≤_}
+use native.Mathlib.Omega.{arith}
 use Rattle.reading.specs.Bytes.{lineFeed}
 use Rattle.writing.specs.Texts.{decimal}
 use Rattle.engine.specs.PendingMade.{push-then}
-use Rattle.text_walk.specs.Cite.{feedOf}
+use Rattle.feeds.specs.Cite.{begunIn}
+use Rattle.text_walk.specs.Cite.{sentOf}
 use Rattle.text_walk.specs.TextsMade.{stream-past, stream-head, stream-body}
 use borrow.Author.Needs.{needs}
 use Rattle.text_walk.proofs.stream.Statement.{statement}
 use Rattle.text_walk.proofs.stream.Tie as tie
 
 returns : tie.Need-returns
-returns c = stream-past (c .before .before .before .before .before .before .args .k) (feedOf (c .before .before .before .before .before .before .args .f) (c .before .before .before .before .before .before .args .b1) (c .before .before .before .before .before .before .args .o1 .now) (c .before .before .before .before .before .before .args .x .now) (c .before .before .before .before .before .before .args .t1 .now) ∷ feedOf (c .before .before .before .before .before .before .args .g) (c .before .before .before .before .before .before .args .b2) (c .before .before .before .before .before .before .args .o2 .now) (c .before .before .before .before .before .before .args .y .now) (c .before .before .before .before .before .before .args .t2 .now) ∷ []) (c .before .before .before .before .before .before .args .c .now) (c .before .before .before .before .before .before .args .t .now) (c .before .before .before .before .before .before .args .out .now) (c .before .before .before .before .before .before .args .w .now) (c .if1 .taken)
+returns c =
+    let c6 = c .before .before .before .before .before .before in
+    let a = c6 .args in
+    stream-past (a .k) (begunIn (a .f) (a .o1 .now) (a .x .now) (a .t1 .now) ∷ begunIn (a .g) (a .o2 .now) (a .y .now) (a .t2 .now) ∷ []) (a .c .now) (a .t .now) (a .out .now) (a .w .now) (c .if1 .taken)
 
 push-number-requires : tie.Need-push-number-requires
 push-number-requires c κs = tt
@@ -34,10 +38,23 @@ same-length-2 : tie.Need-same-length-2
 same-length-2 c = search needs
 
 returns-2 : tie.Need-returns-2
-returns-2 c = stream-head (c .before .before .before .before .before .before .before .before .before .before .before .before .before .before .before .before .before .before .before .before .before .before .before .args .k) (feedOf (c .before .before .before .before .before .before .before .before .before .before .before .before .before .before .before .before .before .before .before .before .before .before .before .args .f) (c .before .before .before .before .before .before .before .before .before .before .before .before .before .before .before .before .before .before .before .before .before .before .before .args .b1) (c .before .before .before .before .before .before .before .before .before .before .before .before .before .before .before .before .before .before .before .before .before .before .before .args .o1 .now) (c .before .before .before .before .before .before .before .before .before .before .before .before .before .before .before .before .before .before .before .before .before .before .before .args .x .now) (c .before .before .before .before .before .before .before .before .before .before .before .before .before .before .before .before .before .before .before .before .before .before .before .args .t1 .now) ∷ feedOf (c .before .before .before .before .before .before .before .before .before .before .before .before .before .before .before .before .before .before .before .before .before .before .before .args .g) (c .before .before .before .before .before .before .before .before .before .before .before .before .before .before .before .before .before .before .before .before .before .before .before .args .b2) (c .before .before .before .before .before .before .before .before .before .before .before .before .before .before .before .before .before .before .before .before .before .before .before .args .o2 .now) (c .before .before .before .before .before .before .before .before .before .before .before .before .before .before .before .before .before .before .before .before .before .before .before .args .y .now) (c .before .before .before .before .before .before .before .before .before .before .before .before .before .before .before .before .before .before .before .before .before .before .before .args .t2 .now) ∷ []) (c .before .before .before .before .before .before .before .before .before .before .before .before .before .before .before .before .before .before .before .before .before .before .before .args .c .now) (c .before .before .before .before .before .before .before .before .before .before .before .before .before .before .before .before .before .before .before .before .before .before .before .args .t .now) (c .before .before .before .before .before .before .before .before .before .before .before .before .before .before .before .before .before .before .before .before .before .before .before .args .out .now) (c .before .before .before .before .before .before .before .before .before .before .before .before .before .before .before .before .before .before .before .before .before .before .before .args .w .now) (omega (arith, c .before .before .before .before .before .before .before .before .before .before .before .before .before .before .before .before .before .if1 .left)) _ _ (push-then (c .before .before .before .before .before .before .before .before .before .before .before .before .before .before .before .before .before .before .before .before .before .before .before .args .w .now) 0 (decimal (c .before .before .before .before .before .before .before .before .before .before .before .before .before .before .before .before .before .before .before .before .before .before .before .args .k .size)) (lineFeed ∷ []) (c .before .before .before .before .before .before .before .before .before .before .before .before .before .before .before .push-number .ensures) (c .before .before .before .before .before .before .before .before .before .before .before .push .ensures)) (c .before .before .before .before .before .before .send .ensures) (c .before .is-over .result) (c .before .is-over .ensures) (c .if2 .taken)
+returns-2 c =
+    let c1 = c .before in
+    let c6 = c1 .before .before .before .before .before in
+    let c11 = c6 .before .before .before .before .before in
+    let c15 = c11 .before .before .before .before in
+    let c17 = c15 .before .before in
+    let c23 = c17 .before .before .before .before .before .before in
+    let a = c23 .args in
+    stream-head (a .k) (begunIn (a .f) (a .o1 .now) (a .x .now) (a .t1 .now) ∷ begunIn (a .g) (a .o2 .now) (a .y .now) (a .t2 .now) ∷ []) (a .c .now) (a .t .now) (a .out .now) (a .w .now) (omega (arith, c17 .if1 .left))
+    (record { bytes = c11 .push .last .0; count = c11 .push .result }) (sentOf (c6 .send .result) (c6 .send .last .0) (c6 .send .last .1 .0))
+    (push-then (a .w .now) 0 (decimal (a .k .size)) (lineFeed ∷ []) (c15 .push-number .ensures) (c11 .push .ensures)) (c6 .send .ensures) (c1 .is-over .result) (c1 .is-over .ensures) (c .if2 .taken)
 
 nodes-requires : tie.Need-nodes-requires
-nodes-requires c κs = let h : c .before .before .before .before .before .before .before .before .before .before .before .before .before .before .before .before .before .before .before .before .before .before .before .before .before .before .before .before .before .before .before .args .k .n ≤ 32 = omega (arith, c .before .before .before .before .before .before .before .before .before .before .before .before .before .before .before .before .before .before .before .before .before .before .before .before .before .if1 .left) in h
+nodes-requires c κs =
+    let c25 = c .before .before .before .before .before .before .before .before .before .before .before .before .before .before .before .before .before .before .before .before .before .before .before .before .before in
+    let c31 = c25 .before .before .before .before .before .before in
+    let h : c31 .args .k .n ≤ 32 = omega (arith, c25 .if1 .left) in h
 
 same-length-3 : tie.Need-same-length-3
 same-length-3 c = search needs
@@ -52,13 +69,31 @@ same-length-6 : tie.Need-same-length-6
 same-length-6 c = search needs
 
 same-length-7 : tie.Need-same-length-7
-same-length-7 c = c .before .before .w4 .given ∙ c .before .before .before .before .before .before .before .before .before .before .before .before .before .before .before .before .before .before .before .before .w3 .given ∙ c .before .before .before .before .before .before .before .before .before .before .before .before .before .before .before .before .before .before .before .before .before .before .before .before .before .before .before .w2 .given ∙ c .before .before .before .before .before .before .before .before .before .before .before .before .before .before .before .before .before .before .before .before .before .before .before .before .before .before .before .before .before .before .before .w .given
+same-length-7 c =
+    let c2 = c .before .before in
+    let c20 = c2 .before .before .before .before .before .before .before .before .before .before .before .before .before .before .before .before .before .before in
+    let c27 = c20 .before .before .before .before .before .before .before in
+    let c31 = c27 .before .before .before .before in
+    c2 .w4 .given ∙ c20 .w3 .given ∙ c27 .w2 .given ∙ c31 .w .given
 
 same-length-8 : tie.Need-same-length-8
 same-length-8 c = search needs
 
 returns-3 : tie.Need-returns-3
-returns-3 c = stream-body (c .before .before .before .before .before .before .before .before .before .before .before .before .before .before .before .before .before .before .before .before .before .before .before .before .before .before .before .before .before .before .before .before .before .before .before .before .before .before .before .before .args .k) (feedOf (c .before .before .before .before .before .before .before .before .before .before .before .before .before .before .before .before .before .before .before .before .before .before .before .before .before .before .before .before .before .before .before .before .before .before .before .before .before .before .before .before .args .f) (c .before .before .before .before .before .before .before .before .before .before .before .before .before .before .before .before .before .before .before .before .before .before .before .before .before .before .before .before .before .before .before .before .before .before .before .before .before .before .before .before .args .b1) (c .before .before .before .before .before .before .before .before .before .before .before .before .before .before .before .before .before .before .before .before .before .before .before .before .before .before .before .before .before .before .before .before .before .before .before .before .before .before .before .before .args .o1 .now) (c .before .before .before .before .before .before .before .before .before .before .before .before .before .before .before .before .before .before .before .before .before .before .before .before .before .before .before .before .before .before .before .before .before .before .before .before .before .before .before .before .args .x .now) (c .before .before .before .before .before .before .before .before .before .before .before .before .before .before .before .before .before .before .before .before .before .before .before .before .before .before .before .before .before .before .before .before .before .before .before .before .before .before .before .before .args .t1 .now) ∷ feedOf (c .before .before .before .before .before .before .before .before .before .before .before .before .before .before .before .before .before .before .before .before .before .before .before .before .before .before .before .before .before .before .before .before .before .before .before .before .before .before .before .before .args .g) (c .before .before .before .before .before .before .before .before .before .before .before .before .before .before .before .before .before .before .before .before .before .before .before .before .before .before .before .before .before .before .before .before .before .before .before .before .before .before .before .before .args .b2) (c .before .before .before .before .before .before .before .before .before .before .before .before .before .before .before .before .before .before .before .before .before .before .before .before .before .before .before .before .before .before .before .before .before .before .before .before .before .before .before .before .args .o2 .now) (c .before .before .before .before .before .before .before .before .before .before .before .before .before .before .before .before .before .before .before .before .before .before .before .before .before .before .before .before .before .before .before .before .before .before .before .before .before .before .before .before .args .y .now) (c .before .before .before .before .before .before .before .before .before .before .before .before .before .before .before .before .before .before .before .before .before .before .before .before .before .before .before .before .before .before .before .before .before .before .before .before .before .before .before .before .args .t2 .now) ∷ []) (c .before .before .before .before .before .before .before .before .before .before .before .before .before .before .before .before .before .before .before .before .before .before .before .before .before .before .before .before .before .before .before .before .before .before .before .before .before .before .before .before .args .c .now) (c .before .before .before .before .before .before .before .before .before .before .before .before .before .before .before .before .before .before .before .before .before .before .before .before .before .before .before .before .before .before .before .before .before .before .before .before .before .before .before .before .args .t .now) (c .before .before .before .before .before .before .before .before .before .before .before .before .before .before .before .before .before .before .before .before .before .before .before .before .before .before .before .before .before .before .before .before .before .before .before .before .before .before .before .before .args .out .now) (c .before .before .before .before .before .before .before .before .before .before .before .before .before .before .before .before .before .before .before .before .before .before .before .before .before .before .before .before .before .before .before .before .before .before .before .before .before .before .before .before .args .w .now) (omega (arith, c .before .before .before .before .before .before .before .before .before .before .before .before .before .before .before .before .before .before .before .before .before .before .before .before .before .before .before .before .before .before .before .before .before .before .if1 .left)) _ _ (push-then (c .before .before .before .before .before .before .before .before .before .before .before .before .before .before .before .before .before .before .before .before .before .before .before .before .before .before .before .before .before .before .before .before .before .before .before .before .before .before .before .before .args .w .now) 0 (decimal (c .before .before .before .before .before .before .before .before .before .before .before .before .before .before .before .before .before .before .before .before .before .before .before .before .before .before .before .before .before .before .before .before .before .before .before .before .before .before .before .before .args .k .size)) (lineFeed ∷ []) (c .before .before .before .before .before .before .before .before .before .before .before .before .before .before .before .before .before .before .before .before .before .before .before .before .before .before .before .before .before .before .before .before .push-number .ensures) (c .before .before .before .before .before .before .before .before .before .before .before .before .before .before .before .before .before .before .before .before .before .before .before .before .before .before .before .before .push .ensures)) (c .before .before .before .before .before .before .before .before .before .before .before .before .before .before .before .before .before .before .before .before .before .before .before .send .ensures) (c .before .before .before .before .before .before .before .before .before .before .before .before .before .before .before .before .before .before .is-over .result) (c .before .before .before .before .before .before .before .before .before .before .before .before .before .before .before .before .before .before .is-over .ensures) (c .before .before .before .before .before .before .before .before .before .before .before .before .before .before .before .before .before .if2 .left) _ (c .before .before .before .before .before .before .before .before .nodes .ensures)
+returns-3 c =
+    let c8 = c .before .before .before .before .before .before .before .before in
+    let c17 = c8 .before .before .before .before .before .before .before .before .before in
+    let c18 = c17 .before in
+    let c23 = c18 .before .before .before .before .before in
+    let c28 = c23 .before .before .before .before .before in
+    let c32 = c28 .before .before .before .before in
+    let c34 = c32 .before .before in
+    let c40 = c34 .before .before .before .before .before .before in
+    let a = c40 .args in
+    stream-body (a .k) (begunIn (a .f) (a .o1 .now) (a .x .now) (a .t1 .now) ∷ begunIn (a .g) (a .o2 .now) (a .y .now) (a .t2 .now) ∷ []) (a .c .now) (a .t .now) (a .out .now) (a .w .now) (omega (arith, c34 .if1 .left))
+    (record { bytes = c28 .push .last .0; count = c28 .push .result }) (sentOf (c23 .send .result) (c23 .send .last .0) (c23 .send .last .1 .0))
+    (push-then (a .w .now) 0 (decimal (a .k .size)) (lineFeed ∷ []) (c32 .push-number .ensures) (c28 .push .ensures)) (c23 .send .ensures) (c18 .is-over .result) (c18 .is-over .ensures) (c17 .if2 .left)
+    (sentOf (c8 .nodes .result) (c8 .nodes .last .1 .1 .1 .1 .1 .1 .1 .1 .1 .1 .0) (c8 .nodes .last .1 .1 .1 .1 .1 .1 .1 .1 .1 .1 .1 .0)) (c8 .nodes .ensures)
 
 pub stream-spec : {M : Type 1} → statement M
 stream-spec = tie.close (tie.spec returns push-number-requires push-requires send-requires is-over-requires same-length same-length-2 returns-2 nodes-requires same-length-3 same-length-4 same-length-5 same-length-6 same-length-7 same-length-8 returns-3)

@@ -15,8 +15,8 @@ use Rattle.reader.specs.Lent.{ReadCursor, ReadBlock, cursorIn}
 use Rattle.reader.specs.declared.Cursor.{Cursor}
 use Rattle.edges.specs.Cite.{edgeIn}
 use Rattle.edges.specs.declared.Edge.{Edge}
-use Rattle.text_walk.specs.Cite.{tapeIn, onTape, feedOn, readBy, arrived, begunFrom}
-use Rattle.text_walk.specs.declared.Feed.{Feed}
+use Rattle.feeds.specs.Cite.{tapeIn, onTape, feedOn, readBy, arrived, begunFrom}
+use Rattle.feeds.specs.declared.Feed.{Feed}
 
 module _ (n i : ℕ) (o : Opens) (s : List ℕ) (t : List (List ℕ)) (f g : Feed) (b : Block) where
   -- it is at an edge, z; e: the edge there

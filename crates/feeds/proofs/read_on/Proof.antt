@@ -1,10 +1,10 @@
 -- A block further inside the text, else none. Assumes nothing.
 use mathlib.Core.Path.{refl}
 use Rattle.reader.specs.Lent.{blockIn}
-use Rattle.text_walk.specs.FeedMade.{reads-next, reads-none}
+use Rattle.feeds.specs.FeedMade.{reads-next, reads-none}
 use borrow.Author.Needs.{needs}
-use Rattle.text_walk.proofs.read_on.Statement.{statement}
-use Rattle.text_walk.proofs.read_on.Tie as tie
+use Rattle.feeds.proofs.read_on.Statement.{statement}
+use Rattle.feeds.proofs.read_on.Tie as tie
 
 next-block-requires : tie.Need-next-block-requires
 next-block-requires c κs = tt

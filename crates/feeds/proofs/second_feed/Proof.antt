@@ -1,11 +1,8 @@
 -- It settles in its text, or goes on from its edge. Assumes nothing.
-use Rattle.text_walk.specs.FeedMade.{second-inside, second-gone}
+use Rattle.feeds.specs.FeedMade.{second-inside, second-gone}
 use borrow.Author.Needs.{needs}
-use Rattle.text_walk.proofs.second_feed.Statement.{statement}
-use Rattle.text_walk.proofs.second_feed.Tie as tie
-
-add-settle : tie.Need-add-settle
-add-settle c = search needs
+use Rattle.feeds.proofs.second_feed.Statement.{statement}
+use Rattle.feeds.proofs.second_feed.Tie as tie
 
 settle-requires : tie.Need-settle-requires
 settle-requires c κs = tt
@@ -29,4 +26,4 @@ returns-2 : tie.Need-returns-2
 returns-2 c = λ n o s. second-gone n (c .before .before .before .before .before .args .i) o s (c .before .before .before .before .before .args .t .now) (c .before .before .before .before .before .args .f) (c .at-edge .result) (c .before .before .before .before .before .args .b) (c .before .second-edge .result) (c .before .before .before .edge-of .result) (c .at-edge .ensures) (c .before .before .before .before .if1 .left) (c .before .before .before .edge-of .ensures) (c .before .second-edge .ensures (c .before .before .before .before .before .args .t .now) (c .before .before .get .ensures))
 
 pub second-feed-spec : {M : Type 1} → statement M
-second-feed-spec = tie.close (tie.spec add-settle settle-requires returns edge-of-requires get-requires second-edge-requires at-edge-requires returns-2)
+second-feed-spec = tie.close (tie.spec settle-requires returns edge-of-requires get-requires second-edge-requires at-edge-requires returns-2)

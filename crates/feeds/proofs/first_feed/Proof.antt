@@ -2,14 +2,11 @@
 use mathlib.Core.Path.{_∙_}
 use Rattle.combining.specs.Tapes.{deepOf, sourceOf, nextTape}
 use Rattle.combining.specs.EdgeMade.{first-inside}
-use Rattle.text_walk.specs.Cite.{feedOn}
-use Rattle.text_walk.specs.FeedMade.{first-gone}
+use Rattle.feeds.specs.Cite.{feedOn}
+use Rattle.feeds.specs.FeedMade.{first-gone}
 use borrow.Author.Needs.{needs}
-use Rattle.text_walk.proofs.first_feed.Statement.{statement}
-use Rattle.text_walk.proofs.first_feed.Tie as tie
-
-add-settle : tie.Need-add-settle
-add-settle c = search needs
+use Rattle.feeds.proofs.first_feed.Statement.{statement}
+use Rattle.feeds.proofs.first_feed.Tie as tie
 
 settle-requires : tie.Need-settle-requires
 settle-requires c κs = tt
@@ -33,4 +30,4 @@ returns-2 : tie.Need-returns-2
 returns-2 c = λ n o s. first-gone n (c .before .before .before .before .before .args .i) o s (c .before .before .before .before .before .args .t .now) (c .before .before .before .before .before .args .f) (c .at-edge .result) (c .before .before .before .before .before .args .b) (c .before .first-edge .result) (c .before .before .before .edge-of .result) (c .at-edge .ensures) (c .before .before .before .before .if1 .left) (c .before .before .before .edge-of .ensures) (c .before .first-edge .ensures (c .before .before .before .before .before .args .t .now) (c .before .before .get .ensures))
 
 pub first-feed-spec : {M : Type 1} → statement M
-first-feed-spec = tie.close (tie.spec add-settle settle-requires returns edge-of-requires get-requires first-edge-requires at-edge-requires returns-2)
+first-feed-spec = tie.close (tie.spec settle-requires returns edge-of-requires get-requires first-edge-requires at-edge-requires returns-2)

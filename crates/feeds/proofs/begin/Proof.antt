@@ -1,9 +1,9 @@
 -- The first block of the stream, settled if it is all of it. Assumes nothing.
 use mathlib.Core.Path.{_∙_}
-use Rattle.text_walk.specs.FeedMade.{begun-code}
+use Rattle.feeds.specs.FeedMade.{begun-code}
 use borrow.Author.Needs.{needs}
-use Rattle.text_walk.proofs.begin.Statement.{statement}
-use Rattle.text_walk.proofs.begin.Tie as tie
+use Rattle.feeds.proofs.begin.Statement.{statement}
+use Rattle.feeds.proofs.begin.Tie as tie
 
 first-cursor-requires : tie.Need-first-cursor-requires
 first-cursor-requires c κs = tt

@@ -1,0 +1,34 @@
+-- Out of its text, at a smaller block, or at one as great as the part. Assumes nothing.
+use mathlib.Core.Path.{_≡_}
+use mathlib.Core.Bool.{true, false}
+use Prim.Native.Nat.{ℕ, _+_}
+use native.Mathlib.Omega.{arith}
+use lib.Dec.{eqb}
+use borrow.Author.Tests.{not-true, not-false, eq-eqb, ne-eqb}
+use Rattle.combining.specs.Tapes.{deepOf, sourceOf, nextTape}
+use Rattle.combining.specs.EdgeMade.{settle-edge, settle-inside, settle-here}
+use Rattle.feeds.specs.Cite.{feedOn}
+use Rattle.feeds.proofs.settle.Statement.{statement}
+use Rattle.feeds.proofs.settle.Tie as tie
+
+other : (d i : ℕ) → (d ≡ i → ⊥) → eqb (d + 1) (i + 1) ≡ false
+other d i h = ne-eqb (d + 1) (i + 1) (λ e. h (omega (arith, e)))
+
+here : (d i : ℕ) → d ≡ i → eqb (d + 1) (i + 1) ≡ true
+here d i h = eq-eqb (d + 1) (i + 1) (omega (arith, h))
+
+returns : tie.Need-returns
+returns c = λ n o s t. settle-edge deepOf sourceOf (nextTape n) (c .before .args .i + 1) (feedOn (c .before .args .f) (c .before .args .b) o s t) (not-true (c .before .args .f .inside) (c .if1 .taken))
+
+returns-2 : tie.Need-returns-2
+returns-2 c =
+    let a = c .before .before .before .args in
+    λ n o s t. settle-inside deepOf sourceOf (nextTape n) (a .i + 1) (feedOn (a .f) (a .b) o s t) (not-false (a .f .inside) (c .before .before .if1 .left)) (other (a .b .deep) (a .i) (c .if2 .taken))
+
+returns-3 : tie.Need-returns-3
+returns-3 c =
+    let a = c .before .before .before .args in
+    λ n o s t. settle-here deepOf sourceOf (nextTape n) (a .i + 1) (feedOn (a .f) (a .b) o s t) (not-false (a .f .inside) (c .before .before .if1 .left)) (here (a .b .deep) (a .i) (c .if2 .left))
+
+pub settle-spec : {M : Type 1} → statement M
+settle-spec = tie.close (tie.spec returns returns-2 returns-3)

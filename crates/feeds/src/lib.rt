@@ -1,0 +1,175 @@
+// The inputs of a run: each is inside its text, at the block that was read last, or at an edge of its own table.
+ghost use mathlib.Core.Path.{_≡_};
+ghost use mathlib.Core.Bool.{false, cond};
+ghost use mathlib.Core.List.{List};
+ghost use Prim.Native.Nat.{ℕ, _+_};
+ghost use Rattle.engine.specs.Taping.{settle, firstFeed, secondFeed};
+ghost use Rattle.combining.specs.Tapes.{deepOf, sourceOf, nextTape};
+ghost use Rattle.reader.specs.Lent.{blockIn};
+ghost use Rattle.reader.specs.declared.Opens.{Opens};
+ghost use Rattle.feeds.specs.Cite.{feedOn, feedOf, begunIn, readBy, arrived, begunFrom};
+use edges::Edge;
+use edges::first_edge;
+use edges::second_edge;
+use reader::Block;
+use reader::first_cursor;
+use reader::get as row_at;
+use reader::next_block;
+
+// An input at a part: inside its text, at the block that was read last, which begins with the part and is smaller; or at an edge
+pub struct Feed {
+    pub inside: bool,
+    pub number: u32,
+    pub turned: bool,
+}
+
+// With the block that was read last
+pub struct Begun {
+    pub feed: Feed,
+    pub block: Block,
+}
+
+fn edge_of(f: Feed, b: Block) -> Edge
+    ensures { λ r. ⌜ r ≡ record { number = f .number; turned = f .turned; size = b .cursor .run .size } ⌝ }
+{
+    let c = b.cursor;
+    let q = c.run;
+    Edge {
+        number: f.number,
+        turned: f.turned,
+        size: q.size,
+    }
+}
+
+fn at_edge(e: Edge) -> Feed
+    ensures { λ r. ⌜ r ≡ record { inside = false; number = e .number; turned = e .turned } ⌝ }
+{
+    Feed {
+        inside: false,
+        number: e.number,
+        turned: e.turned,
+    }
+}
+
+// A block as great as a part that i open nodes are around is an edge.
+fn settle(i: u32, f: Feed, b: Block) -> Feed
+    ensures { λ r. ⌜ ((n : ℕ) (o : Opens) (s : List ℕ) (t : List (List ℕ)) → feedOn r b o s t ≡ settle deepOf sourceOf (nextTape n) (i + 1) (feedOn f b o s t)) ⌝ }
+{
+    let inside = f.inside;
+    if !inside {
+        return f;
+    }
+    if b.deep != i as usize {
+        return f;
+    }
+    Feed {
+        inside: false,
+        number: b.number,
+        turned: b.turned,
+    }
+}
+
+fn first_feed(t: &[[u32; 6]], i: u32, f: Feed, b: Block) -> Feed
+    ensures { λ r. ⌜ ((n : ℕ) (o : Opens) (s : List ℕ) → feedOn r b o s (now (t .entry)) ≡ firstFeed deepOf sourceOf (nextTape n) i (feedOn f b o s (now (t .entry)))) ⌝ }
+{
+    let inside = f.inside;
+    if inside {
+        return settle(i, f, b);
+    }
+    let e = edge_of(f, b);
+    let r = row_at(t, e.size, e.number);
+    at_edge(first_edge(i, e, r))
+}
+
+// For a second half the next block is read, if the input is inside its text. o: the open nodes there
+fn read_on(n: u32, s: &[u8], t: &mut [[u32; 6]], o: &mut [[u32; 4]; 32], f: Feed, b: Block) -> Block
+    ensures { λ r. ⌜ record { block = blockIn r (now (o .exit)); table = now (t .exit) } ≡ readBy n (now (s .entry)) f (blockIn b (now (o .entry))) (now (t .entry)) ⌝ }
+{
+    let inside = f.inside;
+    if inside {
+        let c = b.cursor;
+        return next_block(n, s, t, o, c);
+    }
+    b
+}
+
+fn second_feed(t: &[[u32; 6]], i: u32, f: Feed, b: Block) -> Feed
+    ensures { λ r. ⌜ ((n : ℕ) (o : Opens) (s : List ℕ) → feedOn r b o s (now (t .entry)) ≡ arrived n i (feedOn f b o s (now (t .entry)))) ⌝ }
+{
+    let inside = f.inside;
+    if inside {
+        return settle(i, f, b);
+    }
+    let e = edge_of(f, b);
+    let r = row_at(t, e.size, e.number);
+    at_edge(second_edge(i, e, r))
+}
+
+// THE FIRST BLOCK of a stream: the input at the outermost node. o: cells for its open nodes
+pub fn begin(n: u32, s: &[u8], t: &mut [[u32; 6]], o: &mut [[u32; 4]; 32]) -> Begun
+    ensures { λ r. ⌜ begunIn r (now (o .exit)) (now (s .entry)) (now (t .exit)) ≡ begunFrom n (now (s .entry)) (now (o .entry)) (now (t .entry)) ⌝ }
+{
+    let b = next_block(n, s, t, o, first_cursor());
+    let f = Feed {
+        inside: true,
+        number: 0,
+        turned: false,
+    };
+    Begun {
+        feed: settle(0, f, b),
+        block: b,
+    }
+}
+
+// THE FIRST HALF of a part of level i
+pub fn first_half(t: &[[u32; 6]], i: u32, x: Begun) -> Begun
+    ensures { λ r. ⌜ ((n : ℕ) (o : List (List ℕ)) (s : List ℕ) → begunIn r o s (now (t .entry)) ≡ firstFeed deepOf sourceOf (nextTape n) i (begunIn x o s (now (t .entry)))) ⌝ }
+{
+    let f = x.feed;
+    let b = x.block;
+    Begun {
+        feed: first_feed(t, i, f, b),
+        block: b,
+    }
+}
+
+// THE SECOND HALF of a part of level i that the input was at as f; b: the block that was read last
+pub fn second_half(
+    n: u32,
+    i: u32,
+    s: &[u8],
+    t: &mut [[u32; 6]],
+    o: &mut [[u32; 4]; 32],
+    f: Feed,
+    b: Block,
+) -> Begun
+    ensures { λ r. ⌜ begunIn r (now (o .exit)) (now (s .entry)) (now (t .exit)) ≡ secondFeed deepOf sourceOf (nextTape n) i (feedOf f b (now (o .entry)) (now (s .entry)) (now (t .entry))) ⌝ }
+{
+    let c = read_on(n, s, t, o, f, b);
+    Begun {
+        feed: second_feed(t, i, f, c),
+        block: c,
+    }
+}
+
+// The edge that an input is at
+pub fn edge_at(x: Begun) -> Edge
+    ensures { λ r. ⌜ r ≡ record { number = x .feed .number; turned = x .feed .turned; size = x .block .cursor .run .size } ⌝ }
+{
+    let f = x.feed;
+    let b = x.block;
+    edge_of(f, b)
+}
+
+// What it decides at the first word of the part
+pub fn turn_of(x: Begun) -> bool
+    ensures { λ r. ⌜ r ≡ cond (x .feed .inside) (x .block .turned) (x .feed .turned) ⌝ }
+{
+    let f = x.feed;
+    let inside = f.inside;
+    if inside {
+        let b = x.block;
+        return b.turned;
+    }
+    f.turned
+}

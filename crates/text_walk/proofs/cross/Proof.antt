@@ -1,0 +1,71 @@
+-- The first half and the pen after it are taken out, then its text and the `~` wait. Assumes nothing.
+use mathlib.Core.Path.{ap, ap₂, _∙_}
+use mathlib.Core.Bool.{Bool}
+use Rattle.lists.specs.Lists.{differ}
+use Rattle.engine.specs.Pending.{Waiting, waitIn}
+use Rattle.meeting.specs.Cite.{halfOf, penOf}
+use Rattle.meeting.specs.declared.Half.{Half}
+use Rattle.meeting.specs.declared.Pen.{Pen}
+use Rattle.text_walk.specs.Cite.{Between, turnOf}
+use Rattle.text_walk.specs.TextsMade.{gap-made}
+use borrow.Author.Needs.{needs}
+use Rattle.text_walk.proofs.cross.Statement.{statement}
+use Rattle.text_walk.proofs.cross.Tie as tie
+
+abbrev between : Half → Pen → Bool → Waiting → Between
+between h p u x = record { half = halfOf h; pen = penOf p; turned = u; waiting = x }
+
+walked-of-requires : tie.Need-walked-of-requires
+walked-of-requires c κs = tt
+
+half-of-requires : tie.Need-half-of-requires
+half-of-requires c κs = tt
+
+pen-of-requires : tie.Need-pen-of-requires
+pen-of-requires c κs = tt
+
+turn-of-requires : tie.Need-turn-of-requires
+turn-of-requires c κs = tt
+
+turn-of-requires-2 : tie.Need-turn-of-requires-2
+turn-of-requires-2 c κs = tt
+
+operate-requires : tie.Need-operate-requires
+operate-requires c κs = tt
+
+differs-requires : tie.Need-differs-requires
+differs-requires c κs = tt
+
+wait-requires : tie.Need-wait-requires
+wait-requires c κs = tt
+
+push-turn-requires : tie.Need-push-turn-requires
+push-turn-requires c κs = tt
+
+same-length : tie.Need-same-length
+same-length c = search needs
+
+returns : tie.Need-returns
+returns c =
+    let c2 = c .before .before in
+    let c6 = c2 .before .before .before .before in
+    let c8 = c6 .before .before in
+    let c9 = c8 .before in
+    let c10 = c9 .before in
+    let c11 = c10 .before in
+    let c12 = c11 .before in
+    let c13 = c12 .before in
+    let c14 = c13 .before in
+    let c16 = c14 .before .before in
+    let a = c16 .args in
+    let r = c14 .walked-of .result in
+    let u = c8 .differs .result in
+    let q : Waiting = record { bytes = c6 .wait .last .0; count = c6 .wait .result } in
+    let x : Waiting = record { bytes = c2 .push-turn .last .0; count = c2 .push-turn .result } in
+    ap₂ (λ (h : Half) (p : Pen). between h p u x) (c13 .half-of .ensures) (c12 .pen-of .ensures) ∙ ap (between (r .half) (r .pen) u) (c2 .push-turn .ensures)
+    ∙ gap-made (a .op) (a .m) (c11 .turn-of .result) (c10 .turn-of2 .result) (turnOf (a .f)) (turnOf (a .g)) (c9 .operate .result) u (a .a .walked) r (a .w .now) q
+    (c14 .walked-of .ensures) (c11 .turn-of .ensures) (c10 .turn-of2 .ensures) (c9 .operate .ensures) (c8 .differs .ensures ∙ ap (λ (h : Half). differ (h .complement) (c9 .operate .result)) (c13 .half-of .ensures))
+    (c6 .wait .ensures ∙ ap (λ (h : Half). waitIn (a .w .now) (a .m) (h .wrote) (h .skipped) (h .number)) (c13 .half-of .ensures))
+
+pub cross-spec : {M : Type 1} → statement M
+cross-spec = tie.close (tie.spec walked-of-requires half-of-requires pen-of-requires turn-of-requires turn-of-requires-2 operate-requires differs-requires wait-requires push-turn-requires same-length returns)
