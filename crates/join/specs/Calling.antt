@@ -1,31 +1,38 @@
 -- The call that a job makes. What it answers depends on how long the work tables are, and not on what they hold. Assumes nothing.
-use mathlib.Core.Path.{_≡_, refl, sym, subst, ap, ap₂, _∙_}
+use mathlib.Core.Path.{_≡_, refl, sym, ap, ap₂, _∙_}
 use mathlib.Core.List.{List, [], _∷_}
 use mathlib.Core.Option.{some}
-use Prim.{tt}
-use Prim.Native.Nat.{ℕ, _≤_}
+use Prim.{Unit, tt}
+use Prim.Native.Nat.{ℕ, _+_, _≤_, min}
 use native.Mathlib.Omega.{arith}
-use lib.ListN.{length, replicate, length-replicate}
-use Rattle.reading.specs.Limits.{tableLimit}
+use lib.ListN.{length, take, replicate, length-replicate}
+use Rattle.reading.specs.Limits.{optionLimit, tableLimit}
 use Rattle.reading.specs.Causes.{Result, refused, done, unlessRefused}
-use Rattle.writing.specs.Run.{Answer, answerOf, outputAfter}
-use Rattle.writing.specs.Output.{written-length, output-length}
+use Rattle.writing.specs.Run.{Answer, outputAfter}
+use Rattle.writing.specs.Output.{output-length}
 use Rattle.writing.specs.Calls.{Combine, combine, combineAnswer, combineText}
 use Rattle.writing.specs.Join.{Job, jobLimit, report, called, answered}
 use Rattle.claims.specs.Runs.{ran}
-use Rattle.join.specs.Printing.{Settled}
+use Rattle.engine.specs.Pending.{waiting}
+use Rattle.report.specs.Printing.{reportText, reportIn, text-there}
+
+-- an answer that has an output comes with no more options than the limit
+abbrev Settled : ℕ → Result Answer → Type 0
+Settled n (refused r) = Unit {0}
+Settled n (done a) = n ≤ optionLimit
+
+report-settled : (n : ℕ) (a : Result Answer) (w : List ℕ) → Settled n a → reportText n a w ≡ report n a w
+unfolding reportText report
+report-settled n (refused r) w h = refl
+report-settled n (done a) w h = let e : min n optionLimit ≡ n = omega (arith, h) in ap (λ (i : ℕ). report i (done a) w) e
 
 module _ {R S : Type 0} (z : R) (o : S) (n op size : ℕ) (x y out : List ℕ) (t u : List R) (v : List S) where
   abbrev call : Combine R S
   call = combine z o n op size x y out t u v
 
-  -- as many options as the limit says at most, and no more written than the output holds
-  settled : (a : Result Answer) → a ≡ call .answer → Settled n a (length out)
-  unfolding answerOf
+  settled : (a : Result Answer) → a ≡ call .answer → Settled n a
   settled (refused r) e = tt
-  settled (done a) e =
-      let g = ran z o n op size x y out t u v a (sym e) in
-      (g .options, omega (arith, ap (λ (b : Answer). b .written) (g .answer), written-length (combineText n op size (x ∷ y ∷ [])) out))
+  settled (done a) e = ran z o n op size x y out t u v a (sym e) .options
 
   -- the output stays as long
   after-length : (a : Result Answer) (w : List ℕ) → length (unlessRefused a out (λ (i : Answer). outputAfter w out)) ≡ length out
@@ -47,10 +54,6 @@ module _ {R S : Type 0} (z : R) (o : S) (n op size : ℕ) (x y out : List ℕ) (
 
     length-left : length w ≡ length out
     length-left = ap length leaves ∙ call-length
-
-    pub call-settled : length out ≡ jobLimit → (length w ≤ jobLimit) × Settled n a (length w)
-    call-settled p =
-        (omega (arith, p, length-left), subst (Settled n a) (sym length-left) (settled a answers))
 
     -- the report on it is that on the job's
     module _ (p : out ≡ replicate jobLimit 0) (q : length t ≡ tableLimit) (r : length u ≡ tableLimit) (s : length v ≡ tableLimit) where
@@ -75,6 +78,18 @@ module _ {R S : Type 0} (z : R) (o : S) (n op size : ℕ) (x y out : List ℕ) (
       same-output =
           ap₂ (λ (w : List ℕ) (b : Result Answer). unlessRefused b w (λ (i : Answer). outputAfter (combineText n op size (x ∷ y ∷ [])) w)) p same-answer
 
-      pub call-report : report n a w ≡ answered (some job)
+      call-report : report n a w ≡ answered (some job)
       unfolding answered
       call-report = ap₂ (report n) (answers ∙ same-answer) (leaves ∙ same-output)
+
+      -- what is then in a row that has room for it
+      pub call-printed : (r : List ℕ) {l : List ℕ} {k : ℕ} → 65664 ≤ length r → waiting l k ≡ reportIn n a w r
+          → length (reportText n a w) ≤ length w + 80 → (take k l ≡ answered (some job)) × (k ≤ length l)
+      unfolding reportIn
+      call-printed r i m o =
+          let z : length out ≡ jobLimit = ap length p ∙ length-replicate {A = ℕ} jobLimit 0 in
+          let there = text-there r (reportText n a w) m (omega (arith, i, o, z, length-left)) in
+          (
+            there .0 ∙ report-settled n a w (settled a answers) ∙ call-report,
+            omega (arith, there .1, there .2, i, o, z, length-left),
+          )

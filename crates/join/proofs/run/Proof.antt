@@ -1,13 +1,13 @@
--- The call answers as the job's does, since the tables are as long; so its report is the job's.
+-- The call answers as the job's does, since the tables are as long; so its report is the job's, and there is room for it.
 -- Assumes nothing.
 use borrow.Author.Needs.{needs}
 use Rattle.join.proofs.run.Statement.{statement}
 use Rattle.join.proofs.run.Tie as tie
-use mathlib.Core.Path.{refl, _∙_}
+use mathlib.Core.Path.{refl}
 use mathlib.Core.List.{List}
 use Prim.Native.Nat.{ℕ}
 use lib.ListN.{replicate, length-replicate}
-use Rattle.join.specs.Calling.{call-settled, call-report}
+use Rattle.join.specs.Calling.{call-printed}
 
 slice-aggregate-combine : tie.Need-slice-aggregate-combine
 slice-aggregate-combine c = search needs
@@ -28,16 +28,18 @@ slice-aggregate-print : tie.Need-slice-aggregate-print
 slice-aggregate-print c = search needs
 
 print-requires : tie.Need-print-requires
-print-requires c κs = let a = c .before .before .before .before .before .before .before .before .before .before .before .before .before .before .args in
-    (c .before .before .before .before .before .before .before .before .before .before .before .before .before .before .pre, call-settled _ _ (a .n) (a .op) (a .size) (a .x .now) (a .y .now) _ _ _ _ _ _ _ _ _ (c .before .before .before .before .before .before .combine .ensures) (length-replicate {A = ℕ} 65536 0))
+print-requires c κs = search needs
 
 same-length : tie.Need-same-length
 same-length c = search needs
 
 returns : tie.Need-returns
-returns c = let a = c .before .before .before .before .before .before .before .before .before .before .before .before .before .before .before .before .before .args in let r = c .before .before .print .ensures in
+returns c = 
+    let a = c .before .before .before .before .before .before .before .before .before .before .before .before .before .before .before .before .before .args in
+    let r = c .before .before .print .ensures in
     let rows = length-replicate {A = List ℕ} 1024 in
-    (r .0 ∙ call-report _ _ (a .n) (a .op) (a .size) (a .x .now) (a .y .now) _ _ _ _ _ _ _ _ _ (c .before .before .before .before .before .before .before .before .before .combine .ensures) refl (rows (replicate 6 0)) (rows (replicate 6 0)) (rows (replicate 12 0)), r .1)
+    call-printed _ _ (a .n) (a .op) (a .size) (a .x .now) (a .y .now) _ _ _ _ _ _ _ _ _ (c .before .before .before .before .before .before .before .before .before .combine .ensures) refl (rows (replicate 6 0)) (rows (replicate 6 0)) (rows (replicate 12 0))
+    (a .w .now) (c .before .before .before .before .before .before .before .before .before .before .before .before .before .before .before .before .before .pre) (r .0) (r .1)
 
 pub run-spec : {M : Type 1} → statement M
 run-spec =

@@ -1,0 +1,25 @@
+-- What parsing the text of a job answers: the job's numbers, and where its lines end. Assumes nothing.
+use mathlib.Core.Bool.{true, false}
+use mathlib.Core.List.{List}
+use mathlib.Core.Option.{Option, none, some}
+use Prim.Native.Nat.{ℕ}
+use lib.Dec.{ltb}
+use lib.ListN.{length}
+use Rattle.reading.specs.Bytes.{lineFeed}
+use Rattle.writing.specs.Join as J
+use Rattle.job.specs.Cuts.{firstEnd, thirdEnd, fifthEnd}
+use Rattle.job.specs.declared.Parsing.{Parsing}
+use Rattle.job.specs.declared.Parsing.the-variants.{Good, Bad}
+
+-- the job of an input, if it is one
+abbrev pub jobIn : List ℕ → Option J.Job
+jobIn s = elim (ltb J.jobLimit (length s)) as (λ _. Option J.Job) [ true ↦ none | false ↦ J.fiveLines (J.pieces lineFeed s) ]
+
+-- as code answers it: the streams by the places of their lines
+abbrev pub placed : List ℕ → Option J.Job → Parsing
+placed s none = Bad
+placed s (some j) =
+    Good (record { n = j .n; op = j .op; size = j .size; first = firstEnd s; third = thirdEnd s; fifth = fifthEnd s })
+
+unfoldable pub parsed : List ℕ → Parsing
+parsed s = placed s (jobIn s)
