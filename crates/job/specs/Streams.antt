@@ -70,7 +70,7 @@ module _ (s : List ℕ) (j : J.Job) (g : J.fiveLines (J.pieces lineFeed s) ≡ s
       (λ t. ⊎-elim
       (λ (h : length s ≤ e + 1).
       let f = line-streams (between s (a + 1) c) (between s (c + 1) e) j (J.pieces blank (take a s))
-          (five-lines s a b c (refl, p) (refl, q) (refl, r) d (refl, t) e refl h ∙ g) in
+      (five-lines s a b c (refl, p) (refl, q) (refl, r) d (refl, t) e refl h ∙ g) in
       let o = lines-ordered s a b c (refl, p) (refl, q) (refl, r) d (refl, t) e refl in
       record { first = f .0; second = f .1; first-third = o .0; third-fifth = o .1; fifth-end = o .2 })
       (λ (h : e + 1 < length s). no-job (more-lines s a b c (refl, p) (refl, q) (refl, r) d (refl, t) e refl h))
@@ -107,14 +107,14 @@ pub record Joins (s : List ℕ) (t : Job) : Type 0 where
   pub third-fifth : t .third < t .fifth
   pub fifth-end : t .fifth ≤ length s
   pub output :
-    J.answered (some (record {
-      n = t .n;
-      op = t .op;
-      size = t .size;
-      stream₁ = between s (t .first + 1) (t .third);
-      stream₂ = between s (t .third + 1) (t .fifth);
-    }))
-    ≡ J.join s
+      J.answered (some (record {
+        n = t .n;
+        op = t .op;
+        size = t .size;
+        stream₁ = between s (t .first + 1) (t .third);
+        stream₂ = between s (t .third + 1) (t .fifth);
+      }))
+      ≡ J.join s
 
 module _ (s : List ℕ) where
   abbrev placedJob : J.Job → Job
@@ -127,9 +127,9 @@ module _ (s : List ℕ) where
         third-fifth = o .third-fifth;
         fifth-end = o .fifth-end;
         output =
-          let x = o .first in
-          let y = o .second in
-          rw (x, y) (ap J.answered (sym p) ∙ join-answered s);
+            let x = o .first in
+            let y = o .second in
+            rw (x, y) (ap J.answered (sym p) ∙ join-answered s);
       }
 
   in-lines : (j : J.Job) (t : Bool) → unlessLong s t ≡ some j → J.fiveLines (J.pieces lineFeed s) ≡ some j

@@ -88,8 +88,7 @@ module _ {R S : Type 0} (z : R) (o : S) (n op size : ℕ) (x y out : List ℕ) (
       unfolding reportIn
       call-printed r i m o =
           let z : length out ≡ jobLimit = ap length p ∙ length-replicate {A = ℕ} jobLimit 0 in
-          let there = text-there r (reportText n a w) m (omega (arith, i, o, z, length-left)) in
-          (
+          let there = text-there r (reportText n a w) m (omega (arith, i, o, z, length-left)) in (
             there .0 ∙ report-settled n a w (settled a answers) ∙ call-report,
             omega (arith, there .1, there .2, i, o, z, length-left),
           )

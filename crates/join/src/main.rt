@@ -19,7 +19,7 @@ const TABLE_LIMIT: usize = 1024;
 const REPORT_LIMIT: usize = 65664;
 
 // The report on a job of these numbers and streams
-fn run(n: u32, op: u32, size: u32, x: &[u8], y: &[u8], w: &mut [u8]) -> usize
+fn run(n: u32, op: u32, size: u32, x: &[u8], y: &[u8], w: &mut [u8; REPORT_LIMIT]) -> usize
     requires { ⌜ 65664 ≤ length (now w) ⌝ }
     ensures { λ r. ⌜ take r (now (w .exit)) ≡ answered (some (record { n = n; op = op; size = size; stream₁ = now (x .entry); stream₂ = now (y .entry) })) ⌝ }
     ensures { λ r. ⌜ r ≤ length (now (w .exit)) ⌝ }
@@ -32,8 +32,8 @@ fn run(n: u32, op: u32, size: u32, x: &[u8], y: &[u8], w: &mut [u8]) -> usize
     report::print(n, a, &out, w)
 }
 
-// THE REPORT on an input, in the first bytes of w
-fn answer(input: &[u8], w: &mut [u8]) -> usize
+// THE REPORT on an input, in the first bytes of w. Its length is asked for, since no rule tells it of what is lent.
+fn answer(input: &[u8], w: &mut [u8; REPORT_LIMIT]) -> usize
     requires { ⌜ 65664 ≤ length (now w) ⌝ }
     ensures { λ r. ⌜ take r (now (w .exit)) ≡ join (now (input .entry)) ⌝ }
     ensures { λ r. ⌜ r ≤ length (now (w .exit)) ⌝ }

@@ -207,7 +207,7 @@ module _ (n : ℕ) (x : Answer) (w : List ℕ) (room : length w ≡ 80) (k : ℕ
   words-there p1 p2 p3 p4 p5 p6 p7 =
       let y = text (endingName (x .ending)) in
       let there = text-there w (wordsAs (decimal k) y) (words-then y p1 p2 p3 p4 p5 p6 p7)
-          (omega (arith, words-length y (ending-length (x .ending)), room)) in
+      (omega (arith, words-length y (ending-length (x .ending)), room)) in
       (there .0 ∙ ap (λ (j : ℕ). wordsAs (decimal j) y) e, omega (arith, there .1, words-length y (ending-length (x .ending))), there .2 ∙ room)
 
 pub bad-text : text "bad job\n" ≡ badJob

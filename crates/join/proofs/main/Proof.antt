@@ -34,26 +34,23 @@ array-share-prefix-input c = bytes-within _ _ _ (c .before .n .given .1) (c .bef
 slice-aggregate-answer : tie.Need-slice-aggregate-answer
 slice-aggregate-answer c = sym (length-take-le _ _ (bytes-within _ _ _ (c .before .before .n .given .1) (c .before .before .before .before .before .read-all .ensures)))
 
-slice-aggregate-answer-2 : tie.Need-slice-aggregate-answer-2
-slice-aggregate-answer-2 c = search needs
-
 answer-requires : tie.Need-answer-requires
 answer-requires c κs = search needs
 
 array-share-prefix-input-2 : tie.Need-array-share-prefix-input-2
-array-share-prefix-input-2 c = bytes-within _ _ _ (c .before .before .before .before .before .n .given .1) (c .before .before .before .before .before .before .before .before .read-all .ensures)
+array-share-prefix-input-2 c = bytes-within _ _ _ (c .before .before .before .before .n .given .1) (c .before .before .before .before .before .before .before .read-all .ensures)
 
 slice-aggregate-write-report : tie.Need-slice-aggregate-write-report
-slice-aggregate-write-report c = sym (length-take-le _ _ (bytes-within _ _ _ (c .before .before .before .before .before .before .n .given .1) (c .before .before .before .before .before .before .before .before .before .read-all .ensures)))
+slice-aggregate-write-report c = sym (length-take-le _ _ (bytes-within _ _ _ (c .before .before .before .before .before .n .given .1) (c .before .before .before .before .before .before .before .before .read-all .ensures)))
 
 array-share-prefix-report : tie.Need-array-share-prefix-report
 array-share-prefix-report c = search needs
 
 slice-aggregate-write-report-2 : tie.Need-slice-aggregate-write-report-2
-slice-aggregate-write-report-2 c = sym (length-take-le _ _ (c .before .before .before .answer .ensures .1))
+slice-aggregate-write-report-2 c = sym (length-take-le _ _ (c .before .before .answer .ensures .1))
 
 write-report-requires : tie.Need-write-report-requires
-write-report-requires c κs = c .before .before .before .answer .ensures .0
+write-report-requires c κs = search needs
 
 slice-aggregate-fail-2 : tie.Need-slice-aggregate-fail-2
 slice-aggregate-fail-2 c = search needs
@@ -80,7 +77,6 @@ main-spec =
     returns
     array-share-prefix-input
     slice-aggregate-answer
-    slice-aggregate-answer-2
     answer-requires
     array-share-prefix-input-2
     slice-aggregate-write-report

@@ -30,16 +30,13 @@ slice-aggregate-print c = search needs
 print-requires : tie.Need-print-requires
 print-requires c κs = search needs
 
-same-length : tie.Need-same-length
-same-length c = search needs
-
 returns : tie.Need-returns
-returns c = 
-    let a = c .before .before .before .before .before .before .before .before .before .before .before .before .before .before .before .before .before .args in
-    let r = c .before .before .print .ensures in
+returns c =
+    let a = c .before .before .before .before .before .before .before .before .before .before .before .before .before .before .args in
+    let r = c .print .ensures in
     let rows = length-replicate {A = List ℕ} 1024 in
-    call-printed _ _ (a .n) (a .op) (a .size) (a .x .now) (a .y .now) _ _ _ _ _ _ _ _ _ (c .before .before .before .before .before .before .before .before .before .combine .ensures) refl (rows (replicate 6 0)) (rows (replicate 6 0)) (rows (replicate 12 0))
-    (a .w .now) (c .before .before .before .before .before .before .before .before .before .before .before .before .before .before .before .before .before .pre) (r .0) (r .1)
+    call-printed _ _ (a .n) (a .op) (a .size) (a .x .now) (a .y .now) _ _ _ _ _ _ _ _ _ (c .before .before .before .before .before .before .before .combine .ensures) refl (rows (replicate 6 0)) (rows (replicate 6 0)) (rows (replicate 12 0))
+    (a .w .now) (c .before .before .before .before .before .before .before .before .before .before .before .before .before .before .pre) (r .0) (r .1)
 
 pub run-spec : {M : Type 1} → statement M
 run-spec =
@@ -52,5 +49,4 @@ run-spec =
     combine-requires
     slice-aggregate-print
     print-requires
-    same-length
     returns)

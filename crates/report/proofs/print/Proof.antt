@@ -37,13 +37,12 @@ same-length : tie.Need-same-length
 same-length c = search needs
 
 returns : tie.Need-returns
-returns c = 
+returns c =
     let a = c .before .before .before .before .before .before .before .before .before .before .before .before .before .before .before .args in
-    let l = c .before .before .before .before .before .before .before .before .before .before .before .last-line in
-    (
+    let l = c .before .before .before .before .before .before .before .before .before .before .before .last-line in (
       report-made (a .n) (writingOf (a .a)) (a .out .now) (a .w .now) (c .before .before .before .before .before .before .before .before .before .before .before .before .output-part .ensures) (l .ensures .0) (c .before .before .before .before .before .before .before .put .ensures) (c .before .before .put2 .ensures),
       report-length (a .n) (writingOf (a .a)) (a .out .now) (a .w .now) (c .before .before .before .before .before .before .before .before .before .before .before .before .output-part .ensures) (l .ensures .0)
-      (omega (arith, length-take (l .result .count) (l .result .bytes), l .ensures .1)),
+          (omega (arith, length-take (l .result .count) (l .result .bytes), l .ensures .1)),
     )
 
 pub print-spec : {M : Type 1} → statement M

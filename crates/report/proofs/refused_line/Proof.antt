@@ -48,7 +48,7 @@ push-requires-3 c κs = search needs
 
 returns : tie.Need-returns
 unfolding text
-returns c = 
+returns c =
     let l = c .before .before .before .before .before .before .before .before .before .before .empty in
     let k = c .before .before .before .before .before .before .before .cause-number in
     let p = c .before .before .before .before .before .before .push-number .ensures in

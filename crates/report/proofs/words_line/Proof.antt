@@ -45,7 +45,7 @@ push-requires-2 c κs = search needs
 
 returns : tie.Need-returns
 unfolding text
-returns c = 
+returns c =
     let l = c .before .before .before .before .before .before .before .before .before .before .empty in
     let k = c .before .before .before .before .all-words in
     let p = c .before .before .before .before .before .before .before .push-number .ensures in
