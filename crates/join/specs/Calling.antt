@@ -14,7 +14,8 @@ use Rattle.writing.specs.Calls.{Combine, combine, combineAnswer, combineText}
 use Rattle.writing.specs.Join.{Job, jobLimit, report, called, answered}
 use Rattle.claims.specs.Runs.{ran}
 use Rattle.engine.specs.Pending.{waiting}
-use Rattle.report.specs.Printing.{reportText, reportIn, text-there}
+use Rattle.report.specs.Printing.{lineLimit, reportText, reportIn, text-there}
+use Rattle.join.specs.Joining.{reportLimit}
 
 -- an answer that has an output comes with no more options than the limit
 abbrev Settled : ℕ → Result Answer → Type 0
@@ -83,8 +84,8 @@ module _ {R S : Type 0} (z : R) (o : S) (n op size : ℕ) (x y out : List ℕ) (
       call-report = ap₂ (report n) (answers ∙ same-answer) (leaves ∙ same-output)
 
       -- what is then in a row that has room for it
-      pub call-printed : (r : List ℕ) {l : List ℕ} {k : ℕ} → 65664 ≤ length r → waiting l k ≡ reportIn n a w r
-          → length (reportText n a w) ≤ length w + 80 → (take k l ≡ answered (some job)) × (k ≤ length l)
+      pub call-printed : (r : List ℕ) {l : List ℕ} {k : ℕ} → reportLimit ≤ length r → waiting l k ≡ reportIn n a w r
+          → length (reportText n a w) ≤ length w + lineLimit → (take k l ≡ answered (some job)) × (k ≤ length l)
       unfolding reportIn
       call-printed r i m o =
           let z : length out ≡ jobLimit = ap length p ∙ length-replicate {A = ℕ} jobLimit 0 in

@@ -1,3 +1,3 @@
-pub mod Calling
 pub mod Joining
+pub mod Calling
 pub mod Got

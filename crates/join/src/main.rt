@@ -4,11 +4,13 @@ ghost use mathlib.Core.Option.{some};
 ghost use lib.ListN.{length, take};
 ghost use Prim.Native.Nat.{_≤_};
 ghost use Rattle.writing.specs.Join.{answered, join};
+ghost use Rattle.join.specs.Joining.{reportLimit};
 ghost use Rattle.join.specs.Got.{Within};
 use job::JOB_LIMIT;
 use job::Parsing;
 use libc::STDIN_FILENO;
 use libc::STDOUT_FILENO;
+use report::LINE_LIMIT;
 
 // A job has at most JOB_LIMIT bytes; one more shows that the input has more.
 const INPUT_LIMIT: usize = JOB_LIMIT + 1;
@@ -16,11 +18,11 @@ const INPUT_LIMIT: usize = JOB_LIMIT + 1;
 const TABLE_LIMIT: usize = 1024;
 
 // An output of JOB_LIMIT bytes and a last line have room.
-const REPORT_LIMIT: usize = 65664;
+const REPORT_LIMIT: usize = JOB_LIMIT + LINE_LIMIT;
 
 // The report on a job of these numbers and streams
 fn run(n: u32, op: u32, size: u32, x: &[u8], y: &[u8], w: &mut [u8; REPORT_LIMIT]) -> usize
-    requires { ⌜ 65664 ≤ length (now w) ⌝ }
+    requires { ⌜ reportLimit ≤ length (now w) ⌝ }
     ensures { λ r. ⌜ take r (now (w .exit)) ≡ answered (some (record { n = n; op = op; size = size; stream₁ = now (x .entry); stream₂ = now (y .entry) })) ⌝ }
     ensures { λ r. ⌜ r ≤ length (now (w .exit)) ⌝ }
 {
@@ -34,7 +36,7 @@ fn run(n: u32, op: u32, size: u32, x: &[u8], y: &[u8], w: &mut [u8; REPORT_LIMIT
 
 // THE REPORT on an input, in the first bytes of w. Its length is asked for, since no rule tells it of what is lent.
 fn answer(input: &[u8], w: &mut [u8; REPORT_LIMIT]) -> usize
-    requires { ⌜ 65664 ≤ length (now w) ⌝ }
+    requires { ⌜ reportLimit ≤ length (now w) ⌝ }
     ensures { λ r. ⌜ take r (now (w .exit)) ≡ join (now (input .entry)) ⌝ }
     ensures { λ r. ⌜ r ≤ length (now (w .exit)) ⌝ }
 {

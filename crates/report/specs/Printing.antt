@@ -19,6 +19,10 @@ use Rattle.engine.specs.Pending.{Waiting, waiting, pushAll}
 use Rattle.engine.specs.PendingLaws.{push-length, push-count, push-take, decimal-small, decimal-more}
 use Rattle.engine.specs.PendingMade.{push-then}
 
+-- the last line has room in so many bytes
+abbrev pub lineLimit : ℕ
+lineLimit = 80
+
 -- ---- A text byte by byte ---------------------------------------------------------------------
 
 module _ (w : List ℕ) (m : ℕ) (s : List ℕ) where
@@ -113,7 +117,7 @@ module _ (n : ℕ) (a : Result Answer) (output w : List ℕ) {k : ℕ} {last : L
   unfolding reportIn
   report-made p q = push-then w 0 (take k output) last p q ∙ ap (pushAll w 0) text-parts
 
-  pub report-length : length last ≤ 80 → length (reportText n a output) ≤ length output + 80
+  pub report-length : length last ≤ lineLimit → length (reportText n a output) ≤ length output + lineLimit
   report-length h =
       omega (arith, ap length (sym text-parts), length-append (take k output) last, length-take k output, h)
 
@@ -135,19 +139,19 @@ part-whole a x k e h =
 -- ---- The last line ---------------------------------------------------------------------------
 
 -- `refused` and three numbers: each text after those before it, and then all is there
-module _ (r : Refusal) (w : List ℕ) (room : length w ≡ 80) (k : ℕ) (e : k ≡ causeRow (r .cause) .number)
+module _ (r : Refusal) (w : List ℕ) (room : length w ≡ lineLimit) (k : ℕ) (e : k ≡ causeRow (r .cause) .number)
     (h : length (decimal k) ≤ 20) (i : length (decimal (r .stream)) ≤ 20) (j : length (decimal (r .byte)) ≤ 20) where
   abbrev refusedAs : List ℕ → List ℕ
   refusedAs x = line (text "refused" ∷ x ∷ decimal (r .stream) ∷ decimal (r .byte) ∷ [])
 
-  refused-length : length (refusedAs (decimal k)) ≤ 80
+  refused-length : length (refusedAs (decimal k)) ≤ lineLimit
   unfolding line text
   refused-length = simp length-append (omega (arith, h, i, j))
 
   pub refused-there : {a b c d f g m : List ℕ} {p q s t u v x : ℕ}
       → waiting a p ≡ pushAll w 0 (text "refused ") → waiting b q ≡ pushAll a p (decimal k) → waiting c s ≡ pushAll b q (blank ∷ [])
       → waiting d t ≡ pushAll c s (decimal (r .stream)) → waiting f u ≡ pushAll d t (blank ∷ []) → waiting g v ≡ pushAll f u (decimal (r .byte))
-      → waiting m x ≡ pushAll g v (lineFeed ∷ []) → (take x m ≡ refusedText r) × (x ≤ 80) × (length m ≡ 80)
+      → waiting m x ≡ pushAll g v (lineFeed ∷ []) → (take x m ≡ refusedText r) × (x ≤ lineLimit) × (length m ≡ lineLimit)
   unfolding line text
   refused-there {a = a} {b = b} {c = c} {d = d} {f = f} {g = g} {p = p} {q = q} {s = s} {t = t} {u = u} {v = v} p1 p2 p3 p4 p5 p6 p7 =
       let q6 = push-then f u (decimal (r .byte)) (lineFeed ∷ []) p6 p7 in
@@ -176,12 +180,12 @@ ending-length inputEnded = omega arith
 ending-length outputFull = omega arith
 
 -- LF, covered words, all words and the ending
-module _ (n : ℕ) (x : Answer) (w : List ℕ) (room : length w ≡ 80) (k : ℕ) (e : k ≡ 2 ^ n)
+module _ (n : ℕ) (x : Answer) (w : List ℕ) (room : length w ≡ lineLimit) (k : ℕ) (e : k ≡ 2 ^ n)
     (h : length (decimal (x .covered)) ≤ 20) (i : length (decimal k) ≤ 20) where
   abbrev wordsAs : List ℕ → List ℕ → List ℕ
   wordsAs z y = lineFeed ∷ line (text "words" ∷ decimal (x .covered) ∷ text "of" ∷ z ∷ y ∷ [])
 
-  words-length : (y : List ℕ) → length y ≤ 11 → length (wordsAs (decimal k) y) ≤ 80
+  words-length : (y : List ℕ) → length y ≤ 11 → length (wordsAs (decimal k) y) ≤ lineLimit
   unfolding line text
   words-length y j = simp length-append (omega (arith, h, i, j))
 
@@ -203,7 +207,7 @@ module _ (n : ℕ) (x : Answer) (w : List ℕ) (room : length w ≡ 80) (k : ℕ
   pub words-there : {a b c d f g o : List ℕ} {p q s t u v z : ℕ}
       → waiting a p ≡ pushAll w 0 (text "\nwords ") → waiting b q ≡ pushAll a p (decimal (x .covered)) → waiting c s ≡ pushAll b q (text " of ")
       → waiting d t ≡ pushAll c s (decimal k) → waiting f u ≡ pushAll d t (blank ∷ []) → waiting g v ≡ pushAll f u (text (endingName (x .ending)))
-      → waiting o z ≡ pushAll g v (lineFeed ∷ []) → (take z o ≡ wordsText n x) × (z ≤ 80) × (length o ≡ 80)
+      → waiting o z ≡ pushAll g v (lineFeed ∷ []) → (take z o ≡ wordsText n x) × (z ≤ lineLimit) × (length o ≡ lineLimit)
   words-there p1 p2 p3 p4 p5 p6 p7 =
       let y = text (endingName (x .ending)) in
       let there = text-there w (wordsAs (decimal k) y) (words-then y p1 p2 p3 p4 p5 p6 p7)

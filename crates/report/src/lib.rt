@@ -10,7 +10,7 @@ ghost use Rattle.writing.specs.Texts.{decimal};
 ghost use Rattle.writing.specs.Join.{endingName, badJob};
 ghost use Rattle.engine.specs.Pending.{pushAll};
 ghost use Rattle.meeting.specs.Cite.{endingsOf, writtenOf, writingOf};
-ghost use Rattle.report.specs.Printing.{refusedText, wordsText, lastText, outputPart, reportText, reportIn};
+ghost use Rattle.report.specs.Printing.{lineLimit, refusedText, wordsText, lastText, outputPart, reportText, reportIn};
 ghost use Rattle.report.specs.Lines.{lineOf, emptyLine, Holds};
 use meeting::Ending;
 use meeting::Writing;
@@ -19,10 +19,13 @@ use reader::Refusal;
 
 const OPTION_LIMIT: u32 = 32;
 
+// The last line has room.
+pub const LINE_LIMIT: usize = 80;
+
 // ---- The last line, made apart: its first bytes count
 
 struct Line {
-    bytes: [u8; 80],
+    bytes: [u8; LINE_LIMIT],
     count: usize,
 }
 
@@ -30,7 +33,7 @@ fn empty() -> Line
     ensures { λ r. ⌜ r ≡ emptyLine ⌝ }
 {
     Line {
-        bytes: [0; 80],
+        bytes: [0; LINE_LIMIT],
         count: 0,
     }
 }
@@ -40,7 +43,7 @@ fn push(l: Line, b: u8) -> Line
 {
     let mut t = l;
     let m = t.count;
-    if 80 <= m {
+    if LINE_LIMIT <= m {
         return t;
     }
     t.bytes[m] = b;
@@ -154,7 +157,7 @@ fn put(w: &mut [u8], m: usize, s: &[u8]) -> usize
 // THE REPORT on an answer and its output. Options past the limit count as the limit: no output comes with them.
 pub fn print(n: u32, a: Writing, out: &[u8], w: &mut [u8]) -> usize
     ensures { λ r. ⌜ record { bytes = now (w .exit); count = r } ≡ reportIn n (writingOf a) (now (out .entry)) (now (w .entry)) ⌝ }
-    ensures { λ r. ⌜ length (reportText n (writingOf a) (now (out .entry))) ≤ length (now (out .entry)) + 80 ⌝ }
+    ensures { λ r. ⌜ length (reportText n (writingOf a) (now (out .entry))) ≤ length (now (out .entry)) + lineLimit ⌝ }
 {
     let k = output_part(a, out.len());
     let l = last_line(n, a);

@@ -7,9 +7,10 @@ use mathlib.Core.Path.{_≡_, sym, _∙_}
 use native.Mathlib.Omega.{arith}
 use lib.ListN.{length, length-map}
 use Rattle.engine.specs.PendingMade.{push-full, push-room}
+use Rattle.report.specs.Printing.{lineLimit}
 
--- a line has 80 bytes
-sized : (c : tie.Start) → length (c .args .l .bytes) ≡ 80
+-- a line has so many bytes
+sized : (c : tie.Start) → length (c .args .l .bytes) ≡ lineLimit
 sized c = sym (length-map (c .args .l .bytes) _) ∙ c .good .0 .1 .1 .0 .1 .0 .1
 
 returns : tie.Need-returns
