@@ -10,25 +10,22 @@ use Rattle.reading.specs.Bytes.{blank, lineFeed}
 use Rattle.writing.specs.Join as J
 use Rattle.job.specs.Between.{between}
 use Rattle.job.specs.Cite.{Heads, headed, linesJob, Placed}
-use Rattle.job.specs.Parsing.{placed, parsed}
+use Rattle.job.specs.Parsing.{jobUnless, placed, parsed}
 use Rattle.job.specs.declared.Heading.{Heading}
 use Rattle.job.specs.declared.Lines.{Lines}
 use Rattle.job.specs.declared.Job.{Job}
 use Rattle.job.specs.declared.Parsing.{Parsing}
 use Rattle.job.specs.declared.Parsing.the-variants.{Good, Bad}
 
-abbrev unlessLong : List ℕ → Bool → Option J.Job
-unlessLong s t = elim t as (λ _. Option J.Job) [ true ↦ none | false ↦ J.fiveLines (J.pieces lineFeed s) ]
-
 module _ (s : List ℕ) where
   pub parsed-long : J.jobLimit < length s → Bad ≡ parsed s
   unfolding parsed
-  parsed-long h = sym (ap (λ (t : Bool). placed s (unlessLong s t)) (lt-ltb J.jobLimit (length s) h))
+  parsed-long h = sym (ap (λ (t : Bool). placed s (jobUnless s t)) (lt-ltb J.jobLimit (length s) h))
 
   module _ (h : length s ≤ J.jobLimit) where
     parsed-short : (j : Option J.Job) → j ≡ J.fiveLines (J.pieces lineFeed s) → placed s j ≡ parsed s
     unfolding parsed
-    parsed-short j e = sym (ap (λ (t : Bool). placed s (unlessLong s t)) (le-ltb J.jobLimit (length s) h) ∙ ap (placed s) (sym e))
+    parsed-short j e = sym (ap (λ (t : Bool). placed s (jobUnless s t)) (le-ltb J.jobLimit (length s) h) ∙ ap (placed s) (sym e))
 
     module _ (l : Lines) (e : linesJob s l ≡ J.fiveLines (J.pieces lineFeed s)) where
       abbrev first : List ℕ

@@ -14,13 +14,14 @@ use Rattle.writing.specs.Join as J
 use Rattle.job.specs.Between.{between}
 use Rattle.job.specs.Cuts.{cutAt, firstEnd, thirdEnd, fifthEnd}
 use Rattle.job.specs.Lining.{one-line, two-lines, three-lines, four-lines, more-lines, five-lines, lines-ordered}
-use Rattle.job.specs.Parsing.{jobIn, placed, parsed}
+use Rattle.job.specs.Parsing.{jobUnless, jobIn, placedJob, placed, parsed}
 use Rattle.job.specs.declared.Job.{Job}
 use Rattle.job.specs.declared.Parsing.{Parsing}
 use Rattle.job.specs.declared.Parsing.the-variants.{Good, Bad}
 
--- ---- The streams are those that the first line is read for ------------------------------------
+-- ---- The streams are those that the first line is read for -----------------------------------
 
+-- where the streams of a job stand
 pub record Streams (s : List ℕ) (j : J.Job) : Type 0 where
   pub first : between s (firstEnd s + 1) (thirdEnd s) ≡ j .stream₁
   pub second : between s (thirdEnd s + 1) (fifthEnd s) ≡ j .stream₂
@@ -28,25 +29,28 @@ pub record Streams (s : List ℕ) (j : J.Job) : Type 0 where
   pub third-fifth : thirdEnd s < fifthEnd s
   pub fifth-end : fifthEnd s ≤ length s
 
+never : {A : Type 0} (j : J.Job) → none ≡ some j → A
+never j e = let z : _≡_ {A = ℕ} 0 1 = cc in absurd (omega arith)
+
 module _ (x y : List ℕ) (j : J.Job) where
   fields-streams : (n o z : Option ℕ) → J.fields x y n o z ≡ some j → (x ≡ j .stream₁) × (y ≡ j .stream₂)
-  fields-streams none o z e = let z : _≡_ {A = ℕ} 0 1 = cc in absurd (omega arith)
-  fields-streams (some n) none z e = let z : _≡_ {A = ℕ} 0 1 = cc in absurd (omega arith)
-  fields-streams (some n) (some o) none e = let z : _≡_ {A = ℕ} 0 1 = cc in absurd (omega arith)
+  fields-streams none o z e = never j e
+  fields-streams (some n) none z e = never j e
+  fields-streams (some n) (some o) none e = never j e
   fields-streams (some n) (some o) (some z) e =
       let d : record { n = n; op = o; size = z; stream₁ = x; stream₂ = y } ≡ j = cc in
       (ap (λ (i : J.Job). i .stream₁) d, ap (λ (i : J.Job). i .stream₂) d)
 
   line-streams : (l : List (List ℕ)) → J.firstLine x y l ≡ some j → (x ≡ j .stream₁) × (y ≡ j .stream₂)
-  line-streams [] e = let z : _≡_ {A = ℕ} 0 1 = cc in absurd (omega arith)
-  line-streams (a ∷ []) e = let z : _≡_ {A = ℕ} 0 1 = cc in absurd (omega arith)
-  line-streams (a ∷ b ∷ []) e = let z : _≡_ {A = ℕ} 0 1 = cc in absurd (omega arith)
+  line-streams [] e = never j e
+  line-streams (a ∷ []) e = never j e
+  line-streams (a ∷ b ∷ []) e = never j e
   line-streams (a ∷ b ∷ c ∷ []) e = fields-streams (J.numberOf a) (J.operatorOf J.operatorNames b) (J.numberOf c) e
-  line-streams (a ∷ b ∷ c ∷ d ∷ ls) e = let z : _≡_ {A = ℕ} 0 1 = cc in absurd (omega arith)
+  line-streams (a ∷ b ∷ c ∷ d ∷ ls) e = never j e
 
 module _ (s : List ℕ) (j : J.Job) (g : J.fiveLines (J.pieces lineFeed s) ≡ some j) where
   no-job : {A : Type 0} → J.fiveLines (J.pieces lineFeed s) ≡ none → A
-  no-job e = let z : _≡_ {A = ℕ} 0 1 = cc in absurd (omega arith)
+  no-job e = never j (sym e ∙ g)
 
   abbrev end : ℕ → ℕ
   end i = cutAt lineFeed s i
@@ -76,20 +80,17 @@ module _ (s : List ℕ) (j : J.Job) (g : J.fiveLines (J.pieces lineFeed s) ≡ s
       (λ (h : e + 1 < length s). no-job (more-lines s a b c (refl, p) (refl, q) (refl, r) d (refl, t) e refl h))
       (decide-le (length s) (e + 1))))))
 
--- ---- What the program prints -------------------------------------------------------------------
+-- ---- What the program prints -----------------------------------------------------------------
 
 abbrev reported : List ℕ → Bool → List ℕ
 reported s t = elim t as (λ _. List ℕ) [ true ↦ J.badJob | false ↦ J.answered (J.fiveLines (J.pieces lineFeed s)) ]
-
-abbrev unlessLong : List ℕ → Bool → Option J.Job
-unlessLong s t = elim t as (λ _. Option J.Job) [ true ↦ none | false ↦ J.fiveLines (J.pieces lineFeed s) ]
 
 module _ (s : List ℕ) where
   join-answered : J.answered (jobIn s) ≡ J.join s
   unfolding J.join J.answered
   join-answered = go (ltb J.jobLimit (length s))
     where
-      go : (t : Bool) → J.answered (unlessLong s t) ≡ reported s t
+      go : (t : Bool) → J.answered (jobUnless s t) ≡ reported s t
       go true = refl
       go false = refl
 
@@ -117,10 +118,7 @@ pub record Joins (s : List ℕ) (t : Job) : Type 0 where
       ≡ J.join s
 
 module _ (s : List ℕ) where
-  abbrev placedJob : J.Job → Job
-  placedJob j = record { n = j .n; op = j .op; size = j .size; first = firstEnd s; third = thirdEnd s; fifth = fifthEnd s }
-
-  joins-placed : (j : J.Job) → jobIn s ≡ some j → Streams s j → Joins s (placedJob j)
+  joins-placed : (j : J.Job) → jobIn s ≡ some j → Streams s j → Joins s (placedJob s j)
   joins-placed j p o =
       record {
         first-third = o .first-third;
@@ -132,8 +130,8 @@ module _ (s : List ℕ) where
             rw (x, y) (ap J.answered (sym p) ∙ join-answered s);
       }
 
-  in-lines : (j : J.Job) (t : Bool) → unlessLong s t ≡ some j → J.fiveLines (J.pieces lineFeed s) ≡ some j
-  in-lines j true e = let z : _≡_ {A = ℕ} 0 1 = cc in absurd (omega arith)
+  in-lines : (j : J.Job) (t : Bool) → jobUnless s t ≡ some j → J.fiveLines (J.pieces lineFeed s) ≡ some j
+  in-lines j true e = never j e
   in-lines j false e = e
 
   pub join-good : (t : Job) → Good t ≡ parsed s → Joins s t
@@ -143,5 +141,5 @@ module _ (s : List ℕ) where
       go : (o : Option J.Job) → jobIn s ≡ o → Good t ≡ placed s o → Joins s t
       go none p q = let z : _≡_ {A = ℕ} 0 1 = cc in absurd (omega arith)
       go (some j) p q =
-          let d : t ≡ placedJob j = cc in
+          let d : t ≡ placedJob s j = cc in
           rw d (joins-placed j p (streams s j (in-lines j (ltb J.jobLimit (length s)) p)))

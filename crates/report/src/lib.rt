@@ -137,7 +137,7 @@ fn output_part(a: Writing, k: usize) -> usize
     ensures { λ r. ⌜ r ≡ outputPart (writingOf a) k ⌝ }
 {
     match a {
-        Writing::Refused(f) => 0,
+        Writing::Refused(_) => 0,
         Writing::Done(x) => if x.bytes < k { x.bytes } else { k },
     }
 }

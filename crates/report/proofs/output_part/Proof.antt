@@ -7,20 +7,20 @@ use mathlib.Core.Path.{ap}
 use Rattle.meeting.specs.Cite.{writingOf}
 use Rattle.report.specs.Printing.{part-less, part-whole}
 
+enum-told : tie.Need-enum-told
+enum-told c = search needs
+
 enum-known-a : tie.Need-enum-known-a
 enum-known-a c = search needs
-
-enum-known-a-2 : tie.Need-enum-known-a-2
-enum-known-a-2 c = search needs
 
 returns : tie.Need-returns
 returns c = search needs
 
 returns-2 : tie.Need-returns-2
-returns-2 c = let a = c .before .before .before .before .before .args in let e = c .before .before .before .a2 .given .1 in part-less (writingOf (a .a)) _ (a .k) (ap writingOf e) (c .if1 .taken)
+returns-2 c = let a = c .before .before .before .before .before .args in let e = c .before .before .before .a .given .1 in part-less (writingOf (a .a)) _ (a .k) (ap writingOf e) (c .if1 .taken)
 
 returns-3 : tie.Need-returns-3
-returns-3 c = let a = c .before .before .before .before .before .args in let e = c .before .before .before .a2 .given .1 in part-whole (writingOf (a .a)) _ (a .k) (ap writingOf e) (c .if1 .left)
+returns-3 c = let a = c .before .before .before .before .before .args in let e = c .before .before .before .a .given .1 in part-whole (writingOf (a .a)) _ (a .k) (ap writingOf e) (c .if1 .left)
 
 pub output-part-spec : {M : Type 1} → statement M
-output-part-spec = tie.close (tie.spec enum-known-a enum-known-a-2 returns returns-2 returns-3)
+output-part-spec = tie.close (tie.spec enum-told enum-known-a returns returns-2 returns-3)
