@@ -13,8 +13,6 @@ use Rattle.job.specs.Cite.{Heads, headed, linesJob, Placed}
 use Rattle.job.specs.Parsing.{jobUnless, placed, parsed}
 use Rattle.job.specs.declared.Heading.{Heading}
 use Rattle.job.specs.declared.Lines.{Lines}
-use Rattle.job.specs.declared.Job.{Job}
-use Rattle.job.specs.declared.Parsing.{Parsing}
 use Rattle.job.specs.declared.Parsing.the-variants.{Good, Bad}
 
 module _ (s : List ℕ) where

@@ -16,7 +16,6 @@ use Rattle.job.specs.Cuts.{cutAt, firstEnd, thirdEnd, fifthEnd}
 use Rattle.job.specs.Lining.{one-line, two-lines, three-lines, four-lines, more-lines, five-lines, lines-ordered}
 use Rattle.job.specs.Parsing.{jobUnless, jobIn, placedJob, placed, parsed}
 use Rattle.job.specs.declared.Job.{Job}
-use Rattle.job.specs.declared.Parsing.{Parsing}
 use Rattle.job.specs.declared.Parsing.the-variants.{Good, Bad}
 
 -- ---- The streams are those that the first line is read for -----------------------------------

@@ -1,7 +1,7 @@
 // The report of the program `join`: into a lent buffer, as far as it has room.
 ghost use mathlib.Core.Path.{_≡_};
 ghost use mathlib.Core.List.{[], _∷_};
-ghost use lib.ListN.{length, take};
+ghost use lib.ListN.{length};
 ghost use Prim.Native.Nat.{min, _+_, _^_, _≤_};
 ghost use Rattle.reading.specs.Limits.{optionLimit};
 ghost use Rattle.reading.specs.Bytes.{text};

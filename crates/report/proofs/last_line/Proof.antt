@@ -3,7 +3,6 @@
 use borrow.Author.Needs.{needs}
 use Rattle.report.proofs.last_line.Statement.{statement}
 use Rattle.report.proofs.last_line.Tie as tie
-use Rattle.meeting.specs.Cite.{writingOf}
 
 enum-known-a : tie.Need-enum-known-a
 enum-known-a c = search needs
