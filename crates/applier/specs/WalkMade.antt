@@ -20,10 +20,9 @@ use Rattle.engine.specs.MemoMade.{key-pair}
 use Rattle.engine.specs.Recalling.{Recalled, unnoted, alikePart, recallIn}
 use Rattle.engine.specs.RecallMade.{recall-told, recall-full, recall-on, recall-again}
 use Rattle.combining.specs.EdgeMade.{and-none}
-use Rattle.reader.specs.Table.{getIn}
-use Rattle.reader.specs.TableLaws.{tableOf, table-node}
-use Rattle.reader.specs.Simulation.{rowNode}
-use Rattle.reader.specs.declared.Row.{Row}
+use Rattle.work_table.specs.Table.{getIn}
+use Rattle.work_table.specs.TableLaws.{rowNode, tableOf, table-node}
+use Rattle.work_table.specs.declared.Row.{Row}
 use Rattle.meeting.specs.Cite.{halfOf, penOf, kept-as, again-as}
 use Rattle.meeting.specs.declared.Half.{Half}
 use Rattle.meeting.specs.declared.Pen.{Pen}

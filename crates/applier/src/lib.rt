@@ -33,7 +33,7 @@ use operation_cache::slot;
 use pending_text::push;
 use pending_text::push_turn;
 use pending_text::wait;
-use reader::get as row_at;
+use work_table::get as row_at;
 
 fn half_told(r: Told) -> Half
     ensures { λ h. ⌜ h ≡ r .half ⌝ }

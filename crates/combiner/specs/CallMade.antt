@@ -12,10 +12,10 @@ use Rattle.writing.specs.Calls.{combine}
 use Rattle.engine.specs.Engine.{Sent}
 use Rattle.engine.specs.Taping as T
 use Rattle.engine.specs.Memo.{slotOf, cacheRows}
-use Rattle.reader.specs.Answers.{checkingOf}
-use Rattle.reader.specs.Lent.{ReadBlock, blockIn}
-use Rattle.reader.specs.Load.{LoadTo, loadIn, load}
-use Rattle.reader.specs.declared.Loaded.{Loaded}
+use Rattle.checker.specs.Answers.{checkingOf}
+use Rattle.blocks.specs.Blocks.{ReadBlock, blockIn}
+use Rattle.blocks.specs.Load.{LoadTo, loadIn, load}
+use Rattle.blocks.specs.declared.Loaded.{Loaded}
 use Rattle.combining.specs.Tapes.{Tape, begunFeed}
 use Rattle.combining.specs.RootFeed.{rootFeed}
 use Rattle.combining.specs.CombineMade.{bothIn}

@@ -13,10 +13,9 @@ use Rattle.reading.specs.Nodes.{Node, node}
 use Rattle.writing.specs.Run.{digitAt}
 use Rattle.engine.specs.Applying.{Source, firstSource, secondSource, fixed}
 use Rattle.engine.specs.Taping.{Feed, atEdge, edgeOf, settle, firstFeed}
-use Rattle.reader.specs.Table.{getIn}
-use Rattle.reader.specs.Simulation.{rowNode}
-use Rattle.reader.specs.TableLaws.{tableOf, table-node}
-use Rattle.reader.specs.declared.Row.{Row}
+use Rattle.work_table.specs.Table.{getIn}
+use Rattle.work_table.specs.TableLaws.{rowNode, tableOf, table-node}
+use Rattle.work_table.specs.declared.Row.{Row}
 
 -- ---- The operator ----------------------------------------------------------------------------
 

@@ -26,10 +26,10 @@ use Rattle.engine.specs.Seating.{Seated}
 use Rattle.engine.specs.Streaming.{Wrote}
 use Rattle.engine.specs.Merging.{mergeIn}
 use Rattle.engine.specs.MergeLaws.{merge-wrote}
-use Rattle.reader.specs.Lent.{ReadBlock}
-use Rattle.reader.specs.TableLaws.{tableOf}
-use Rattle.reader.specs.Load.{LoadTo, load}
-use Rattle.reader.specs.LoadLaws.{load-answer, load-length, load-ordered, load-covers}
+use Rattle.blocks.specs.Blocks.{ReadBlock}
+use Rattle.work_table.specs.TableLaws.{tableOf}
+use Rattle.blocks.specs.Load.{LoadTo, load}
+use Rattle.blocks.specs.LoadLaws.{load-answer, load-length, load-ordered, load-covers}
 use Rattle.combining.specs.Tapes.{Tape, deepOf, sourceOf, nextTape, begunFeed}
 use Rattle.combining.specs.TapesRead.{Reads, input-covered, reads-deep, reads-aligned, reads-shows, reads-within, reads-next, reads-sits, reads-lasts}
 use Rattle.combining.specs.RootFeed.{rootFeed, root-fed, root-seated}

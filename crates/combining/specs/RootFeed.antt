@@ -13,10 +13,10 @@ use Rattle.engine.specs.Sitting.{Sits}
 use Rattle.engine.specs.Taping.{Feed, edgeOf}
 use Rattle.engine.specs.TapeLaws.{Fed}
 use Rattle.engine.specs.Seating.{Seated}
-use Rattle.reader.specs.TableLaws.{tableOf}
-use Rattle.reader.specs.Lent.{ReadBlock}
-use Rattle.reader.specs.Load.{LoadTo, load}
-use Rattle.reader.specs.LoadLaws.{load-decides, load-ordered, load-deep, load-covers}
+use Rattle.work_table.specs.TableLaws.{tableOf}
+use Rattle.blocks.specs.Blocks.{ReadBlock}
+use Rattle.blocks.specs.Load.{LoadTo, load}
+use Rattle.blocks.specs.LoadLaws.{load-decides, load-ordered, load-deep, load-covers}
 use Rattle.combining.specs.Tapes.{Tape, deepOf, sourceOf, nextTape}
 use Rattle.combining.specs.TapesRead.{Reads, input-covered, input-decides}
 

@@ -5,9 +5,9 @@ use mathlib.Core.List.{List}
 use Prim.Native.Nat.{ℕ}
 use Rattle.engine.specs.Applying.{Source}
 use Rattle.engine.specs.Taping.{Feed, settle}
-use Rattle.reader.specs.TableLaws.{tableOf}
-use Rattle.reader.specs.ReadOn.{Next, firstCursor, nextBlock}
-use Rattle.reader.specs.Lent.{ReadBlock}
+use Rattle.work_table.specs.TableLaws.{tableOf}
+use Rattle.reader.specs.ReadOn.{firstCursor}
+use Rattle.blocks.specs.Blocks.{Next, nextBlock, ReadBlock}
 
 -- a stream, the block that was read last, and the lent table after it
 pub record Tape : Type 0 where

@@ -16,9 +16,10 @@ use Rattle.writing.specs.Calls.{orNo, inputOf}
 use Rattle.engine.specs.ApplyLaws.{Shows, sourceWalk}
 use Rattle.engine.specs.Sitting.{Sits}
 use Rattle.reader.specs.Cite.{markOf}
-use Rattle.reader.specs.ReadOn.{Next, firstCursor, nextBlock}
-use Rattle.reader.specs.BlockLaws.{StandsAt, first-stands, stands-read, next-stands}
-use Rattle.reader.specs.BlockLaws.{block-from, block-covers, block-deep, block-aligned, block-later, block-ordered, block-lasts, block-sits, block-decides, block-last}
+use Rattle.reader.specs.ReadOn.{firstCursor}
+use Rattle.blocks.specs.Blocks.{Next, nextBlock}
+use Rattle.blocks.specs.BlockLaws.{StandsAt, first-stands, stands-read, next-stands}
+use Rattle.blocks.specs.BlockLaws.{block-from, block-covers, block-deep, block-aligned, block-later, block-ordered, block-lasts, block-sits, block-decides, block-last}
 use Rattle.reader.specs.Lent.{ReadCursor}
 use Rattle.combining.specs.Tapes.{Tape, tapeAt, deepOf, sourceOf, nextTape, firstTape}
 

@@ -2,7 +2,7 @@
 use mathlib.Core.List.{List}
 use Prim.Native.Nat.{ℕ}
 use Rattle.engine.specs.Applying.{Source}
-use Rattle.reader.specs.TableLaws.{tableOf}
+use Rattle.work_table.specs.TableLaws.{tableOf}
 use Rattle.edges.specs.declared.Edge.{Edge}
 
 -- an edge in the lent table of its input

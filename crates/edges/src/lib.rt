@@ -5,11 +5,11 @@ ghost use mathlib.Core.List.{List, [], _∷_};
 ghost use lib.Dec.{eqb, ltb};
 ghost use Prim.Native.Nat.{ℕ};
 ghost use Rattle.writing.specs.Run.{digitAt, operate};
-ghost use Rattle.reader.specs.Table.{getIn};
+ghost use Rattle.work_table.specs.Table.{getIn};
 ghost use Rattle.engine.specs.Applying.{firstSource, secondSource, fixed};
 ghost use Rattle.edges.specs.Cite.{edgeIn};
 use meeting::differs;
-use reader::Row;
+use work_table::Row;
 use unique_table::either;
 
 // ---- The operator

@@ -5,9 +5,11 @@ use Prim.Native.Nat.{ℕ, _+_}
 use Rattle.engine.specs.Applying.{secondSource}
 use Rattle.engine.specs.Taping as T
 use Rattle.combining.specs.Tapes.{Tape, tapeAt, deepOf, sourceOf, nextTape}
-use Rattle.reader.specs.ReadOn.{Next, startCursor, nextBlock}
-use Rattle.reader.specs.Lent.{ReadBlock, cursorIn, blockIn}
-use Rattle.reader.specs.declared.Block.{Block}
+use Rattle.blocks.specs.Blocks.{Next, nextBlock}
+use Rattle.reader.specs.ReadOn.{startCursor}
+use Rattle.blocks.specs.Blocks.{ReadBlock, blockIn}
+use Rattle.reader.specs.Lent.{cursorIn}
+use Rattle.blocks.specs.declared.Block.{Block}
 use Rattle.reader.specs.declared.Opens.{Opens}
 use Rattle.feeds.specs.declared.Feed.{Feed}
 use Rattle.feeds.specs.declared.Begun.{Begun}

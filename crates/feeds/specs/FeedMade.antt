@@ -8,10 +8,11 @@ use Rattle.engine.specs.Taping as T
 use lib.ListN.{replicate}
 use Rattle.combining.specs.Tapes.{Tape, tapeAt, deepOf, sourceOf, nextTape, begunFeed}
 use Rattle.combining.specs.EdgeMade.{first-edge}
-use Rattle.reader.specs.ReadOn.{Next, startCursor, cursor-first, nextBlock}
-use Rattle.reader.specs.declared.Block.{Block}
+use Rattle.reader.specs.ReadOn.{startCursor, cursor-first}
+use Rattle.blocks.specs.Blocks.{Next, nextBlock, ReadBlock}
+use Rattle.blocks.specs.declared.Block.{Block}
 use Rattle.reader.specs.declared.Opens.{Opens}
-use Rattle.reader.specs.Lent.{ReadCursor, ReadBlock, cursorIn}
+use Rattle.reader.specs.Lent.{ReadCursor, cursorIn}
 use Rattle.reader.specs.declared.Cursor.{Cursor}
 use Rattle.edges.specs.Cite.{edgeIn}
 use Rattle.edges.specs.declared.Edge.{Edge}

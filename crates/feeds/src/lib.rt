@@ -5,16 +5,16 @@ ghost use mathlib.Core.List.{List};
 ghost use Prim.Native.Nat.{ℕ, _+_};
 ghost use Rattle.engine.specs.Taping.{settle, firstFeed, secondFeed};
 ghost use Rattle.combining.specs.Tapes.{deepOf, sourceOf, nextTape};
-ghost use Rattle.reader.specs.Lent.{blockIn};
+ghost use Rattle.blocks.specs.Blocks.{blockIn};
 ghost use Rattle.reader.specs.declared.Opens.{Opens};
 ghost use Rattle.feeds.specs.Cite.{feedOn, feedOf, begunIn, readBy, arrived, begunFrom};
 use edges::Edge;
 use edges::first_edge;
 use edges::second_edge;
-use reader::Block;
+use blocks::Block;
 use reader::first_cursor;
-use reader::get as row_at;
-use reader::next_block;
+use work_table::get as row_at;
+use blocks::next_block;
 
 // An input at a part: inside its text, at the block that was read last, which begins with the part and is smaller; or at an edge
 pub struct Feed {

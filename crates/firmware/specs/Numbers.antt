@@ -6,7 +6,7 @@ use Prim.Native.Nat.{ℕ}
 use Rattle.lists.specs.Lists.{bit}
 use Rattle.reading.specs.Causes.{Result, refused, done, causeRow}
 use Rattle.reading.specs.Calls as R
-use Rattle.reader.specs.Table.{noRecord}
+use Rattle.work_table.specs.Table.{noRecord}
 use Rattle.firmware.specs.declared.RuleChecked.{RuleChecked}
 use Rattle.firmware.specs.declared.RuleDecided.{RuleDecided}
 use Rattle.firmware.specs.declared.RuleFilled.{RuleFilled}

@@ -4,13 +4,15 @@ ghost use Prim.Native.Nat.{ℕ};
 ghost use Rattle.lists.specs.Lists.{bit};
 ghost use Rattle.reading.specs.Causes.{causeRow};
 ghost use Rattle.reader.specs.Cite.{causeOf};
-ghost use Rattle.reader.specs.Answers.{checkingOf, verdictsOf, decidingOf, fillingOf};
+ghost use Rattle.checker.specs.Answers.{checkingOf};
+ghost use Rattle.decider.specs.Answers.{verdictsOf, decidingOf};
+ghost use Rattle.filler.specs.Answers.{fillingOf};
 ghost use Rattle.firmware.specs.Numbers.{verdictNumber, checkedNumbers, decidedNumbers, filledNumbers, checkGiven, decideGiven, fillGiven};
+use checker::Checking;
+use decider::Deciding;
+use decider::Verdict;
+use filler::Filling;
 use reader::Cause;
-use reader::Checking;
-use reader::Deciding;
-use reader::Filling;
-use reader::Verdict;
 
 #[repr(C)]
 pub struct RuleChecked {
@@ -97,7 +99,7 @@ fn checked_numbers(a: Checking) -> RuleChecked
 pub extern "C" fn rule_check(n: u32, stream: &[u8], table: &mut [[u32; 6]]) -> RuleChecked
     ensures { λ r. ⌜ record { answer = r; table = now (table .exit) } ≡ checkGiven n (now (stream .entry)) (now (table .entry)) ⌝ }
 {
-    checked_numbers(reader::check(n, stream, table))
+    checked_numbers(checker::check(n, stream, table))
 }
 
 fn verdict_number(v: Verdict) -> u32
@@ -144,7 +146,7 @@ pub extern "C" fn rule_decide(
 ) -> RuleDecided
     ensures { λ r. ⌜ record { answer = r; table = now (table .exit) } ≡ decideGiven n (now (stream .entry)) word (now (table .entry)) ⌝ }
 {
-    decided_numbers(reader::decide(n, stream, word, table))
+    decided_numbers(decider::decide(n, stream, word, table))
 }
 
 fn filled_numbers(a: Filling) -> RuleFilled
@@ -179,5 +181,5 @@ pub extern "C" fn rule_fill(
 ) -> RuleFilled
     ensures { λ r. ⌜ record { answer = r; table = now (table .exit); truths = now (truths .exit) } ≡ fillGiven n (now (stream .entry)) (now (truths .entry)) (now (table .entry)) ⌝ }
 {
-    filled_numbers(reader::fill(n, stream, truths, table))
+    filled_numbers(filler::fill(n, stream, truths, table))
 }

@@ -1,5 +1,6 @@
 pub mod Lists
 pub mod Looks
 pub mod Maps
+pub mod Powers
 pub mod Prefixes
 pub mod Splits

@@ -7,7 +7,7 @@ use Prim.Native.Nat.{ℕ}
 use Rattle.reading.specs.Causes as C
 use Rattle.writing.specs.Run as R
 use Rattle.engine.specs.Engine as E
-use Rattle.reader.specs.Answers.{refusalOf}
+use Rattle.checker.specs.Answers.{refusalOf}
 use Rattle.meeting.specs.declared.Half.{Half}
 use Rattle.meeting.specs.declared.Pen.{Pen}
 use Rattle.meeting.specs.declared.Walked.{Walked}

@@ -37,13 +37,13 @@ use Rattle.reader.specs.declared.Outcome.the-variants.{Got, Fault, RanOu
 use Rattle.reader.specs.declared.Place.{Place}
 use Rattle.reader.specs.declared.Ref.{Ref}
 use Rattle.reader.specs.declared.Run.{Run}
-use Rattle.reader.specs.declared.Row.{Row}
+use Rattle.work_table.specs.declared.Row.{Row}
 use Rattle.reader.specs.declared.Taken.{Taken}
 use Rattle.reader.specs.declared.Turn.{Turn}
 use Rattle.reader.specs.Taking.{failsOf, isKeptOf, isBadOf, nextStamp, storedRun, takenOf}
-use Rattle.reader.specs.Table.{noRow, getIn, storeAt, clearTo, get-none, get-above}
-use Rattle.reader.specs.TableLaws.{tableOf, table-length, table-node, Held, length-store, store-table, held-store, length-clear, clear-table, held-clear}
-use Rattle.reader.specs.Simulation.{rowNode, stateOf, readingOf, nodeTo, tableTo, Innermost, Wanted, take-with}
+use Rattle.work_table.specs.Table.{noRow, getIn, storeAt, clearTo, get-none, get-above}
+use Rattle.work_table.specs.TableLaws.{rowNode, tableOf, table-length, table-node, Held, length-store, store-table, held-store, length-clear, clear-table, held-clear}
+use Rattle.reader.specs.Simulation.{stateOf, readingOf, nodeTo, tableTo, Innermost, Wanted, take-with}
 use Rattle.reader.specs.CappedElement.{advance-seen}
 
 -- ---- What code holds -------------------------------------------------------------------------

@@ -1,4 +1,4 @@
--- The open nodes as code lends them, four cells to a node, and what the loop, a cursor and a block are with them. A cell that is a yes or a no is
+-- The open nodes as code lends them, four cells to a node, and what the loop and a cursor are with them. A cell that is a yes or a no is
 -- not 0 or 0, so that any cells are open nodes. Assumes nothing.
 use mathlib.Core.Path.{_≡_, refl, sym, ap, ap₂, _∙_}
 use mathlib.Core.Bool.{Bool, true, false, cond, not}
@@ -8,7 +8,6 @@ use lib.Dec.{eqb}
 use lib.ListN.{getD, set, replicate, List·getD-map}
 use Rattle.reader.specs.Cite.{insideOpen, lowAt, highAt}
 use Rattle.reader.specs.Advance.{nodesTo}
-use Rattle.reader.specs.declared.Block.{Block}
 use Rattle.reader.specs.declared.Cause.{Cause}
 use Rattle.reader.specs.declared.Cursor.{Cursor}
 use Rattle.reader.specs.declared.Open.{Open}
@@ -50,24 +49,12 @@ pub record ReadCursor : Type 0 where
   pub run : Run
   pub opens : Opens
 
--- the words that one element passes
-pub record ReadBlock : Type 0 where
-  pub cursor : ReadCursor
-  pub from : ℕ
-  pub deep : ℕ
-  pub number : ℕ
-  pub turned : Bool
-  pub halted : Bool
-
 -- each as code has it, beside the cells o
 abbrev pub reachedIn : Reached → List (List ℕ) → ReadReached
 reachedIn r o = record { run = r .run; opens = opensIn o (r .depth); from = r .from; deep = r .deep; halted = r .halted; faulty = r .faulty; cause = r .cause; byte = r .byte }
 
 abbrev pub cursorIn : Cursor → List (List ℕ) → ReadCursor
 cursorIn c o = record { run = c .run; opens = opensIn o (c .depth) }
-
-abbrev pub blockIn : Block → List (List ℕ) → ReadBlock
-blockIn b o = record { cursor = cursorIn (b .cursor) o; from = b .from; deep = b .deep; number = b .number; turned = b .turned; halted = b .halted }
 
 -- ---- Laws ------------------------------------------------------------------------------------
 

@@ -16,7 +16,7 @@ use Rattle.reader.specs.declared.Mark.{Mark}
 use Rattle.reader.specs.declared.Mark.the-variants.{Start}
 use Rattle.reader.specs.declared.Run.{Run}
 use Rattle.reader.specs.declared.Turn.{Turn}
-use Rattle.reader.specs.Table.{getIn}
+use Rattle.work_table.specs.Table.{getIn}
 use Rattle.reader.specs.Advance.{stateAt, Kept, Young, takenAt, lowOf, opensTo, TurnMade, past, barred, out, fault, took, HaltsAt, Comes, turn-went, turn-halts, list-length, length-lent}
 use Rattle.reader.specs.Lent.{ReadReached}
 
@@ -49,14 +49,6 @@ stands-first n bytes t h = record {
     begin = λ _. refl;
   };
 }
-
--- So does code that begins there.
-pub stands-begun : (n : ℕ) (bytes : List ℕ) (t : List (List ℕ)) (r : Run) → 1024 ≤ length t → r ≡ firstRun → Stands n bytes r firstOpens t
-stands-begun n bytes t r room re = subst (λ (x : Run). Stands n bytes x firstOpens t) (sym re) (stands-first n bytes t room)
-
--- No word is covered yet.
-pub first-none : (r : Run) (stop : ℕ) → r ≡ firstRun → r .covered ≤ stop
-first-none r stop e = let z : r .covered ≡ 0 = ap (λ (x : Run). x .covered) e in omega (arith, z)
 
 -- ---- What is reached -------------------------------------------------------------------------
 

@@ -1,4 +1,4 @@
--- The code's loop as a function, with fuel for its turns, and the reading of one block. Where code stands as reading does, what the
+-- The code's loop as a function, with fuel for its turns, and reading on from a cursor. Where code stands as reading does, what the
 -- function comes to is what the loop reaches. Assumes nothing.
 use mathlib.Core.Path.{_≡_, refl, sym, ap, _∙_, subst}
 use mathlib.Core.Logic.{inl, ⊎-elim}
@@ -19,9 +19,8 @@ use Rattle.reader.specs.declared.Run.{Run}
 use Rattle.reader.specs.declared.Turn.{Turn}
 use Rattle.reader.specs.Advance.{lowOf, nodesTo, opensTo, TurnMade}
 use Rattle.reader.specs.Turning.{Turned, turnIn, turn-in, turn-made, turn-ahead}
-use Rattle.reader.specs.Lent.{ReadReached, ReadCursor, ReadBlock, cursorIn}
-use Rattle.reader.specs.Loop.{firstRun, firstOpens, Stands, stands-begun, first-none, ReachedBy, Running, goes-here, halts-here, ahead-here, turn-length, loop-past}
-use Rattle.reader.specs.CallsMade.{edgeAt}
+use Rattle.reader.specs.Lent.{ReadReached, ReadCursor, cursorIn}
+use Rattle.reader.specs.Loop.{firstRun, firstOpens, Stands, stands-first, ReachedBy, Running, goes-here, halts-here, ahead-here, turn-length, loop-past}
 
 -- ---- The loop --------------------------------------------------------------------------------
 
@@ -151,16 +150,6 @@ pub read-reaches : (n : ℕ) (bytes : List ℕ) → n ≤ 32 → (stop : ℕ) (r
     → let z = readAll n bytes stop r o t in ReachedBy n bytes stop (z .reached) (z .table)
 read-reaches n bytes few stop r o t h l = read-running (suc (length bytes)) n bytes few stop r o 0 0 t (record { stands = h; past = inl l }) (omega arith)
 
--- So for a call of the loop: y is what it reaches, u the table after it.
-pub read-called : (n : ℕ) (bytes : List ℕ) → n ≤ 32 → (stop : ℕ) (r : Run) (o : Opens) (t : List (List ℕ)) → Stands n bytes r o t → r .covered ≤ stop
-    → (y : ReadReached) (u : List (List ℕ)) → record { reached = y; table = u } ≡ readAll n bytes stop r o t → ReachedBy n bytes stop y u
-read-called n bytes few stop r o t h l y u e = subst (Reaches n bytes stop) (sym e) (read-reaches n bytes few stop r o t h l)
-
--- So for a call from the start.
-pub read-begun : (n : ℕ) (bytes : List ℕ) → n ≤ 32 → (stop : ℕ) (r : Run) (t : List (List ℕ)) → 1024 ≤ length t → r ≡ firstRun
-    → (y : ReadReached) (u : List (List ℕ)) → record { reached = y; table = u } ≡ readAll n bytes stop r firstOpens t → ReachedBy n bytes stop y u
-read-begun n bytes few stop r t room re = read-called n bytes few stop r firstOpens t (stands-begun n bytes t r room re) (first-none r stop re)
-
 -- ---- The code's loop -------------------------------------------------------------------------
 
 -- What the loop keeps, whatever the state: it leads to what the function comes to.
@@ -206,7 +195,7 @@ module _ (z : ReadTo) (n : ℕ) (bytes : List ℕ) (stop : ℕ) (r : Run) (o : O
           subst (λ (ns : List Open). Leads z n bytes stop (y .run) (record { nodes = ns; depth = y .depth }) (r .covered) (o .depth) u) (sym k)
           (leads-on (h .fuel) (h .enough) (h .same))
 
--- ---- Blocks ----------------------------------------------------------------------------------
+-- ---- Reading on from a cursor ----------------------------------------------------------------
 
 -- where reading begins
 abbrev pub firstCursor : ReadCursor
@@ -221,59 +210,60 @@ pub cursor-first : cursorIn startCursor (replicate 32 (replicate 4 0)) ≡ first
 cursor-first = refl
 
 -- more options, open nodes or words than any reading has
-abbrev pub offBy : ℕ → ReadCursor → Bool
-offBy n c = ltb 32 n || (ltb 32 (c .opens .depth) || ltb 4294967296 (c .run .covered))
+abbrev pub offBy : ℕ → ℕ → ℕ → Bool
+offBy n d stop = ltb 32 n || (ltb 32 d || ltb 4294967296 stop)
 
 -- nothing is read
 abbrev pub restingAt : ReadCursor → ReadReached
 restingAt c = haltedAt (c .run) (c .opens) 0 0 false WrongByte 0
 
--- the block that the loop's last element passed
-abbrev pub blockOf : ReadReached → ReadBlock
-blockOf y = record { cursor = record { run = y .run; opens = y .opens }; from = y .from; deep = y .deep; number = edgeAt y .number; turned = edgeAt y .turned; halted = y .halted }
-
--- a block, and the lent table after it
-pub record Next : Type 0 where
-  pub block : ReadBlock
-  pub table : List (List ℕ)
-
-abbrev pub nextOf : ReadTo → Next
-nextOf z = record { block = blockOf (z .reached); table = z .table }
-
--- THE NEXT BLOCK: reads on until more words are covered
-unfoldable pub nextBlock : ℕ → List ℕ → ReadCursor → List (List ℕ) → Next
+-- READING ON while no more than `stop` words are covered; past the limits nothing is read
+unfoldable pub readFrom : ℕ → List ℕ → ℕ → ReadCursor → List (List ℕ) → ReadTo
 unfolding readOn
-nextBlock n bytes c t = nextOf (cond (offBy n c) (record { reached = restingAt c; table = t }) (readAll n bytes (c .run .covered) (c .run) (c .opens) t))
+readFrom n bytes stop c t = cond (offBy n (c .opens .depth) stop) (record { reached = restingAt c; table = t }) (readAll n bytes stop (c .run) (c .opens) t)
 
-module _ (n : ℕ) (bytes : List ℕ) (c : ReadCursor) (t : List (List ℕ)) where
-  -- the block where nothing is read
-  next-off : offBy n c ≡ true → nextBlock n bytes c t ≡ record { block = blockOf (restingAt c); table = t }
-  unfolding nextBlock
-  next-off h = ap (λ (b : Bool). nextOf (cond b (record { reached = restingAt c; table = t }) (readAll n bytes (c .run .covered) (c .run) (c .opens) t))) h
+module _ (n : ℕ) (bytes : List ℕ) (stop : ℕ) (c : ReadCursor) (t : List (List ℕ)) where
+  abbrev by : Bool → ReadTo
+  by b = cond b (record { reached = restingAt c; table = t }) (readAll n bytes stop (c .run) (c .opens) t)
 
-  -- The block where the loop reads.
-  pub next-on : offBy n c ≡ false → nextBlock n bytes c t ≡ nextOf (readAll n bytes (c .run .covered) (c .run) (c .opens) t)
-  unfolding nextBlock
-  next-on h = ap (λ (b : Bool). nextOf (cond b (record { reached = restingAt c; table = t }) (readAll n bytes (c .run .covered) (c .run) (c .opens) t))) h
+  -- So past the limits,
+  pub read-off : offBy n (c .opens .depth) stop ≡ true → record { reached = restingAt c; table = t } ≡ readFrom n bytes stop c t
+  unfolding readFrom
+  read-off h = sym (ap by h)
 
-  -- So for calls: b is the block that is made of what is reached.
-  pub next-rests : (b : ReadBlock) → offBy n c ≡ true → b ≡ blockOf (restingAt c) → record { block = b; table = t } ≡ nextBlock n bytes c t
-  next-rests b h e = ap (λ (x : ReadBlock). record { block = x; table = t }) e ∙ sym (next-off h)
-
-  pub next-called : (b : ReadBlock) → offBy n c ≡ false → (y : ReadReached) (u : List (List ℕ)) → record { reached = y; table = u } ≡ readAll n bytes (c .run .covered) (c .run) (c .opens) t
-      → b ≡ blockOf y → record { block = b; table = u } ≡ nextBlock n bytes c t
-  next-called b h y u k e = ap (λ (x : ReadBlock). record { block = x; table = u }) e ∙ ap nextOf k ∙ sym (next-on h)
+  -- and within them.
+  pub read-on : offBy n (c .opens .depth) stop ≡ false → readFrom n bytes stop c t ≡ readAll n bytes stop (c .run) (c .opens) t
+  unfolding readFrom
+  read-on h = ap by h
 
 -- a cursor that is not past the limits keeps to them
-pub within : (n : ℕ) (c : ReadCursor) → offBy n c ≡ false → (n ≤ 32) × ((c .opens .depth ≤ 32) × (c .run .covered ≤ 4294967296))
-within n c = go (ltb 32 n) refl (ltb 32 (c .opens .depth)) refl (ltb 4294967296 (c .run .covered)) refl
+pub within : (n d stop : ℕ) → offBy n d stop ≡ false → (n ≤ 32) × ((d ≤ 32) × (stop ≤ 4294967296))
+within n d stop = go (ltb 32 n) refl (ltb 32 d) refl (ltb 4294967296 stop) refl
   where
-    go : (p : Bool) → ltb 32 n ≡ p → (q : Bool) → ltb 32 (c .opens .depth) ≡ q → (r : Bool) → ltb 4294967296 (c .run .covered) ≡ r → (p || (q || r)) ≡ false → (n ≤ 32) × ((c .opens .depth ≤ 32) × (c .run .covered ≤ 4294967296))
+    go : (p : Bool) → ltb 32 n ≡ p → (q : Bool) → ltb 32 d ≡ q → (r : Bool) → ltb 4294967296 stop ≡ r → (p || (q || r)) ≡ false → (n ≤ 32) × ((d ≤ 32) × (stop ≤ 4294967296))
     go true e q f r g h = absurd (false≢true (sym h))
     go false e true f r g h = absurd (false≢true (sym h))
     go false e false f true g h = absurd (false≢true (sym h))
-    go false e false f false g h = (ltb-false 32 n e, (ltb-false 32 (c .opens .depth) f, ltb-false 4294967296 (c .run .covered) g))
+    go false e false f false g h = (ltb-false 32 n e, (ltb-false 32 d f, ltb-false 4294967296 stop g))
 
 -- and one that keeps to them is not past them
-pub not-off : (n : ℕ) (c : ReadCursor) → n ≤ 32 → c .opens .depth ≤ 32 → c .run .covered ≤ 4294967296 → offBy n c ≡ false
-not-off n c h k l = rw (le-ltb 32 n h, le-ltb 32 (c .opens .depth) k, le-ltb 4294967296 (c .run .covered) l) refl
+not-off : (n d stop : ℕ) → n ≤ 32 → d ≤ 32 → stop ≤ 4294967296 → offBy n d stop ≡ false
+not-off n d stop h k l = rw (le-ltb 32 n h, le-ltb 32 d k, le-ltb 4294967296 stop l) refl
+
+-- The loop reads on from a cursor that stands where reading does.
+pub read-within : (n : ℕ) (bytes : List ℕ) → n ≤ 32 → (stop : ℕ) → stop ≤ 4294967296 → (c : ReadCursor) (t : List (List ℕ)) → Stands n bytes (c .run) (c .opens) t
+    → readFrom n bytes stop c t ≡ readAll n bytes stop (c .run) (c .opens) t
+read-within n bytes few stop most c t h = read-on n bytes stop c t (not-off n (c .opens .depth) stop few (h .kept .deep) most)
+
+-- So for a call: y is what it reaches, u the table after it.
+pub read-called : (n : ℕ) (bytes : List ℕ) → n ≤ 32 → (stop : ℕ) → stop ≤ 4294967296 → (c : ReadCursor) (t : List (List ℕ)) → Stands n bytes (c .run) (c .opens) t → c .run .covered ≤ stop
+    → (y : ReadReached) (u : List (List ℕ)) → record { reached = y; table = u } ≡ readFrom n bytes stop c t → ReachedBy n bytes stop y u
+read-called n bytes few stop most c t h l y u e =
+    subst (Reaches n bytes stop) (sym (e ∙ read-within n bytes few stop most c t h)) (read-reaches n bytes few stop (c .run) (c .opens) t h l)
+
+-- So for a call from the start.
+pub read-begun : (n : ℕ) (bytes : List ℕ) → n ≤ 32 → (stop : ℕ) → stop ≤ 4294967296 → (c : Cursor) (t : List (List ℕ)) → 1024 ≤ length t → c ≡ startCursor
+    → (y : ReadReached) (u : List (List ℕ)) → record { reached = y; table = u } ≡ readFrom n bytes stop (cursorIn c (replicate 32 (replicate 4 0))) t → ReachedBy n bytes stop y u
+read-begun n bytes few stop most c t room ce y u e =
+    read-called n bytes few stop most firstCursor t (stands-first n bytes t room) (omega arith) y u
+    (e ∙ ap (λ (c : Cursor). readFrom n bytes stop (cursorIn c (replicate 32 (replicate 4 0))) t) ce)

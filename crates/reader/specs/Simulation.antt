@@ -24,15 +24,12 @@ use Rattle.reader.specs.declared.Open.{Open}
 use Rattle.reader.specs.declared.Ref.{Ref}
 use Rattle.reader.specs.declared.Pair.{Pair}
 use Rattle.reader.specs.declared.Run.{Run}
-use Rattle.reader.specs.declared.Row.{Row}
+use Rattle.work_table.specs.declared.Row.{Row}
+use Rattle.work_table.specs.TableLaws.{rowNode}
 use Rattle.reader.specs.declared.Taken.{Taken}
 use Rattle.reader.specs.Taking.{goesOf, failsOf, movedTo, passedTo, sizedTo, foundTo, isKeptOf, closedTwo, closedTo, isBadOf, nextStamp, storedRun, storedTo, takenOf}
 
 -- ---- The records as the theory's -------------------------------------------------------------
-
--- a row without the count of its parents
-abbrev pub rowNode : Row → Node
-rowNode x = newNode (x .level) (x .first) (x .second) (x .complement) (x .stamp)
 
 abbrev pub pairOf : Pair → Children
 pairOf p = children (refOf (p .first)) (p .turned) (refOf (p .second))

@@ -1,10 +1,6 @@
 -- One element more, as code takes it: the cases of `withElement` on the records that code holds. Assumes nothing.
 use mathlib.Core.Bool.{Bool, true, false, cond, _||_, not}
-use mathlib.Core.Path.{_≡_, refl, ap, _∙_}
-use Prim.Native.Nat.{ℕ, _+_, _-_, _*_, _%_, _<_, _≤_, _^_}
-use native.Mathlib.Nat.{mod-eq-of-lt, one-mul}
-use native.Mathlib.Omega.{arith}
-use lib.Pow.{pow-mono}
+use Prim.Native.Nat.{ℕ, _+_, _-_, _^_}
 use lib.Dec.{ltb, eqb}
 use Rattle.reading.specs.Reading.{isStart, isLead}
 use Rattle.reader.specs.Cite.{markOf, terminalRef, temporaryRef, entryRef}
@@ -16,7 +12,7 @@ use Rattle.reader.specs.declared.Mark.{Mark}
 use Rattle.reader.specs.declared.Open.{Open}
 use Rattle.reader.specs.declared.Ref.{Ref}
 use Rattle.reader.specs.declared.Run.{Run}
-use Rattle.reader.specs.declared.Row.{Row}
+use Rattle.work_table.specs.declared.Row.{Row}
 use Rattle.reader.specs.declared.Taken.{Taken}
 
 abbrev pub goesOf : Run → Taken
@@ -76,18 +72,3 @@ takenOf n r d o g Turn x at m = goesOf (turnedTo r at m)
 takenOf n r d o g Closing x at m = closedTo n r d o at m
 takenOf n r d o g (Storing k) x at m = storedTo r k x at m
 takenOf n r d o g End x at m = goesOf (movedTo r at m)
-
--- ---- Words -----------------------------------------------------------------------------------
-
-pow-most : (n d : ℕ) → n ≤ 32 → 2 ^ (n - d) ≤ 4294967296
-pow-most n d h = pow-mono {i = n - d} {j = 32} (omega arith)
-
-pub no-words : (n d : ℕ) → n < d → 1 ≡ 2 ^ (n - d)
-no-words n d h = let z : n - d ≡ 0 = omega arith in rw z refl
-
--- the words of a node fit in 64 bits
-pub few-words : (n d : ℕ) → n ≤ 32 → 1 * 2 ^ (n - d) % 18446744073709551616 ≡ 2 ^ (n - d)
-few-words n d h = ap (λ (x : ℕ). x % 18446744073709551616) (one-mul (2 ^ (n - d))) ∙ mod-eq-of-lt (omega (arith, pow-most n d h))
-
-pub words-most : (n d : ℕ) → n ≤ 32 → 1 * 2 ^ (n - d) % 18446744073709551616 ≤ 4294967296
-words-most n d h = omega (arith, few-words n d h, pow-most n d h)

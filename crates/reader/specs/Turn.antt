@@ -15,10 +15,10 @@ use Rattle.reader.specs.declared.Look.{Look}
 use Rattle.reader.specs.declared.Open.{Open}
 use Rattle.reader.specs.declared.Ref.{Ref}
 use Rattle.reader.specs.declared.Run.{Run}
-use Rattle.reader.specs.declared.Row.{Row}
+use Rattle.work_table.specs.declared.Row.{Row}
 use Rattle.reader.specs.declared.Taken.{Taken}
 use Rattle.reader.specs.Taking.{takenOf}
-use Rattle.reader.specs.Table.{getIn, storeAt}
+use Rattle.work_table.specs.Table.{getIn, storeAt}
 use Rattle.reader.specs.Advance.{barsBy, barredBy, rowTo, lentTo, takenAt, lentAt}
 
 module _ (t : List (List ℕ)) (r : Run) (b : ℕ) where

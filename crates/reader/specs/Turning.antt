@@ -34,7 +34,7 @@ use Rattle.reader.specs.declared.Sight.the-variants as S
 use Rattle.reader.specs.declared.Taken.{Taken}
 use Rattle.reader.specs.declared.Turn.{Turn}
 use Rattle.reader.specs.Taking.{takenOf}
-use Rattle.reader.specs.Table.{getIn}
+use Rattle.work_table.specs.Table.{getIn}
 use Rattle.reader.specs.Advance.{barredBy, lentTo, takenAt, stayed, look-ahead, taken-at, TurnMade, past, barred, out, fault, took}
 use Rattle.reader.specs.Turn.{barred-other}
 

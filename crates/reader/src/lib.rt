@@ -1,34 +1,24 @@
 ghost use mathlib.Core.Path.{_≡_};
-ghost use mathlib.Core.Bool.{true, false, cond, _&&_, _||_};
-ghost use mathlib.Core.List.{List, []};
-ghost use lib.Dec.{eqb, ltb};
-ghost use Prim.Native.Nat.{ℕ, min, _+_, _*_, _-_, _<_, _≤_, _/_, _^_};
-ghost use lib.ListN.{length, getD, getElem?, replicate};
+ghost use mathlib.Core.Bool.{cond};
+ghost use Prim.Native.Nat.{_+_, _*_, _-_, _<_, _≤_, _^_};
+ghost use lib.ListN.{length, getD, getElem?};
 ghost use Rattle.reading.specs.Bytes.{isDigit};
 ghost use Rattle.reading.specs.Element.{numberAt, begin, step};
-ghost use Rattle.reading.specs.Reading.{isStart, isLead, isTwo, reading};
+ghost use Rattle.reading.specs.Reading.{isStart, isLead, isTwo};
+ghost use Rattle.reading.specs.StepLaws.{digitPlace};
 ghost use Rattle.reader.specs.Glance.{glance, endSeen, innerSeen, colonSeen, spaceSeen, nodeSeen, numberSeen, storingSeen, sizeSeen, leadSeen, endedSeen, wrongAt};
 ghost use Rattle.reader.specs.Capped.{cap, capScan, capGlance, capStep};
-ghost use Rattle.reader.specs.Cite.{kindTable, elementIn, isFault, isOut, outcomeIn, openList, scanOf, markOf, causeOf, topsOf, seenOf, plain, numbered, gaveBy, failedBy, waitedBy, stageOf, isAfter, insideOpen, begunOpen, sideOf, spotsOf, deepOf, lookOf, lookAt, placeOf, steppedOf};
+ghost use Rattle.reader.specs.Cite.{kindTable, elementIn, isFault, isOut, outcomeIn, scanOf, markOf, topsOf, seenOf, plain, numbered, gaveBy, failedBy, waitedBy, stageOf, isAfter, insideOpen, begunOpen, sideOf, spotsOf, deepOf, lookOf, lookAt, placeOf, steppedOf};
 ghost use Rattle.reader.specs.Taking.{goesOf, failsOf, movedTo, passedTo, turnedTo, sizedTo, foundTo, closedTwo, closedTo, isKeptOf, isBadOf, nextStamp, storedTo, takenOf};
-ghost use Rattle.reader.specs.Table.{noRow, noRecord, getIn, putAt, countedTo, countAt, storeAt, clearTo};
-ghost use Rattle.reading.specs.StepLaws.{digitPlace};
 ghost use Rattle.reader.specs.Advance.{barredBy, rowTo, lentTo, lowOf, nodesTo, stayed, wentBy, TurnMade};
-ghost use Rattle.lists.specs.Lists.{differ};
-ghost use Rattle.reading.specs.Deciding.{decided, complemented, options, trace, ended};
-ghost use Rattle.reading.specs.Causes.{refusal};
-ghost use Rattle.reading.specs.Calls.{complete, cut, extent, verdictOf, bytesFrom, check, decide, fill};
-ghost use Rattle.reading.specs.Covered.{parity};
-ghost use Rattle.reading.specs.TableWalk.{rowWalk};
-ghost use Rattle.reader.specs.TableLaws.{tableOf};
-ghost use Rattle.reader.specs.Answers.{refusalOf, checkingOf, verdictsOf, decidingOf, fillingOf};
-ghost use Rattle.reader.specs.Truths.{firstEdge, secondEdge, withWordIn, putNodeIn};
-ghost use Rattle.reader.specs.Lent.{nodesIn, opensIn, reachedIn, cursorIn, blockIn};
+ghost use Rattle.reader.specs.Lent.{nodesIn, opensIn, reachedIn, cursorIn};
 ghost use Rattle.reader.specs.Loop.{firstRun};
-ghost use Rattle.reader.specs.ReadOn.{readAll, startCursor, offBy, blockOf, nextBlock};
-ghost use Rattle.reader.specs.CallsMade.{checkedBy, decidedBy, edgeAt, wordAt, AsLong};
-ghost use Rattle.reader.specs.Load.{loadIn, refusedLoad, wholeBy, load};
-ghost use mathlib.Core.Option.{none};
+ghost use Rattle.reader.specs.ReadOn.{readAll, startCursor, offBy, readFrom};
+use work_table::Row;
+use work_table::bit;
+use work_table::clear;
+use work_table::get;
+use work_table::store;
 
 // The kind of each byte: 0 digit, 1 bracket, 2 mark, 3 space, 4 line end, 5 point, 6 foreign.
 const KINDS: [u8; 256] = [
@@ -1112,17 +1102,6 @@ pub struct Run {
     pub complement: bool,
 }
 
-// A record of the table: the level (0: none), the children, the edge to the second complemented, how often the number was given out, and how
-// many records have it as a child.
-pub struct Row {
-    pub level: u32,
-    pub first: u32,
-    pub second: u32,
-    pub complement: bool,
-    pub stamp: u32,
-    pub parents: u32,
-}
-
 // An element taken: what reading has come to; the fault, if there is one; whether its number is the size, or is stored.
 struct Taken {
     run: Run,
@@ -1411,127 +1390,6 @@ fn take_element(
     }
 }
 
-// ---- The table
-
-fn no_row() -> Row
-    ensures { λ x. ⌜ x ≡ noRow ⌝ }
-{
-    Row {
-        level: 0,
-        first: 0,
-        second: 0,
-        complement: false,
-        stamp: 0,
-        parents: 0,
-    }
-}
-
-// THE RECORD of the number k in a table of z numbers.
-pub fn get(t: &[[u32; 6]], z: u32, k: u32) -> Row
-    ensures { λ x. ⌜ x ≡ getIn (now (t .entry)) z k ⌝ }
-{
-    if k == 0 {
-        return no_row();
-    }
-    if z < k {
-        return no_row();
-    }
-    let i = (k - 1) as usize;
-    if t.len() <= i {
-        return no_row();
-    }
-    let a = t[i];
-    Row {
-        level: a[0],
-        first: a[1],
-        second: a[2],
-        complement: a[3] != 0,
-        stamp: a[4],
-        parents: a[5],
-    }
-}
-
-fn bit(c: bool) -> u32
-    ensures { λ x. ⌜ x ≡ cond c 1 0 ⌝ }
-{
-    if c { 1 } else { 0 }
-}
-
-fn put(t: &mut [[u32; 6]], k: u32, x: Row)
-    ensures { λ _. ⌜ now (t .exit) ≡ putAt (now (t .entry)) k x ⌝ }
-{
-    if k == 0 {
-        return;
-    }
-    let i = (k - 1) as usize;
-    if t.len() <= i {
-        return;
-    }
-    let c = x.complement;
-    let a = [x.level, x.first, x.second, bit(c), x.stamp, x.parents];
-    t[i] = a;
-}
-
-// The number k, one of z, gets one parent more, or one less.
-fn count(t: &mut [[u32; 6]], z: u32, k: u32, more: bool)
-    ensures { λ _. ⌜ now (t .exit) ≡ countAt (now (t .entry)) z k more ⌝ }
-{
-    if k == 0 {
-        return;
-    }
-    if z < k {
-        return;
-    }
-    let i = (k - 1) as usize;
-    if t.len() <= i {
-        return;
-    }
-    let a = t[i];
-    t[i] = [a[0], a[1], a[2], a[3], a[4], counted(a[5], more)];
-}
-
-fn counted(p: u32, more: bool) -> u32
-    ensures { λ x. ⌜ x ≡ countedTo p more ⌝ }
-{
-    if more {
-        if p < 4294967295 {
-            return p + 1;
-        }
-        return p;
-    }
-    if p == 0 { 0 } else { p - 1 }
-}
-
-// The number k is given to the record x.
-fn store(t: &mut [[u32; 6]], z: u32, k: u32, x: Row)
-    ensures { λ _. ⌜ now (t .exit) ≡ storeAt (now (t .entry)) z k x ⌝ }
-{
-    let old = get(t, z, k);
-    put(t, k, x);
-    count(t, z, old.first, false);
-    count(t, z, old.second, false);
-    count(t, z, x.first, true);
-    count(t, z, x.second, true);
-}
-
-// The first m records become zero.
-fn clear(t: &mut [[u32; 6]], m: usize)
-    ensures { λ _. ⌜ now (t .exit) ≡ clearTo (now (t .entry)) m ⌝ }
-{
-    let e = least(m, t.len());
-    let mut i = 0;
-    while i < e {
-        t[i] = [0; 6];
-        i += 1;
-    }
-}
-
-fn least(a: usize, b: usize) -> usize
-    ensures { λ r. ⌜ r ≡ min a b ⌝ }
-{
-    if a < b { a } else { b }
-}
-
 // ---- One turn
 
 // A `:` at the place is barred by a child, whose number was given out again. b: the byte there
@@ -1685,15 +1543,15 @@ fn take_turn(
 
 // What the loop has reached: what reading has come to, and how many nodes are open; the covered count and the open nodes before the last element;
 // whether it halted, and the fault if there is one.
-struct Reached {
-    run: Run,
-    depth: usize,
-    from: u64,
-    deep: usize,
-    halted: bool,
-    faulty: bool,
-    cause: Cause,
-    byte: usize,
+pub struct Reached {
+    pub run: Run,
+    pub depth: usize,
+    pub from: u64,
+    pub deep: usize,
+    pub halted: bool,
+    pub faulty: bool,
+    pub cause: Cause,
+    pub byte: usize,
 }
 
 fn first_run() -> Run
@@ -1811,419 +1669,10 @@ fn run_on(
     }
 }
 
-// ---- Answers
-
-// Why a call is turned down: the cause, the stream (0: none) and the byte.
-pub struct Refusal {
-    pub cause: Cause,
-    pub stream: u32,
-    pub byte: usize,
-}
-
-// What checking answers: the declared size (0 while unfinished), the covered count, and whether the stream has its point.
-pub struct Checked {
-    pub size: u32,
-    pub covered: u64,
-    pub complete: bool,
-}
-
-pub enum Checking {
-    Refused(Refusal),
-    Done(Checked),
-}
-
-pub enum Verdict {
-    No,
-    Yes,
-    NotYet,
-}
-
-pub enum Deciding {
-    Refused(Refusal),
-    Done(Verdict),
-}
-
-// What filling answers: the covered count.
-pub enum Filling {
-    Refused(Refusal),
-    Done(u64),
-}
-
-// ---- Deciding by the table
-
-// The decision of a word: no, turned about if b.
-fn verdict_of(b: bool) -> Verdict
-    ensures { λ r. ⌜ verdictsOf r ≡ verdictOf (decided b) ⌝ }
-{
-    if b { Verdict::Yes } else { Verdict::No }
-}
-
-// a, turned about if t
-fn turned_about(t: bool, a: bool) -> bool
-    ensures { λ r. ⌜ r ≡ differ t a ⌝ }
-{
-    if t { !a } else { a }
-}
-
-// The edges to second children that are complemented, of d open nodes: an odd number?
-fn parity_of(o: &[[u32; 4]; 32], d: usize) -> bool
-    ensures { λ r. ⌜ r ≡ parity (openList (opensIn (now (o .entry)) d)) ⌝ }
-{
-    let e = deep(d);
-    let mut i = 0;
-    let mut p = false;
-    while i < e {
-        let a = o[i];
-        if a[2] != 0 {
-            p = turned_about(a[3] != 0, p);
-        }
-        i += 1;
-    }
-    p
-}
-
-// What a node stands for: a number (0: the terminal), turned about or not.
-struct Edge {
-    number: u32,
-    turned: bool,
-}
-
-// The number of an edge, of level l, stands for a node of level i inside brackets, or is the terminal.
-fn skips(e: Edge, i: u32, l: u32) -> bool
-    ensures { λ r. ⌜ r ≡ (eqb (e .number) 0 || ltb i l) ⌝ }
-{
-    if e.number == 0 {
-        return true;
-    }
-    i < l
-}
-
-// The first child of the node of level i that e stands for; x: its record
-fn first_edge(x: Row, i: u32, e: Edge) -> Edge
-    ensures { λ r. ⌜ r ≡ firstEdge x i e ⌝ }
-{
-    if skips(e, i, x.level) {
-        return e;
-    }
-    Edge {
-        number: x.first,
-        turned: e.turned,
-    }
-}
-
-// Its second child.
-fn second_edge(x: Row, i: u32, e: Edge) -> Edge
-    ensures { λ r. ⌜ r ≡ secondEdge x i e ⌝ }
-{
-    if skips(e, i, x.level) {
-        return e;
-    }
-    Edge {
-        number: x.second,
-        turned: turned_about(x.complement, e.turned),
-    }
-}
-
-// The word w of the node of level i, m options below it, that e stands for. z: how many numbers there are
-fn walk_down(t: &[[u32; 6]], z: u32, m: u32, i: u32, e: Edge, w: u64) -> Verdict
-    requires { ⌜ (m ≤ 32) × (i + m ≤ 64) ⌝ }
-    ensures { λ r. ⌜ verdictsOf r ≡ verdictOf (complemented (e .turned) (rowWalk (tableOf (now (t .entry)) z) i (e .number) (options m w))) ⌝ }
-{
-    if e.number == 0 {
-        return verdict_of(e.turned);
-    }
-    if m == 0 {
-        return Verdict::NotYet;
-    }
-    let x = get(t, z, e.number);
-    let half = 1u64 << (m - 1);
-    if w < half {
-        return walk_down(t, z, m - 1, i + 1, first_edge(x, i, e), w);
-    }
-    walk_down(t, z, m - 1, i + 1, second_edge(x, i, e), w - half)
-}
-
-// ---- Truth tables
-
-// Every byte becomes zero.
-fn wipe(v: &mut [u8])
-    ensures { λ _. ⌜ now (v .exit) ≡ replicate (length (now (v .entry))) 0 ⌝ }
-{
-    let mut i = 0;
-    while i < v.len() {
-        v[i] = 0;
-        i += 1;
-    }
-}
-
-// The word w becomes 1; it was 0.
-fn put_word(v: &mut [u8], w: usize)
-    ensures { λ _. ⌜ now (v .exit) ≡ withWordIn (now (v .entry)) w ⌝ }
-{
-    let i = w / 8;
-    if v.len() <= i {
-        return;
-    }
-    let b = v[i];
-    v[i] = std::num::wrapping_add_u8(b, 1u8 << (w % 8));
-}
-
-// One word: yes for the terminal turned about.
-fn put_edge(v: &mut [u8], e: Edge, w: usize)
-    ensures { λ _. ⌜ now (v .exit) ≡ cond (eqb (e .number) 0 && e .turned) (withWordIn (now (v .entry)) w) (now (v .entry)) ⌝ }
-{
-    if e.number != 0 {
-        return;
-    }
-    let t = e.turned;
-    if t {
-        put_word(v, w);
-    }
-}
-
-// The words from w on of the node of level i, m options below it, that e stands for. z: how many numbers there are
-fn fill_node(t: &[[u32; 6]], z: u32, v: &mut [u8], m: u32, i: u32, e: Edge, w: usize)
-    requires { ⌜ (m ≤ 16) × ((i + m ≤ 64) × (w + 2 ^ m ≤ 65536)) ⌝ }
-    ensures { λ _. ⌜ now (v .exit) ≡ putNodeIn m (tableOf (now (t .entry)) z) i (e .number) (e .turned) w (now (v .entry)) ⌝ }
-{
-    if m == 0 {
-        put_edge(v, e, w);
-        return;
-    }
-    let x = get(t, z, e.number);
-    let half = 1usize << (m - 1);
-    fill_node(t, z, v, m - 1, i + 1, first_edge(x, i, e), w);
-    fill_node(t, z, v, m - 1, i + 1, second_edge(x, i, e), w + half);
-}
-
-// ---- The calls
-
-// Tested before any stream is read.
-fn early(c: Cause) -> Refusal
-    ensures { λ r. ⌜ refusalOf r ≡ refusal (causeOf c) 0 0 ⌝ }
-{
-    Refusal {
-        cause: c,
-        stream: 0,
-        byte: 0,
-    }
-}
-
-// The fault that a loop has met, in stream 1.
-fn late(r: Reached) -> Refusal
-    ensures { λ x. ⌜ refusalOf x ≡ refusal (causeOf (r .cause)) 1 (r .byte) ⌝ }
-{
-    let c = r.cause;
-    Refusal {
-        cause: c,
-        stream: 1,
-        byte: r.byte,
-    }
-}
-
-fn is_over(m: Mark) -> bool
-    ensures { λ r. ⌜ cond r complete cut ≡ extent (markOf m) ⌝ }
-{
-    match m {
-        Mark::Start => false,
-        Mark::Lead => false,
-        Mark::Begins => false,
-        Mark::AfterDigit => false,
-        Mark::AfterTwo => false,
-        Mark::AfterOne => false,
-        Mark::Over => true,
-    }
-}
-
-fn checked_at(r: Reached) -> Checking
-    ensures { λ x. ⌜ checkingOf x ≡ checkedBy (reachedIn r []) ⌝ }
-{
-    let f = r.faulty;
-    if f {
-        return Checking::Refused(late(r));
-    }
-    let q = r.run;
-    let m = q.mark;
-    Checking::Done(Checked {
-        size: q.size,
-        covered: q.covered,
-        complete: is_over(m),
-    })
-}
-
-// CHECKING a stream: causes 1 and 4, then those of the stream.
-pub fn check(n: u32, s: &[u8], t: &mut [[u32; 6]]) -> Checking
-    ensures { λ r. ⌜ record { answer = checkingOf r; table = now (t .exit) } ≡ check noRecord n (now (s .entry)) (now (t .entry)) ⌝ }
-{
-    if 32 < n {
-        return Checking::Refused(early(Cause::OptionCount));
-    }
-    if t.len() < 1024 {
-        return Checking::Refused(early(Cause::WorkTable));
-    }
-    let k = kinds();
-    let mut o = [[0u32; 4]; 32];
-    let r = run_on(&k, n, s, t, &mut o, first_run(), 0, 4294967296);
-    let z = t.len();
-    clear(t, z);
-    checked_at(r)
-}
-
-// What the words passed last stand for.
-fn edge_of(r: Reached, o: &[[u32; 4]; 32]) -> Edge
-    ensures { λ x. ⌜ x ≡ edgeAt (reachedIn r (now (o .entry))) ⌝ }
-{
-    let p = parity_of(o, r.depth);
-    let q = r.run;
-    let l = q.last;
-    Edge {
-        number: l.number,
-        turned: turned_about(p, q.complement),
-    }
-}
-
-// The options below d open nodes.
-fn below(n: u32, d: usize) -> u32
-    requires { ⌜ d ≤ 32 ⌝ }
-    ensures { λ r. ⌜ r ≡ n - d ⌝ }
-{
-    let e = d as u32;
-    if n < e { 0 } else { n - e }
-}
-
-fn decided_at(r: Reached, v: Verdict) -> Deciding
-    ensures { λ x. ⌜ decidingOf x ≡ decidedBy (reachedIn r []) (verdictsOf v) ⌝ }
-{
-    let f = r.faulty;
-    if f {
-        return Deciding::Refused(late(r));
-    }
-    Deciding::Done(v)
-}
-
-// The word w, which the loop's last element passed.
-fn word_at(t: &[[u32; 6]], o: &[[u32; 4]; 32], n: u32, r: Reached, w: u64) -> Verdict
-    requires { ⌜ (n ≤ 32) × ((r .deep ≤ 32) × (r .from ≤ w)) ⌝ }
-    ensures { λ x. ⌜ verdictsOf x ≡ wordAt (now (t .entry)) n (reachedIn r (now (o .entry))) w ⌝ }
-{
-    let q = r.run;
-    let d = r.deep;
-    let i = d as u32 + 1;
-    walk_down(t, q.size, below(n, d), i, edge_of(r, o), w - r.from)
-}
-
-// DECIDING a word: causes 1, 4 and 5, then those of the stream.
-pub fn decide(n: u32, s: &[u8], w: u64, t: &mut [[u32; 6]]) -> Deciding
-    ensures { λ r. ⌜ record { answer = decidingOf r; table = now (t .exit) } ≡ decide noRecord n (now (s .entry)) w (now (t .entry)) ⌝ }
-{
-    if 32 < n {
-        return Deciding::Refused(early(Cause::OptionCount));
-    }
-    if t.len() < 1024 {
-        return Deciding::Refused(early(Cause::WorkTable));
-    }
-    if 1u64 << n <= w {
-        return Deciding::Refused(early(Cause::WordRange));
-    }
-    let k = kinds();
-    let mut o = [[0u32; 4]; 32];
-    let r = run_on(&k, n, s, t, &mut o, first_run(), 0, w);
-    let h = r.halted;
-    if h {
-        let z = t.len();
-        clear(t, z);
-        return decided_at(r, Verdict::NotYet);
-    }
-    let v = word_at(t, &o, n, r, w);
-    let q = r.run;
-    let e = run_on(&k, n, s, t, &mut o, q, r.depth, 4294967296);
-    let z = t.len();
-    clear(t, z);
-    decided_at(e, v)
-}
-
-// Node by node, the words that the stream covers.
-fn fill_words(k: &[u8; 256], n: u32, s: &[u8], v: &mut [u8], t: &mut [[u32; 6]])
-    requires { ⌜ (now k ≡ kindTable) × ((3 ≤ n) × ((n ≤ 16) × ((1024 ≤ length (now t)) × ((reading n (now s) .fault ≡ none) × (now v ≡ replicate (2 ^ n / 8) 0))))) ⌝ }
-    ensures { λ _. ⌜ (now (v .exit) ≡ bytesFrom (2 ^ n / 8) n (trace n (now (s .entry))) 0) × AsLong (now (t .exit)) (now (t .entry)) ⌝ }
-{
-    let mut o = [[0u32; 4]; 32];
-    let mut run = first_run();
-    let mut depth = 0;
-    loop {
-        let c = run.covered;
-        let x = run_on(k, n, s, t, &mut o, run, depth, c);
-        let h = x.halted;
-        if h {
-            return;
-        }
-        let q = x.run;
-        let d = x.deep;
-        let i = d as u32 + 1;
-        fill_node(
-            t,
-            q.size,
-            v,
-            below(n, d),
-            i,
-            edge_of(x, &o),
-            x.from as usize,
-        );
-        run = q;
-        depth = x.depth;
-    }
-}
-
-// FILLING a truth table: causes 1, 4 and 6, then those of the stream, which is read once more to fill.
-pub fn fill(n: u32, s: &[u8], v: &mut [u8], t: &mut [[u32; 6]]) -> Filling
-    ensures { λ r. ⌜ record { answer = fillingOf r; table = now (t .exit); truths = now (v .exit) } ≡ fill noRecord n (now (s .entry)) (now (v .entry)) (now (t .entry)) ⌝ }
-{
-    if n < 3 {
-        return Filling::Refused(early(Cause::OptionCount));
-    }
-    if 16 < n {
-        return Filling::Refused(early(Cause::OptionCount));
-    }
-    if t.len() < 1024 {
-        return Filling::Refused(early(Cause::WorkTable));
-    }
-    if v.len() != (1usize << n) / 8 {
-        return Filling::Refused(early(Cause::TruthTable));
-    }
-    let k = kinds();
-    let mut o = [[0u32; 4]; 32];
-    let r = run_on(&k, n, s, t, &mut o, first_run(), 0, 4294967296);
-    let f = r.faulty;
-    if f {
-        let z = t.len();
-        clear(t, z);
-        return Filling::Refused(late(r));
-    }
-    wipe(v);
-    fill_words(&k, n, s, v, t);
-    let z = t.len();
-    clear(t, z);
-    let q = r.run;
-    Filling::Done(q.covered)
-}
-
-// ---- Block by block
-
 // Where the reading of a stream stands: what it has come to, and how many nodes are open, which are lent beside it.
 pub struct Cursor {
     pub run: Run,
     pub depth: usize,
-}
-
-// The words that one element passes: the first of them, how many nodes are open around them, and what they stand for: a number (0: the terminal),
-// turned about or not. The cursor stands behind them. Halted: reading has come to its end, and no words were passed.
-pub struct Block {
-    pub cursor: Cursor,
-    pub from: u64,
-    pub deep: usize,
-    pub number: u32,
-    pub turned: bool,
-    pub halted: bool,
 }
 
 // Where reading begins, whatever the open nodes are.
@@ -2237,46 +1686,32 @@ pub fn first_cursor() -> Cursor
 }
 
 // More options, open nodes or words than any reading has.
-fn is_off(n: u32, c: Cursor) -> bool
-    ensures { λ r. ⌜ r ≡ offBy n (cursorIn c []) ⌝ }
+fn is_off(n: u32, d: usize, stop: u64) -> bool
+    ensures { λ r. ⌜ r ≡ offBy n d stop ⌝ }
 {
     if 32 < n {
         return true;
     }
-    if 32 < c.depth {
+    if 32 < d {
         return true;
     }
-    let q = c.run;
-    4294967296 < q.covered
+    4294967296 < stop
 }
 
-// The block that the loop's last element passed.
-fn block_of(r: Reached, o: &[[u32; 4]; 32]) -> Block
-    ensures { λ b. ⌜ blockIn b (now (o .entry)) ≡ blockOf (reachedIn r (now (o .entry))) ⌝ }
-{
-    let e = edge_of(r, o);
-    let q = r.run;
-    let c = Cursor {
-        run: q,
-        depth: r.depth,
-    };
-    Block {
-        cursor: c,
-        from: r.from,
-        deep: r.deep,
-        number: e.number,
-        turned: e.turned,
-        halted: r.halted,
-    }
-}
-
-// THE NEXT BLOCK: reads on until more words are covered. o: the open nodes, as reading left them
-pub fn next_block(n: u32, s: &[u8], t: &mut [[u32; 6]], o: &mut [[u32; 4]; 32], c: Cursor) -> Block
-    ensures { λ b. ⌜ record { block = blockIn b (now (o .exit)); table = now (t .exit) } ≡ nextBlock n (now (s .entry)) (cursorIn c (now (o .entry))) (now (t .entry)) ⌝ }
+// READING ON while no more than `stop` words are covered. o: the open nodes, as reading left them
+pub fn read_on(
+    n: u32,
+    s: &[u8],
+    t: &mut [[u32; 6]],
+    o: &mut [[u32; 4]; 32],
+    c: Cursor,
+    stop: u64,
+) -> Reached
+    ensures { λ y. ⌜ record { reached = reachedIn y (now (o .exit)); table = now (t .exit) } ≡ readFrom n (now (s .entry)) stop (cursorIn c (now (o .entry))) (now (t .entry)) ⌝ }
 {
     let q = c.run;
-    if is_off(n, c) {
-        let x = Reached {
+    if is_off(n, c.depth, stop) {
+        return Reached {
             run: q,
             depth: c.depth,
             from: 0,
@@ -2286,96 +1721,7 @@ pub fn next_block(n: u32, s: &[u8], t: &mut [[u32; 6]], o: &mut [[u32; 4]; 32], 
             cause: Cause::WrongByte,
             byte: 0,
         };
-        return block_of(x, o);
     }
     let k = kinds();
-    let r = run_on(&k, n, s, t, o, q, c.depth, q.covered);
-    block_of(r, o)
-}
-
-// ---- A whole stream
-
-// A stream that was read to its end: what checking answers, and the block of what ended last. Whole: no fault was met, and that is the outermost
-// node, which the table has.
-pub struct Loaded {
-    pub checking: Checking,
-    pub block: Block,
-    pub whole: bool,
-}
-
-// A node has just ended.
-fn has_ended(m: Mark) -> bool
-    ensures { λ r. ⌜ r ≡ ended (markOf m) ⌝ }
-{
-    match m {
-        Mark::Start => false,
-        Mark::Lead => false,
-        Mark::Begins => false,
-        Mark::AfterDigit => true,
-        Mark::AfterTwo => true,
-        Mark::AfterOne => true,
-        Mark::Over => true,
-    }
-}
-
-// What ended last is the outermost node, and is the terminal or a number that was not given out again.
-fn is_whole(t: &[[u32; 6]], r: Reached) -> bool
-    ensures { λ x. ⌜ x ≡ wholeBy (reachedIn r []) (now (t .entry)) ⌝ }
-{
-    let f = r.faulty;
-    if f {
-        return false;
-    }
-    if r.depth != 0 {
-        return false;
-    }
-    let q = r.run;
-    let m = q.mark;
-    if !has_ended(m) {
-        return false;
-    }
-    let l = q.last;
-    let x = get(t, q.size, l.number);
-    x.stamp == l.stamp
-}
-
-// Turned down before anything is read.
-fn not_loaded(c: Cause) -> Loaded
-    ensures { λ r. ⌜ ((t : List (List ℕ)) → loadIn r t ≡ refusedLoad (causeOf c) t) ⌝ }
-{
-    let b = Block {
-        cursor: first_cursor(),
-        from: 0,
-        deep: 0,
-        number: 0,
-        turned: false,
-        halted: true,
-    };
-    Loaded {
-        checking: Checking::Refused(early(c)),
-        block: b,
-        whole: false,
-    }
-}
-
-// READING A WHOLE STREAM into its table, which is left as it is then: the answer of `check`, and the outermost node if the table has it.
-pub fn load(n: u32, s: &[u8], t: &mut [[u32; 6]]) -> Loaded
-    ensures { λ r. ⌜ loadIn r (now (t .exit)) ≡ load n (now (s .entry)) (now (t .entry)) ⌝ }
-{
-    if 32 < n {
-        return not_loaded(Cause::OptionCount);
-    }
-    if t.len() < 1024 {
-        return not_loaded(Cause::WorkTable);
-    }
-    let k = kinds();
-    let mut o = [[0u32; 4]; 32];
-    let r = run_on(&k, n, s, t, &mut o, first_run(), 0, 4294967296);
-    let w = is_whole(t, r);
-    let b = block_of(r, &o);
-    Loaded {
-        checking: checked_at(r),
-        block: b,
-        whole: w,
-    }
+    run_on(&k, n, s, t, o, q, c.depth, stop)
 }

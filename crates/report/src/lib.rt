@@ -5,7 +5,7 @@ ghost use lib.ListN.{length};
 ghost use Prim.Native.Nat.{min, _+_, _^_, _≤_};
 ghost use Rattle.reading.specs.Limits.{optionLimit};
 ghost use Rattle.reading.specs.Bytes.{text};
-ghost use Rattle.reader.specs.Answers.{refusalOf};
+ghost use Rattle.checker.specs.Answers.{refusalOf};
 ghost use Rattle.writing.specs.Texts.{decimal};
 ghost use Rattle.writing.specs.Join.{endingName, badJob};
 ghost use Rattle.engine.specs.Pending.{pushAll};
@@ -15,7 +15,7 @@ ghost use Rattle.report.specs.Lines.{lineOf, emptyLine, Holds};
 use meeting::Ending;
 use meeting::Writing;
 use meeting::Written;
-use reader::Refusal;
+use checker::Refusal;
 
 const OPTION_LIMIT: u32 = 32;
 

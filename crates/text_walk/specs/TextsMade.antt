@@ -9,7 +9,7 @@ use lib.Dec.{eqb, ltb}
 use borrow.Author.Tests.{le-leb, lt-leb, lt-ltb, le-ltb}
 use Rattle.lists.specs.Lists.{differ}
 use Rattle.reading.specs.Bytes.{opener}
-use Rattle.reader.specs.TruthLaws.{both-halves}
+use Rattle.lists.specs.Powers.{both-halves}
 use Rattle.writing.specs.Texts.{tildeIf}
 use Rattle.writing.specs.Run.{head, operate}
 use Rattle.engine.specs.Pending.{Waiting, pushAll, waitIn}

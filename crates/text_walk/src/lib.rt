@@ -33,7 +33,7 @@ use pending_text::push_number;
 use pending_text::push_turn;
 use pending_text::send;
 use pending_text::wait;
-use reader::Block;
+use blocks::Block;
 
 // ---- The walk
 

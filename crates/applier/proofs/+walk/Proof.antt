@@ -15,7 +15,7 @@ use Rattle.operation_cache.proofs.key_of.Reads as key-of
 use Rattle.operation_cache.proofs.note.Reads as note
 use Rattle.edges.proofs.operate.Reads as operates
 use Rattle.operation_cache.proofs.recall.Reads as recall
-use Rattle.reader.proofs.get.Reads as get
+use Rattle.work_table.proofs.get.Reads as get
 use Rattle.edges.proofs.second_edge.Reads as second-edge
 use Rattle.operation_cache.proofs.slot.Reads as slot
 use Rattle.meeting.proofs.constant.Reads as constant

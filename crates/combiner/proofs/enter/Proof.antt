@@ -1,7 +1,7 @@
 -- In its text, at the terminal, or at its outermost node. Assumes nothing.
 use borrow.Author.Tests.{not-true, not-false}
-use Rattle.reader.specs.Lent.{blockIn}
-use Rattle.reader.specs.Load.{loadIn}
+use Rattle.blocks.specs.Blocks.{blockIn}
+use Rattle.blocks.specs.Load.{loadIn}
 use Rattle.feeds.specs.Cite.{begunFrom}
 use Rattle.combiner.specs.CallMade.{enter-text, enter-blind, enter-root}
 use borrow.Author.Needs.{needs}

@@ -1,6 +1,6 @@
 -- A block further inside the text, else none. Assumes nothing.
 use mathlib.Core.Path.{refl}
-use Rattle.reader.specs.Lent.{blockIn}
+use Rattle.blocks.specs.Blocks.{blockIn}
 use Rattle.feeds.specs.FeedMade.{reads-next, reads-none}
 use borrow.Author.Needs.{needs}
 use Rattle.feeds.proofs.read_on.Statement.{statement}

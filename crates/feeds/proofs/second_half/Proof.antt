@@ -1,5 +1,6 @@
 -- The next block, if one is to be read, and the input there. Assumes nothing.
-use Rattle.reader.specs.Lent.{blockIn, opensIn}
+use Rattle.blocks.specs.Blocks.{blockIn}
+use Rattle.reader.specs.Lent.{opensIn}
 use Rattle.feeds.specs.FeedMade.{second-arrived}
 use borrow.Author.Needs.{needs}
 use Rattle.feeds.proofs.second_half.Statement.{statement}

@@ -10,15 +10,12 @@ returns : tie.Need-returns
 returns c = rw (lt-ltb _ _ (c .if1 .taken)) refl
 
 returns-2 : tie.Need-returns-2
-returns-2 c =
-    let a = c .before .before .before .args in
-    rw (le-ltb 32 (a .n) (omega (arith, c .before .before .if1 .left)), lt-ltb _ _ (c .if2 .taken)) refl
+returns-2 c = rw (le-ltb 32 (c .before .before .args .n) (omega (arith, c .before .if1 .left)), lt-ltb _ _ (c .if2 .taken)) refl
 
 returns-3 : tie.Need-returns-3
 returns-3 c =
-    let a = c .before .before .before .before .before .args in
-    let if1 = c .before .before .before .before .if1 in
-    rw (le-ltb 32 (a .n) (omega (arith, if1 .left)), le-ltb 32 (a .c .depth) (omega (arith, c .before .before .if2 .left))) refl
+    let a = c .before .before .args in
+    rw (le-ltb 32 (a .n) (omega (arith, c .before .if1 .left)), le-ltb 32 (a .d) (omega (arith, c .if2 .left))) refl
 
 pub is-off-spec : {M : Type 1} → statement M
 is-off-spec =

@@ -1,7 +1,7 @@
 -- Below d open nodes there are n - d options, at most 32.
 -- Assumes nothing.
 use native.Mathlib.Omega.{arith}
-use Rattle.reader.specs.Taking.{few-words, no-words, words-most}
+use Rattle.lists.specs.Powers.{few-words, no-words, words-most}
 use borrow.Author.Needs.{needs}
 use Rattle.reader.proofs.words.Statement.{statement}
 use Rattle.reader.proofs.words.Tie as tie

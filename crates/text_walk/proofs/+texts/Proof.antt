@@ -28,7 +28,7 @@ use native.Mathlib.Omega.{arith}
 use Prim.Native.Nat.{ℕ, _*_, _-_, _%_, _<_, _^_}
 use Rattle.engine.specs.PendingMade.{shift-words}
 use Rattle.engine.specs.TextMade.{inside-option}
-use Rattle.reader.specs.TruthLaws.{both-halves}
+use Rattle.lists.specs.Powers.{both-halves}
 use Rattle.meeting.specs.Cite.{penOf}
 use Rattle.edges.specs.Cite.{edgeIn}
 use Rattle.edges.specs.declared.Edge.{Edge}

@@ -1,7 +1,7 @@
 -- The blocks of the second half. Assumes nothing.
 use mathlib.Core.Path.{ap₂}
 use mathlib.Core.Bool.{false}
-use Rattle.reader.specs.declared.Block.{Block}
+use Rattle.blocks.specs.declared.Block.{Block}
 use Rattle.text_walk.proofs.met.Statement.{statement}
 use Rattle.text_walk.proofs.met.Tie as tie
 

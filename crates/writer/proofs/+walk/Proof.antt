@@ -29,7 +29,7 @@ use Rattle.lists.specs.Lists.{differ}
 use Rattle.engine.specs.PendingMade.{few-words}
 use Rattle.engine.specs.EngineMade.{walk-word, walk-no, walk-yes, walk-full, walk-on, walk-repeat}
 use Rattle.meeting.specs.Cite.{halfOf, penOf, again-as}
-use Rattle.reader.specs.TruthLaws.{both-halves}
+use Rattle.lists.specs.Powers.{both-halves}
 
 abbrev μ-walk : Measures 4 walk-kinds.ps ℕ
 μ-walk κs a = a .1 .1 .0

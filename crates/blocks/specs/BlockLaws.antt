@@ -1,0 +1,245 @@
+-- The laws of reading block by block, for who combines streams: where a cursor stands as reading does, the next block begins at its covered
+-- count, and every word of it is decided by the table. Assumes nothing.
+use mathlib.Core.Path.{_≡_, refl, sym, ap, ap₂, _∙_, subst}
+use mathlib.Core.Logic.{⊎-elim}
+use mathlib.Core.Bool.{Bool, true, false, cond}
+use mathlib.Core.List.{List, []}
+use mathlib.Core.Option.{none}
+use Prim.Native.Nat.{ℕ, suc, _+_, _-_, _*_, _<_, _≤_, _^_}
+use native.Mathlib.Omega.{arith}
+use lib.ListN.{length}
+use borrow.Author.Tests.{lt-ltb}
+use Rattle.lists.specs.Lists.{decide-le}
+use Rattle.reading.specs.Nodes.{node}
+use Rattle.reading.specs.Reading.{State, Reading, level, isStart, reading}
+use Rattle.reading.specs.Deciding.{Decision, undecided, decided, complemented, options, Trace, traceOn, trace, decisionOf, decision}
+use Rattle.reading.specs.Calls.{Verdict, notYet, isNo, isYes, verdictOf, verdict}
+use Rattle.reading.specs.Covered.{grown-on, grown-count, trace-covered}
+use Rattle.reading.specs.TableWalk.{rowWalk, tied-on}
+use Rattle.reading.specs.Passing.{startTrace}
+use Rattle.reading.specs.Settled.{never-some, trace-onward}
+use Rattle.reading.specs.Reaching.{At, at-fault, at-end, at-grows, at-most, at-passes}
+use Rattle.reading.specs.Aligned.{Multiple, at-nested, at-aligned}
+use Rattle.reading.specs.Lasting.{Lasts, Ordered, at-ordered, at-lasts, at-sits}
+use Rattle.reader.specs.Cite.{markOf, causeOf}
+use Rattle.reader.specs.Simulation.{child-of}
+use Rattle.work_table.specs.TableLaws.{tableOf}
+use Rattle.reader.specs.Advance.{stateAt, HaltsAt}
+use Rattle.reader.specs.Loop.{Stands, stands-first, stands-covered, PassedLast, Ends, ReachedBy}
+use Rattle.reader.specs.ReadOn.{firstCursor, ReadTo, readAll, read-reaches, read-within}
+use Rattle.reader.specs.declared.Opens.{Opens}
+use Rattle.reader.specs.declared.Run.{Run}
+use Rattle.reader.specs.Lent.{ReadReached, ReadCursor}
+use Rattle.blocks.specs.Blocks.{ReadBlock, blockOf, Next, nextOf, nextBlock, word-passed}
+
+-- ---- What the loop passes --------------------------------------------------------------------
+
+-- x: what the loop reaches from where r stands, with r's covered count as its stop
+module _ (n : ℕ) (bytes : List ℕ) (r : Run) (o : Opens) (t : List (List ℕ)) (h : Stands n bytes r o t) (x : ReadReached) (u : List (List ℕ)) (reached : ReachedBy n bytes (r .covered) x u) where
+  abbrev s : State
+  s = stateAt r o t
+
+  abbrev s′ : State
+  s′ = stateAt (x .run) (x .opens) u
+
+  there : At n bytes (reached .stands .steps) s′
+  there = reached .stands .here
+
+  module _ (e : x .halted ≡ false) where
+    past : (r .covered < x .run .covered) × PassedLast n bytes (x .run .mark) (reached .stands .steps) (r .covered) (x .from) (x .deep)
+    past = subst (Ends n bytes (r .covered) x u (reached .stands .steps)) e (reached .ends)
+
+    abbrev p : PassedLast n bytes (x .run .mark) (reached .stands .steps) (r .covered) (x .from) (x .deep)
+    p = past .1
+
+    there-last : At n bytes (suc (p .before)) s′
+    there-last = subst (λ (f : ℕ). At n bytes f s′) (p .last) there
+
+    -- What is passed begins at the covered count,
+    pub passed-from : x .from ≡ r .covered
+    passed-from = ⊎-elim
+        (λ (l : h .steps ≤ p .before). omega (arith, p .low, p .covered, at-grows n bytes (h .steps) (p .before) s (p .state) l (h .here) (p .here)))
+        (λ (l : p .before < h .steps). absurd (omega (arith, past .0, at-grows n bytes (suc (p .before)) (h .steps) s′ s (omega (arith, l)) there-last (h .here))))
+        (decide-le (h .steps) (p .before))
+
+    -- and has the words of a node inside so many open ones.
+    pub passed-covers : x .run .covered ≡ x .from + 2 ^ (n - x .deep)
+    passed-covers =
+        at-passes n bytes (p .before) (p .state) s′ (p .here) there-last (omega (arith, p .covered, p .low, past .0))
+        ∙ ap₂ (λ (c d : ℕ). c + 2 ^ (n - d)) (p .covered) (p .depth)
+
+    -- No more nodes are open than there are options,
+    passed-nested : x .deep ≤ n
+    passed-nested = subst (λ (d : ℕ). d ≤ n) (p .depth) (at-nested n bytes (p .before) (p .state) (p .here))
+
+    -- and it begins after some nodes of as many words.
+    passed-aligned : Multiple (n - x .deep) (x .from)
+    passed-aligned =
+        subst (λ (d : ℕ). Multiple (n - d) (x .from)) (p .depth)
+        (subst (Multiple (n - length (p .state .place .opens))) (p .covered) (at-aligned n bytes (p .before) (p .state) (p .here)))
+
+    passed-later : isStart (markOf (x .run .mark)) ≡ false
+    passed-later = p .later
+
+    -- The table after it is ordered,
+    passed-ordered : Ordered (tableOf u (x .run .size))
+    passed-ordered =
+        subst (λ (b : Bool). Ordered (cond b [] (tableOf u (x .run .size)))) (p .later)
+        (at-ordered n bytes (reached .stands .steps) s′ there)
+
+    -- the number that stands for it lies no higher than it,
+    passed-sits : 0 < x .run .last .number → x .deep + 1 ≤ node (tableOf u (x .run .size)) (x .run .last .number) .level
+    passed-sits =
+        subst (λ (d : ℕ). 0 < x .run .last .number → d + 1 ≤ node (tableOf u (x .run .size)) (x .run .last .number) .level) (p .depth)
+        (subst (λ (b : Bool). 0 < x .run .last .number → level (p .state .place)
+        ≤ node (cond b [] (tableOf u (x .run .size))) (x .run .last .number) .level) (p .later)
+        (subst (λ (k : ℕ). 0 < k → level (p .state .place) ≤ node (s′ .table) k .level) (sym (child-of (x .run .last)))
+        (at-sits n bytes (p .before) (p .state) s′ (p .here) there-last (omega (arith, p .covered, p .low, past .0)))))
+
+    -- and the table lasts from where r stands, if it has one.
+    passed-lasts : isStart (markOf (r .mark)) ≡ false → Lasts (tableOf t (r .size)) (tableOf u (x .run .size))
+    passed-lasts later =
+        subst (λ (b : Bool). Lasts (tableOf t (r .size)) (cond b [] (tableOf u (x .run .size)))) (p .later)
+        (subst (λ (b : Bool). Lasts (cond b [] (tableOf t (r .size))) (s′ .table)) later (⊎-elim
+        (λ (l : h .steps ≤ reached .stands .steps). at-lasts n bytes (h .steps) (reached .stands .steps) s s′ l (h .here) there)
+        (λ (l : reached .stands .steps < h .steps).
+        absurd (omega (arith, past .0, at-grows n bytes (reached .stands .steps) (h .steps) s′ s (omega (arith, l)) there (h .here))))
+        (decide-le (h .steps) (reached .stands .steps))))
+
+    -- the loop reaches as much with a word of it as its stop
+    passed-word : (w : ℕ) → x .from ≤ w → w < x .run .covered → ReachedBy n bytes w x u
+    passed-word w l k = record {
+      stands = reached .stands;
+      ends = subst (Ends n bytes w x u (reached .stands .steps)) (sym e) (k, record { before = p .before; last = p .last; state = p .state; here = p .here; covered = p .covered; low = l; depth = p .depth; shallow = p .shallow; later = p .later });
+    }
+
+  -- Where it halts without a fault, no more words are covered.
+  pub halted-covers : x .halted ≡ true → reading n bytes .fault ≡ none → reading n bytes .state .covered ≡ r .covered
+  halted-covers e clean = let k = subst (Ends n bytes (r .covered) x u (reached .stands .steps)) e (reached .ends) in go (x .faulty) (k .0) (k .1)
+    where
+      go : (b : Bool) → x .run .covered ≤ r .covered → HaltsAt n bytes s′ b (x .cause) (x .byte) → reading n bytes .state .covered ≡ r .covered
+      go true l k = never-some (record { cause = causeOf (x .cause); byte = x .byte }) (sym clean ∙ ap (λ (y : Reading). y .fault) (at-fault n bytes (reached .stands .steps) s′ (causeOf (x .cause)) (x .byte) there k))
+      go false l k =
+          let i = at-end n bytes (reached .stands .steps) s′ there k in
+          omega (arith, l, at-most n bytes (h .steps) s s′ (h .here) i, ap (λ (y : Reading). y .state .covered) i)
+
+-- ---- A word's decision -----------------------------------------------------------------------
+
+-- a verdict's decision
+abbrev decisionIn : Verdict → Decision
+decisionIn notYet = undecided
+decisionIn isNo = decided false
+decisionIn isYes = decided true
+
+decision-back : (d : Decision) → decisionIn (verdictOf d) ≡ d
+decision-back undecided = refl
+decision-back (decided false) = refl
+decision-back (decided true) = refl
+
+-- a stream covers what is covered after some steps
+at-all : (n : ℕ) (bytes : List ℕ) (f : ℕ) (s : State) → At n bytes f s → s .covered ≤ trace n bytes .reading .state .covered
+at-all n bytes f s h =
+    let q = tied-on f n bytes .good in
+    omega (arith, grown-count n (traceOn f n bytes startTrace) _ q (grown-on (suc (length bytes)) n bytes (traceOn f n bytes startTrace) q), ap (λ (t : Trace). t .reading .state .covered) (trace-onward n bytes f), ap (λ (x : Reading). x .state .covered) h)
+
+verdict-decision : (n : ℕ) (bytes : List ℕ) (w : ℕ) (d : Decision) → w < trace n bytes .reading .state .covered → verdict n (trace n bytes) w ≡ verdictOf d → decision n bytes w ≡ d
+unfolding decision
+verdict-decision n bytes w d l e =
+    let v : verdictOf (decisionOf n (trace n bytes) w) ≡ verdictOf d = rw (lt-ltb w (trace n bytes .reading .state .covered) l) at e in
+    sym (decision-back (decisionOf n (trace n bytes) w)) ∙ ap decisionIn v ∙ decision-back d
+
+-- ---- The next block --------------------------------------------------------------------------
+
+-- A cursor stands where reading does.
+abbrev pub StandsAt : ℕ → List ℕ → ReadCursor → List (List ℕ) → Type 0
+StandsAt n bytes c t = Stands n bytes (c .run) (c .opens) t
+
+-- So the first one, whatever the table holds.
+pub first-stands : (n : ℕ) (bytes : List ℕ) (t : List (List ℕ)) → 1024 ≤ length t → StandsAt n bytes firstCursor t
+first-stands n bytes t h = stands-first n bytes t h
+
+-- It covers no more words than the stream does.
+pub stands-read : (n : ℕ) (bytes : List ℕ) (c : ReadCursor) (t : List (List ℕ)) → StandsAt n bytes c t
+    → c .run .covered ≤ reading n bytes .state .covered
+stands-read n bytes c t h =
+    omega (arith, at-all n bytes (h .steps) (stateAt (c .run) (c .opens) t) (h .here), trace-covered n bytes)
+
+-- b, u: the next block of a cursor that stands where reading does, and the table after it
+module _ (n : ℕ) (bytes : List ℕ) (few : n ≤ 32) (c : ReadCursor) (t : List (List ℕ)) (h : StandsAt n bytes c t) (b : ReadBlock) (u : List (List ℕ)) (called : record { block = b; table = u } ≡ nextBlock n bytes c t) where
+  abbrev z : ReadTo
+  z = readAll n bytes (c .run .covered) (c .run) (c .opens) t
+
+  same : record { block = b; table = u } ≡ nextOf z
+  unfolding nextBlock
+  same = called ∙ ap nextOf (read-within n bytes few (c .run .covered) (stands-covered n bytes few (c .run) (c .opens) t h) c t h)
+
+  same-block : b ≡ blockOf (z .reached)
+  same-block = ap (λ (y : Next). y .block) same
+
+  reached : ReachedBy n bytes (c .run .covered) (z .reached) (z .table)
+  reached = read-reaches n bytes few (c .run .covered) (c .run) (c .opens) t h (omega arith)
+
+  -- The cursor after it stands where reading does,
+  pub next-stands : StandsAt n bytes (b .cursor) u
+  next-stands = subst (λ (y : Next). StandsAt n bytes (y .block .cursor) (y .table)) (sym same) (reached .stands)
+
+  module _ (e : b .halted ≡ false) where
+    on : z .reached .halted ≡ false
+    on = sym (ap (λ (y : ReadBlock). y .halted) same-block) ∙ e
+
+    -- the block begins at the covered count,
+    pub block-from : b .from ≡ c .run .covered
+    block-from = ap (λ (y : ReadBlock). y .from) same-block ∙ passed-from n bytes (c .run) (c .opens) t h (z .reached) (z .table) reached on
+
+    -- has the words of a node inside so many open ones,
+    pub block-covers : b .cursor .run .covered ≡ b .from + 2 ^ (n - b .deep)
+    block-covers = subst (λ (y : ReadBlock). y .cursor .run .covered ≡ y .from + 2 ^ (n - y .deep)) (sym same-block) (passed-covers n bytes (c .run) (c .opens) t h (z .reached) (z .table) reached on)
+
+    -- no more than there are options,
+    pub block-deep : b .deep ≤ n
+    block-deep =
+        subst (λ (y : ReadBlock). y .deep ≤ n) (sym same-block)
+        (passed-nested n bytes (c .run) (c .opens) t h (z .reached) (z .table) reached on)
+
+    -- after some nodes of as many words,
+    pub block-aligned : (k : ℕ) × (b .from ≡ k * 2 ^ (n - b .deep))
+    block-aligned =
+        subst (λ (y : ReadBlock). Multiple (n - y .deep) (y .from)) (sym same-block)
+        (passed-aligned n bytes (c .run) (c .opens) t h (z .reached) (z .table) reached on)
+
+    -- The cursor after it has a table, which is ordered and lasts from the cursor before, if that has one;
+    pub block-later : isStart (markOf (b .cursor .run .mark)) ≡ false
+    block-later =
+        subst (λ (y : ReadBlock). isStart (markOf (y .cursor .run .mark)) ≡ false) (sym same-block)
+        (passed-later n bytes (c .run) (c .opens) t h (z .reached) (z .table) reached on)
+
+    pub block-ordered : Ordered (tableOf u (b .cursor .run .size))
+    block-ordered =
+        subst (λ (y : Next). Ordered (tableOf (y .table) (y .block .cursor .run .size))) (sym same)
+        (passed-ordered n bytes (c .run) (c .opens) t h (z .reached) (z .table) reached on)
+
+    pub block-lasts : isStart (markOf (c .run .mark)) ≡ false → Lasts (tableOf t (c .run .size)) (tableOf u (b .cursor .run .size))
+    block-lasts later =
+        subst (λ (y : Next). Lasts (tableOf t (c .run .size)) (tableOf (y .table) (y .block .cursor .run .size))) (sym same)
+        (passed-lasts n bytes (c .run) (c .opens) t h (z .reached) (z .table) reached on later)
+
+    -- the block's number lies no higher than the block,
+    pub block-sits : 0 < b .number → b .deep + 1 ≤ node (tableOf u (b .cursor .run .size)) (b .number) .level
+    block-sits =
+        subst (λ (y : Next). 0 < y .block .number
+        → y .block .deep + 1 ≤ node (tableOf (y .table) (y .block .cursor .run .size)) (y .block .number) .level) (sym same)
+        (passed-sits n bytes (c .run) (c .opens) t h (z .reached) (z .table) reached on)
+
+    -- and EVERY WORD OF IT is decided by the table.
+    pub block-decides : (w : ℕ) → b .from ≤ w → w < b .cursor .run .covered
+        → decision n bytes w ≡ complemented (b .turned) (rowWalk (tableOf u (b .cursor .run .size)) (b .deep + 1) (b .number) (options (n - b .deep) (w - b .from)))
+    block-decides w l k =
+        subst (λ (y : Next). decision n bytes w ≡ complemented (y .block .turned) (rowWalk (tableOf (y .table) (y .block .cursor .run .size)) (y .block .deep + 1) (y .block .number) (options (n - y .block .deep) (w - y .block .from)))) (sym same)
+        (let l′ : z .reached .from ≤ w = omega (arith, l, ap (λ (y : ReadBlock). y .from) same-block) in
+        let k′ : w < z .reached .run .covered = omega (arith, k, ap (λ (y : ReadBlock). y .cursor .run .covered) same-block) in
+        verdict-decision n bytes w _ (omega (arith, k′, at-all n bytes (reached .stands .steps) (stateAt (z .reached .run) (z .reached .opens) (z .table)) (reached .stands .here)))
+        (word-passed n bytes w (z .reached) (z .table) (passed-word n bytes (c .run) (c .opens) t h (z .reached) (z .table) reached on w l′ k′) on))
+
+  -- Where no block is left of a stream without a fault, its words are covered.
+  pub block-last : b .halted ≡ true → reading n bytes .fault ≡ none → reading n bytes .state .covered ≡ c .run .covered
+  block-last e = halted-covers n bytes (c .run) (c .opens) t h (z .reached) (z .table) reached (sym (ap (λ (y : ReadBlock). y .halted) same-block) ∙ e)

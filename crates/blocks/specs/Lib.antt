@@ -1,0 +1,4 @@
+pub mod Blocks
+pub mod BlockLaws
+pub mod Load
+pub mod LoadLaws

@@ -1,0 +1,94 @@
+-- A whole stream read into its table, as code does it: what checking answers, and the outermost node, if the table has it. With a law for each
+-- way through code. Assumes nothing.
+use mathlib.Core.Path.{_≡_, refl, sym, ap, _∙_}
+use mathlib.Core.Bool.{Bool, false, cond, not, _&&_}
+use mathlib.Core.List.{List}
+use Prim.Native.Nat.{ℕ, _<_, _≤_}
+use native.Mathlib.Omega.{arith}
+use lib.Dec.{eqb, ltb}
+use lib.ListN.{length, replicate}
+use borrow.Author.Tests.{lt-ltb, le-ltb}
+use Rattle.reading.specs.Causes as C
+use Rattle.reading.specs.Calls as R
+use Rattle.reading.specs.Deciding.{ended}
+use Rattle.reader.specs.Cite.{markOf}
+use Rattle.work_table.specs.Table.{getIn}
+use Rattle.reader.specs.Lent.{ReadReached, cursorIn}
+use Rattle.reader.specs.Loop.{firstRun, firstOpens, stands-first}
+use Rattle.checker.specs.Answers.{checkingOf}
+use Rattle.checker.specs.CheckMade.{checkedBy}
+use Rattle.reader.specs.ReadOn.{ReadTo, readOn, readAll, firstCursor, startCursor, readFrom, read-within}
+use Rattle.blocks.specs.Blocks.{ReadBlock, blockOf}
+use Rattle.blocks.specs.declared.Loaded.{Loaded}
+use Rattle.reader.specs.declared.Ref.{Ref}
+use Rattle.reader.specs.declared.Cursor.{Cursor}
+
+-- ---- Definitions -----------------------------------------------------------------------------
+
+-- what loading comes to: the answer of checking; whether the table has the outermost node; the size, and what ended last: a number (0: the
+-- terminal), turned about or not; the table
+pub record LoadTo : Type 0 where
+  pub answer : C.Result R.Checked
+  pub whole : Bool
+  pub size : ℕ
+  pub number : ℕ
+  pub turned : Bool
+  pub table : List (List ℕ)
+
+-- as code has it; u: the table after it
+abbrev pub loadIn : Loaded → List (List ℕ) → LoadTo
+loadIn x u = record { answer = checkingOf (x .checking); whole = x .whole; size = x .block .cursor .run .size; number = x .block .number; turned = x .block .turned; table = u }
+
+-- turned down before anything is read
+abbrev pub refusedLoad : C.Cause → List (List ℕ) → LoadTo
+refusedLoad c t = record { answer = C.refused (C.refusal c 0 0); whole = false; size = 0; number = 0; turned = false; table = t }
+
+-- a is the terminal, or a number that was not given out again
+abbrev pub staysIn : List (List ℕ) → ℕ → Ref → Bool
+staysIn t z a = eqb (getIn t z (a .number) .stamp) (a .stamp)
+
+-- no fault was met, no node is open, and the one that has just ended is in the table
+abbrev pub wholeBy : ReadReached → List (List ℕ) → Bool
+wholeBy y t = not (y .faulty) && (eqb (y .opens .depth) 0 && (ended (markOf (y .run .mark)) && staysIn t (y .run .size) (y .run .last)))
+
+-- what is made of what the loop reaches
+abbrev pub loadOf : ReadTo → LoadTo
+loadOf z =
+    let b = blockOf (z .reached) in
+    record { answer = checkedBy (z .reached); whole = wholeBy (z .reached) (z .table); size = b .cursor .run .size; number = b .number; turned = b .turned; table = z .table }
+
+-- LOADING a stream: causes 1 and 4, then the stream is read to its end
+unfoldable pub load : ℕ → List ℕ → List (List ℕ) → LoadTo
+unfolding readOn
+load n bytes t =
+    cond (ltb 32 n) (refusedLoad C.optionCount t)
+    (cond (ltb (length t) 1024) (refusedLoad C.workTable t) (loadOf (readAll n bytes 4294967296 firstRun firstOpens t)))
+
+-- ---- The ways through code -------------------------------------------------------------------
+
+module _ (n : ℕ) (bytes : List ℕ) (t : List (List ℕ)) where
+  pub load-options : (x : LoadTo) → 32 < n → x ≡ refusedLoad C.optionCount t → x ≡ load n bytes t
+  unfolding load
+  load-options x h e = rw (lt-ltb 32 n h) e
+
+  pub load-table : (x : LoadTo) → n ≤ 32 → length t < 1024 → x ≡ refusedLoad C.workTable t → x ≡ load n bytes t
+  unfolding load
+  load-table x few h e = rw (le-ltb 32 n few, lt-ltb (length t) 1024 h) e
+
+  -- where the stream is read
+  pub load-on : n ≤ 32 → 1024 ≤ length t → load n bytes t ≡ loadOf (readAll n bytes 4294967296 firstRun firstOpens t)
+  unfolding load
+  load-on few room = rw (le-ltb 32 n few, le-ltb (length t) 1024 room) refl
+
+  -- y, u: what the loop reaches, and the table after it; b, a, w: the block, the answer and whether it is whole, as code has them
+  pub load-made : n ≤ 32 → 1024 ≤ length t → (c : Cursor) → c ≡ startCursor → (y : ReadReached) (u : List (List ℕ))
+      → record { reached = y; table = u } ≡ readFrom n bytes 4294967296 (cursorIn c (replicate 32 (replicate 4 0))) t → (b : ReadBlock) → b ≡ blockOf y
+      → (a : C.Result R.Checked) → a ≡ checkedBy y → (w : Bool) → w ≡ wholeBy y u
+      → record { answer = a; whole = w; size = b .cursor .run .size; number = b .number; turned = b .turned; table = u } ≡ load n bytes t
+  load-made few room c ce y u k b be a ae w we =
+      ap (λ (b : ReadBlock). record { answer = a; whole = w; size = b .cursor .run .size; number = b .number; turned = b .turned; table = u }) be
+      ∙ rw (ae, we) refl
+      ∙ ap loadOf (k
+      ∙ ap (λ (c : Cursor). readFrom n bytes 4294967296 (cursorIn c (replicate 32 (replicate 4 0))) t) ce
+      ∙ read-within n bytes few 4294967296 (omega arith) firstCursor t (stands-first n bytes t room))
+      ∙ sym (load-on few room)

@@ -1,0 +1,198 @@
+// Reading a stream block by block, or whole into its table.
+ghost use mathlib.Core.Path.{_≡_};
+ghost use mathlib.Core.List.{List, []};
+ghost use Prim.Native.Nat.{ℕ, _-_};
+ghost use Rattle.reading.specs.Covered.{parity};
+ghost use Rattle.reading.specs.Deciding.{ended};
+ghost use Rattle.reader.specs.Cite.{openList, markOf, causeOf, deepOf};
+ghost use Rattle.reader.specs.Lent.{opensIn, reachedIn, cursorIn};
+ghost use Rattle.blocks.specs.Blocks.{edgeAt, blockIn, blockOf, nextBlock};
+ghost use Rattle.blocks.specs.Load.{loadIn, refusedLoad, wholeBy, load};
+use checker::Checking;
+use checker::checked_at;
+use checker::early;
+use reader::Cause;
+use reader::Cursor;
+use reader::Mark;
+use reader::Reached;
+use reader::first_cursor;
+use reader::read_on;
+use work_table::Edge;
+use work_table::get;
+use work_table::turned_about;
+
+// ---- What was passed last
+
+fn deep(d: usize) -> usize
+    ensures { λ r. ⌜ r ≡ deepOf d ⌝ }
+{
+    if 32 < d { 32 } else { d }
+}
+
+// The edges to second children that are complemented, of d open nodes: an odd number?
+fn parity_of(o: &[[u32; 4]; 32], d: usize) -> bool
+    ensures { λ r. ⌜ r ≡ parity (openList (opensIn (now (o .entry)) d)) ⌝ }
+{
+    let e = deep(d);
+    let mut i = 0;
+    let mut p = false;
+    while i < e {
+        let a = o[i];
+        if a[2] != 0 {
+            p = turned_about(a[3] != 0, p);
+        }
+        i += 1;
+    }
+    p
+}
+
+// What the words passed last stand for.
+pub fn edge_of(r: Reached, o: &[[u32; 4]; 32]) -> Edge
+    ensures { λ x. ⌜ x ≡ edgeAt (reachedIn r (now (o .entry))) ⌝ }
+{
+    let p = parity_of(o, r.depth);
+    let q = r.run;
+    let l = q.last;
+    Edge {
+        number: l.number,
+        turned: turned_about(p, q.complement),
+    }
+}
+
+// The options below d open nodes.
+pub fn below(n: u32, d: usize) -> u32
+    ensures { λ r. ⌜ r ≡ n - d ⌝ }
+{
+    if n as usize <= d {
+        return 0;
+    }
+    n - d as u32
+}
+
+// ---- Block by block
+
+// The words that one element passes: the first of them, how many nodes are open around them, and what they stand for: a number (0: the terminal),
+// turned about or not. The cursor stands behind them. Halted: reading has come to its end, and no words were passed.
+pub struct Block {
+    pub cursor: Cursor,
+    pub from: u64,
+    pub deep: usize,
+    pub number: u32,
+    pub turned: bool,
+    pub halted: bool,
+}
+
+// The block that the loop's last element passed.
+fn block_of(r: Reached, o: &[[u32; 4]; 32]) -> Block
+    ensures { λ b. ⌜ blockIn b (now (o .entry)) ≡ blockOf (reachedIn r (now (o .entry))) ⌝ }
+{
+    let e = edge_of(r, o);
+    let q = r.run;
+    let c = Cursor {
+        run: q,
+        depth: r.depth,
+    };
+    Block {
+        cursor: c,
+        from: r.from,
+        deep: r.deep,
+        number: e.number,
+        turned: e.turned,
+        halted: r.halted,
+    }
+}
+
+// THE NEXT BLOCK: reads on until more words are covered. o: the open nodes, as reading left them
+pub fn next_block(n: u32, s: &[u8], t: &mut [[u32; 6]], o: &mut [[u32; 4]; 32], c: Cursor) -> Block
+    ensures { λ b. ⌜ record { block = blockIn b (now (o .exit)); table = now (t .exit) } ≡ nextBlock n (now (s .entry)) (cursorIn c (now (o .entry))) (now (t .entry)) ⌝ }
+{
+    let q = c.run;
+    let r = read_on(n, s, t, o, c, q.covered);
+    block_of(r, o)
+}
+
+// ---- A whole stream
+
+// A stream that was read to its end: what checking answers, and the block of what ended last. Whole: no fault was met, and that is the outermost
+// node, which the table has.
+pub struct Loaded {
+    pub checking: Checking,
+    pub block: Block,
+    pub whole: bool,
+}
+
+// A node has just ended.
+fn has_ended(m: Mark) -> bool
+    ensures { λ r. ⌜ r ≡ ended (markOf m) ⌝ }
+{
+    match m {
+        Mark::Start => false,
+        Mark::Lead => false,
+        Mark::Begins => false,
+        Mark::AfterDigit => true,
+        Mark::AfterTwo => true,
+        Mark::AfterOne => true,
+        Mark::Over => true,
+    }
+}
+
+// What ended last is the outermost node, and is the terminal or a number that was not given out again.
+fn is_whole(t: &[[u32; 6]], r: Reached) -> bool
+    ensures { λ x. ⌜ x ≡ wholeBy (reachedIn r []) (now (t .entry)) ⌝ }
+{
+    let f = r.faulty;
+    if f {
+        return false;
+    }
+    if r.depth != 0 {
+        return false;
+    }
+    let q = r.run;
+    let m = q.mark;
+    if !has_ended(m) {
+        return false;
+    }
+    let l = q.last;
+    let x = get(t, q.size, l.number);
+    x.stamp == l.stamp
+}
+
+// Turned down before anything is read.
+fn not_loaded(c: Cause) -> Loaded
+    ensures { λ r. ⌜ ((t : List (List ℕ)) → loadIn r t ≡ refusedLoad (causeOf c) t) ⌝ }
+{
+    let b = Block {
+        cursor: first_cursor(),
+        from: 0,
+        deep: 0,
+        number: 0,
+        turned: false,
+        halted: true,
+    };
+    Loaded {
+        checking: Checking::Refused(early(c)),
+        block: b,
+        whole: false,
+    }
+}
+
+// READING A WHOLE STREAM into its table, which is left as it is then: the answer of `check`, and the outermost node if the table has it.
+pub fn load(n: u32, s: &[u8], t: &mut [[u32; 6]]) -> Loaded
+    ensures { λ r. ⌜ loadIn r (now (t .exit)) ≡ load n (now (s .entry)) (now (t .entry)) ⌝ }
+{
+    if 32 < n {
+        return not_loaded(Cause::OptionCount);
+    }
+    if t.len() < 1024 {
+        return not_loaded(Cause::WorkTable);
+    }
+    let mut o = [[0u32; 4]; 32];
+    let r = read_on(n, s, t, &mut o, first_cursor(), 4294967296);
+    let w = is_whole(t, r);
+    let b = block_of(r, &o);
+    Loaded {
+        checking: checked_at(r),
+        block: b,
+        whole: w,
+    }
+}

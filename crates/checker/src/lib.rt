@@ -1,0 +1,106 @@
+// Checking a stream, and how a call is turned down.
+ghost use mathlib.Core.Path.{_≡_};
+ghost use mathlib.Core.Bool.{cond};
+ghost use mathlib.Core.List.{[]};
+ghost use Rattle.reading.specs.Causes.{refusal};
+ghost use Rattle.reading.specs.Calls.{complete, cut, extent, check};
+ghost use Rattle.work_table.specs.Table.{noRecord};
+ghost use Rattle.reader.specs.Cite.{markOf, causeOf};
+ghost use Rattle.reader.specs.Lent.{reachedIn};
+ghost use Rattle.checker.specs.Answers.{refusalOf, checkingOf};
+ghost use Rattle.checker.specs.CheckMade.{checkedBy};
+use reader::Cause;
+use reader::Mark;
+use reader::Reached;
+use reader::first_cursor;
+use reader::read_on;
+use work_table::clear;
+
+// Why a call is turned down: the cause, the stream (0: none) and the byte.
+pub struct Refusal {
+    pub cause: Cause,
+    pub stream: u32,
+    pub byte: usize,
+}
+
+// What checking answers: the declared size (0 while unfinished), the covered count, and whether the stream has its point.
+pub struct Checked {
+    pub size: u32,
+    pub covered: u64,
+    pub complete: bool,
+}
+
+pub enum Checking {
+    Refused(Refusal),
+    Done(Checked),
+}
+
+// Tested before any stream is read.
+pub fn early(c: Cause) -> Refusal
+    ensures { λ r. ⌜ refusalOf r ≡ refusal (causeOf c) 0 0 ⌝ }
+{
+    Refusal {
+        cause: c,
+        stream: 0,
+        byte: 0,
+    }
+}
+
+// The fault that a loop has met, in stream 1.
+pub fn late(r: Reached) -> Refusal
+    ensures { λ x. ⌜ refusalOf x ≡ refusal (causeOf (r .cause)) 1 (r .byte) ⌝ }
+{
+    let c = r.cause;
+    Refusal {
+        cause: c,
+        stream: 1,
+        byte: r.byte,
+    }
+}
+
+fn is_over(m: Mark) -> bool
+    ensures { λ r. ⌜ cond r complete cut ≡ extent (markOf m) ⌝ }
+{
+    match m {
+        Mark::Start => false,
+        Mark::Lead => false,
+        Mark::Begins => false,
+        Mark::AfterDigit => false,
+        Mark::AfterTwo => false,
+        Mark::AfterOne => false,
+        Mark::Over => true,
+    }
+}
+
+pub fn checked_at(r: Reached) -> Checking
+    ensures { λ x. ⌜ checkingOf x ≡ checkedBy (reachedIn r []) ⌝ }
+{
+    let f = r.faulty;
+    if f {
+        return Checking::Refused(late(r));
+    }
+    let q = r.run;
+    let m = q.mark;
+    Checking::Done(Checked {
+        size: q.size,
+        covered: q.covered,
+        complete: is_over(m),
+    })
+}
+
+// CHECKING a stream: causes 1 and 4, then those of the stream.
+pub fn check(n: u32, s: &[u8], t: &mut [[u32; 6]]) -> Checking
+    ensures { λ r. ⌜ record { answer = checkingOf r; table = now (t .exit) } ≡ check noRecord n (now (s .entry)) (now (t .entry)) ⌝ }
+{
+    if 32 < n {
+        return Checking::Refused(early(Cause::OptionCount));
+    }
+    if t.len() < 1024 {
+        return Checking::Refused(early(Cause::WorkTable));
+    }
+    let mut o = [[0u32; 4]; 32];
+    let r = read_on(n, s, t, &mut o, first_cursor(), 4294967296);
+    let z = t.len();
+    clear(t, z);
+    checked_at(r)
+}

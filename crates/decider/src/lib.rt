@@ -1,0 +1,119 @@
+// Deciding a word.
+ghost use mathlib.Core.Path.{_≡_};
+ghost use mathlib.Core.List.{[]};
+ghost use Prim.Native.Nat.{_+_, _≤_};
+ghost use Rattle.reading.specs.Deciding.{decided, complemented, options};
+ghost use Rattle.reading.specs.Calls.{verdictOf, decide};
+ghost use Rattle.reading.specs.TableWalk.{rowWalk};
+ghost use Rattle.work_table.specs.Table.{noRecord};
+ghost use Rattle.work_table.specs.TableLaws.{tableOf};
+ghost use Rattle.reader.specs.Lent.{reachedIn};
+ghost use Rattle.blocks.specs.Blocks.{wordAt};
+ghost use Rattle.decider.specs.Answers.{verdictsOf, decidingOf};
+ghost use Rattle.decider.specs.DecideMade.{decidedBy};
+use blocks::below;
+use blocks::edge_of;
+use checker::Refusal;
+use checker::early;
+use checker::late;
+use reader::Cause;
+use reader::Cursor;
+use reader::Reached;
+use reader::first_cursor;
+use reader::read_on;
+use work_table::Edge;
+use work_table::clear;
+use work_table::first_edge;
+use work_table::get;
+use work_table::second_edge;
+
+pub enum Verdict {
+    No,
+    Yes,
+    NotYet,
+}
+
+pub enum Deciding {
+    Refused(Refusal),
+    Done(Verdict),
+}
+
+// The decision of a word: no, turned about if b.
+fn verdict_of(b: bool) -> Verdict
+    ensures { λ r. ⌜ verdictsOf r ≡ verdictOf (decided b) ⌝ }
+{
+    if b { Verdict::Yes } else { Verdict::No }
+}
+
+// The word w of the node of level i, m options below it, that e stands for. z: how many numbers there are
+fn walk_down(t: &[[u32; 6]], z: u32, m: u32, i: u32, e: Edge, w: u64) -> Verdict
+    requires { ⌜ (m ≤ 32) × (i + m ≤ 64) ⌝ }
+    ensures { λ r. ⌜ verdictsOf r ≡ verdictOf (complemented (e .turned) (rowWalk (tableOf (now (t .entry)) z) i (e .number) (options m w))) ⌝ }
+{
+    if e.number == 0 {
+        return verdict_of(e.turned);
+    }
+    if m == 0 {
+        return Verdict::NotYet;
+    }
+    let x = get(t, z, e.number);
+    let half = 1u64 << (m - 1);
+    if w < half {
+        return walk_down(t, z, m - 1, i + 1, first_edge(x, i, e), w);
+    }
+    walk_down(t, z, m - 1, i + 1, second_edge(x, i, e), w - half)
+}
+
+fn decided_at(r: Reached, v: Verdict) -> Deciding
+    ensures { λ x. ⌜ decidingOf x ≡ decidedBy (reachedIn r []) (verdictsOf v) ⌝ }
+{
+    let f = r.faulty;
+    if f {
+        return Deciding::Refused(late(r));
+    }
+    Deciding::Done(v)
+}
+
+// The word w, which the loop's last element passed.
+fn word_at(t: &[[u32; 6]], o: &[[u32; 4]; 32], n: u32, r: Reached, w: u64) -> Verdict
+    requires { ⌜ (n ≤ 32) × ((r .deep ≤ 32) × (r .from ≤ w)) ⌝ }
+    ensures { λ x. ⌜ verdictsOf x ≡ wordAt (now (t .entry)) n (reachedIn r (now (o .entry))) w ⌝ }
+{
+    let q = r.run;
+    let d = r.deep;
+    let i = d as u32 + 1;
+    walk_down(t, q.size, below(n, d), i, edge_of(r, o), w - r.from)
+}
+
+// DECIDING a word: causes 1, 4 and 5, then those of the stream.
+pub fn decide(n: u32, s: &[u8], w: u64, t: &mut [[u32; 6]]) -> Deciding
+    ensures { λ r. ⌜ record { answer = decidingOf r; table = now (t .exit) } ≡ decide noRecord n (now (s .entry)) w (now (t .entry)) ⌝ }
+{
+    if 32 < n {
+        return Deciding::Refused(early(Cause::OptionCount));
+    }
+    if t.len() < 1024 {
+        return Deciding::Refused(early(Cause::WorkTable));
+    }
+    if 1u64 << n <= w {
+        return Deciding::Refused(early(Cause::WordRange));
+    }
+    let mut o = [[0u32; 4]; 32];
+    let r = read_on(n, s, t, &mut o, first_cursor(), w);
+    let h = r.halted;
+    if h {
+        let z = t.len();
+        clear(t, z);
+        return decided_at(r, Verdict::NotYet);
+    }
+    let v = word_at(t, &o, n, r, w);
+    let q = r.run;
+    let c = Cursor {
+        run: q,
+        depth: r.depth,
+    };
+    let e = read_on(n, s, t, &mut o, c, 4294967296);
+    let z = t.len();
+    clear(t, z);
+    decided_at(e, v)
+}
