@@ -1,2 +1,2 @@
-# crates/reader/src/lib.rt
-/^pub fn next_block/,/^}/s/run_on(&k, n, s, t, o, q, c\.depth, q\.covered)/run_on(\&k, n, s, t, o, q, c.depth, q.covered + 1)/
+# crates/blocks/src/lib.rt
+/^pub fn next_block/,/^}/s/read_on(n, s, t, o, c, q\.covered)/read_on(n, s, t, o, c, q.covered + 1)/

@@ -1,2 +1,2 @@
-# crates/reader/src/lib.rt
+# crates/blocks/src/lib.rt
 /^fn is_whole/,/^}/s/^    x\.stamp == l\.stamp/    true/

@@ -1,2 +1,2 @@
-# crates/reader/src/lib.rt
+# crates/work_table/src/lib.rt
 s/^    let e = least(m, t.len());/    let e = least(m, 1024);/

@@ -1,2 +1,2 @@
-# crates/reader/src/lib.rt
+# crates/work_table/src/lib.rt
 s/^    count(t, z, x.second, true);/    count(t, z, x.second, false);/

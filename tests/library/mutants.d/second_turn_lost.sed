@@ -1,2 +1,2 @@
-# crates/reader/src/lib.rt
+# crates/work_table/src/lib.rt
 s/turned: turned_about(x.complement, e.turned),/turned: e.turned,/

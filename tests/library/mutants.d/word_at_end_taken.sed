@@ -1,2 +1,2 @@
-# crates/reader/src/lib.rt
+# crates/decider/src/lib.rt
 s/^    if 1u64 << n <= w {/    if 1u64 << n < w {/
