@@ -2,10 +2,11 @@
 use mathlib.Core.Path.{_≡_, refl, sym, ap, ap₂, _∙_, subst}
 use mathlib.Core.Bool.{Bool, true, false, cond}
 use mathlib.Core.List.{List, [], _∷_}
-use Prim.Native.Nat.{ℕ, suc, _+_, _-_}
+use Prim.Native.Nat.{ℕ, suc, _+_, _-_, _<_, _≤_}
 use native.Mathlib.Numerals.{add-one}
 use native.Mathlib.Omega.{arith}
 use lib.ListN.{length, getD}
+use borrow.Author.Tests.{lt-ltb}
 use Rattle.lists.specs.Lists.{differ}
 use Rattle.reading.specs.Nodes.{Node, child}
 use Rattle.reading.specs.Element as T
@@ -16,7 +17,8 @@ use Rattle.reading.specs.TableWalk.{rowWalk}
 use Rattle.reading.specs.Reaching.{At, decided-passed}
 use Rattle.work_table.specs.TableLaws.{tableOf}
 use Rattle.work_table.specs.declared.Edge.{Edge}
-use Rattle.reader.specs.Cite.{refOf, openOf, insideOpen, opensOf, openList}
+use Rattle.reader.specs.Cite.{refOf, openOf, insideOpen, opensOf, deepOf, openList}
+use Rattle.reader.specs.PlaceLaws.{deep-self}
 use Rattle.reader.specs.Simulation.{child-of}
 use Rattle.reader.specs.Advance.{stateAt}
 use Rattle.reader.specs.Lent.{ReadReached, ReadCursor, cursorIn}
@@ -86,6 +88,13 @@ word-passed n bytes w r u h e =
     ∙ ap (λ (a : ℕ). W (tableOf u (r .run .size)) (r .deep) a (r .from)) (sym (child-of (r .run .last)))
 
 -- ---- The complements around a place ----------------------------------------------------------
+
+-- i is how many open nodes are read: 32 of more, or all
+pub deep-past : (d i : ℕ) → i ≡ 32 → i < d → i ≡ deepOf d
+deep-past d i e h = let l : 32 < d = omega (arith, e, h) in rw (lt-ltb 32 d l) e
+
+pub deep-all : (d i : ℕ) → i ≤ d → i ≤ 32 → d ≤ i → i ≡ deepOf d
+deep-all d i h k l = let e : i ≡ d = omega (arith, h, l) in e ∙ sym (deep-self d (omega (arith, k, l)))
 
 pub parity-none : (ns : List Open) → false ≡ parity (opensOf ns 0)
 unfolding parity opensOf

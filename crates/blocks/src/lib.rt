@@ -4,7 +4,7 @@ ghost use mathlib.Core.List.{List, []};
 ghost use Prim.Native.Nat.{ℕ, _-_};
 ghost use Rattle.reading.specs.Covered.{parity};
 ghost use Rattle.reading.specs.Deciding.{ended};
-ghost use Rattle.reader.specs.Cite.{openList, markOf, causeOf, deepOf};
+ghost use Rattle.reader.specs.Cite.{openList, markOf, causeOf};
 ghost use Rattle.reader.specs.Lent.{opensIn, reachedIn, cursorIn};
 ghost use Rattle.blocks.specs.Blocks.{edgeAt, blockIn, blockOf, nextBlock};
 ghost use Rattle.blocks.specs.Load.{loadIn, refusedLoad, wholeBy, load};
@@ -23,20 +23,16 @@ use work_table::turned_about;
 
 // ---- What was passed last
 
-fn deep(d: usize) -> usize
-    ensures { λ r. ⌜ r ≡ deepOf d ⌝ }
-{
-    if 32 < d { 32 } else { d }
-}
-
-// The edges to second children that are complemented, of d open nodes: an odd number?
+// The edges to second children that are complemented, of d open nodes: an odd number? There are 32 at most.
 fn parity_of(o: &[[u32; 4]; 32], d: usize) -> bool
     ensures { λ r. ⌜ r ≡ parity (openList (opensIn (now (o .entry)) d)) ⌝ }
 {
-    let e = deep(d);
     let mut i = 0;
     let mut p = false;
-    while i < e {
+    while i < d {
+        if i == 32 {
+            return p;
+        }
         let a = o[i];
         if a[2] != 0 {
             p = turned_about(a[3] != 0, p);

@@ -1669,6 +1669,8 @@ fn run_on(
     }
 }
 
+// ---- Reading on from a cursor
+
 // Where the reading of a stream stands: what it has come to, and how many nodes are open, which are lent beside it.
 pub struct Cursor {
     pub run: Run,

@@ -1,4 +1,4 @@
--- After i turns p is the parity of the first i open nodes: one more counts if the place is in its second child.
+-- After i turns p is the parity of the first i open nodes: one more counts if the place is in its second child. It ends after all, or after 32.
 -- Assumes nothing.
 use mathlib.Core.Path.{_≡_, sym, ap, _∙_}
 use mathlib.Core.Logic.{⊎-elim}
@@ -9,35 +9,37 @@ use lib.ListN.{getD}
 use borrow.Author.Tests.{eq-eqb, ne-eqb}
 use Rattle.lists.specs.Lists.{differ}
 use Rattle.reading.specs.Covered.{parity}
-use Rattle.reader.specs.Cite.{insideOpen, opensOf, deepOf}
+use Rattle.reader.specs.Cite.{insideOpen, opensOf}
 use Rattle.reader.specs.Lent.{nodesIn, node-at}
-use Rattle.reader.specs.PlaceLaws.{deep-most}
-use Rattle.blocks.specs.Blocks.{parity-none, parity-more}
+use Rattle.blocks.specs.Blocks.{deep-past, deep-all, parity-none, parity-more}
 use Rattle.reader.specs.declared.Open.{Open}
 use borrow.Author.Needs.{needs}
 use Rattle.blocks.proofs.parity_of.Statement.{statement}
 use Rattle.blocks.proofs.parity_of.Tie as tie
 
 abbrev Inv-loop : tie.InvT-loop
-Inv-loop o d e i₀ p₀ i p = (i ≤ e) × ((e ≤ 32) × ((e ≡ deepOf d) × (p ≡ parity (opensOf (nodesIn o) i))))
+Inv-loop o d i₀ p₀ i p = (i ≤ d) × ((i ≤ 32) × (p ≡ parity (opensOf (nodesIn o) i)))
 
 abbrev μ-loop : tie.MeasureT-loop
-μ-loop o d e i₀ p₀ i p = e - i
-
-deep-requires : tie.Need-deep-requires Inv-loop μ-loop
-deep-requires c κs = search needs
+μ-loop o d i₀ p₀ i p = d - i
 
 loop-holds : tie.Need-loop-holds Inv-loop μ-loop
-loop-holds c = (omega arith, (omega (arith, c .deep .ensures, deep-most (c .before .args .d)), (c .deep .ensures, parity-none (nodesIn (c .before .args .o .now)))))
+loop-holds c = (omega arith, (omega arith, parity-none (nodesIn (c .args .o .now))))
+
+returns : tie.Need-returns Inv-loop μ-loop
+returns c =
+    let a = c .before .before .before .args in
+    let l = c .before .before .loop in
+    l .inv .1 .1 ∙ ap (λ (k : ℕ). parity (opensOf (nodesIn (a .o .now)) k)) (deep-past (a .d) (l .i) (c .if1 .taken) (c .before .loop-test .taken))
 
 mul-a : tie.Need-mul-a Inv-loop μ-loop
 mul-a c = search needs
 
 element-copy-out-a : tie.Need-element-copy-out-a Inv-loop μ-loop
-element-copy-out-a c = search needs
+element-copy-out-a c = omega (arith, c .if1 .left, c .before .before .loop .inv .1 .0)
 
-array-read-if1 : tie.Need-array-read-if1 Inv-loop μ-loop
-array-read-if1 c = search needs
+array-read-if2 : tie.Need-array-read-if2 Inv-loop μ-loop
+array-read-if2 c = search needs
 
 array-read-turned-about : tie.Need-array-read-turned-about Inv-loop μ-loop
 array-read-turned-about c = search needs
@@ -53,26 +55,25 @@ loop-less c = search needs
 
 loop-again : tie.Need-loop-again Inv-loop μ-loop
 loop-again c =
-    let l = c .before .before .before .loop in
+    let l = c .before .before .before .before .loop in
     let a = c .before .before .before .before .before .args in
     let inv = l .inv in
     let ns = nodesIn (a .o .now) in
     let i = l .i in
     let more : (b : Bool) → getD ns i insideOpen .second ≡ b → cond b (differ (getD ns i insideOpen .turned) (l .p)) (l .p) ≡ parity (opensOf ns (i + 1))
-    = λ b e. rw (inv .1 .1 .1) (parity-more ns i b e) in
+    = λ b e. rw (inv .1 .1) (parity-more ns i b e) in
     let here = node-at (a .o .now) i in
-    let now : c .if1 .p ≡ parity (opensOf ns (i + 1))
+    let now : c .if2 .p ≡ parity (opensOf ns (i + 1))
     = ⊎-elim
     (λ w. w .2 ∙ w .1 .ensures ∙ ap (λ (e : Open). differ (e .turned) (l .p)) here ∙ more true (sym (ap (λ (e : Open). e .second) here) ∙ ap not (ne-eqb _ _ (w .0 .taken))))
-    (λ w. w .1 ∙ more false (sym (ap (λ (e : Open). e .second) here) ∙ ap not (eq-eqb _ _ (w .0 .left)))) (c .if1 .came) in
-    (omega (arith, c .before .before .loop-test .taken), (inv .1 .0, (inv .1 .1 .0, now)))
+    (λ w. w .1 ∙ more false (sym (ap (λ (e : Open). e .second) here) ∙ ap not (eq-eqb _ _ (w .0 .left)))) (c .if2 .came) in
+    (omega (arith, c .before .before .before .loop-test .taken), (omega (arith, inv .1 .0, c .before .before .if1 .left), now))
 
-returns : tie.Need-returns Inv-loop μ-loop
-returns c =
-    let a = c .before .before .before .args in
-    let inv = c .before .loop .inv in
-    let all : c .before .loop .i ≡ c .before .before .deep .result = omega (arith, c .loop-test .left, inv .0) in
-    inv .1 .1 .1 ∙ ap (λ (k : ℕ). parity (opensOf (nodesIn (a .o .now)) k)) (all ∙ inv .1 .1 .0)
+returns-2 : tie.Need-returns-2 Inv-loop μ-loop
+returns-2 c =
+    let a = c .before .before .args in
+    let l = c .before .loop in
+    l .inv .1 .1 ∙ ap (λ (k : ℕ). parity (opensOf (nodesIn (a .o .now)) k)) (deep-all (a .d) (l .i) (l .inv .0) (l .inv .1 .0) (omega (arith, c .loop-test .left)))
 
 pub parity-of-spec : {M : Type 1} → statement M
 parity-of-spec =
@@ -80,14 +81,14 @@ parity-of-spec =
     (tie.spec
     Inv-loop
     μ-loop
-    deep-requires
     loop-holds
+    returns
     mul-a
     element-copy-out-a
-    array-read-if1
+    array-read-if2
     array-read-turned-about
     turned-about-requires
     add-i
     loop-less
     loop-again
-    returns)
+    returns-2)
