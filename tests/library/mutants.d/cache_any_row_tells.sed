@@ -1,2 +1,2 @@
-# crates/applier/src/lib.rt
-/^fn recall(/,/^}/s/^    if !is_held(r, k) {/    if r[0] == 0 {/
+# crates/operation_cache/src/lib.rt
+/^pub fn recall(/,/^}/s/^    if !is_held(r, k) {/    if r[0] == 0 {/

@@ -1,2 +1,2 @@
-# crates/applier/src/lib.rt
+# crates/operation_cache/src/lib.rt
 /^fn is_held/,/^}/s/^    if r\[6\] != k\.number2 {/    if r[6] > 4294967295 {/

@@ -1,2 +1,2 @@
-# crates/applier/src/lib.rt
+# crates/operation_cache/src/lib.rt
 /^fn above/,/^}/s/if l < i { 0 } else { l - i }/if l <= i { 0 } else { l - i - 1 }/

@@ -1,2 +1,2 @@
-# crates/applier/src/lib.rt
+# crates/operation_cache/src/lib.rt
 /^fn above/,/^}/s/else { l - i }/else { l - i + 1 }/

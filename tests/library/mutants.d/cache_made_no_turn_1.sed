@@ -1,2 +1,2 @@
-# crates/applier/src/lib.rt
-/^fn key_of/,/^}/s/turned1: either(x\.turned, 1, 0),/turned1: 0,/
+# crates/operation_cache/src/lib.rt
+/^pub fn key_of/,/^}/s/turned1: either(x\.turned, 1, 0),/turned1: 0,/

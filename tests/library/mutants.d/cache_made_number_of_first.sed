@@ -1,2 +1,2 @@
-# crates/applier/src/lib.rt
-/^fn key_of/,/^}/s/number2: y\.number,/number2: x.number,/
+# crates/operation_cache/src/lib.rt
+/^pub fn key_of/,/^}/s/number2: y\.number,/number2: x.number,/

@@ -1,2 +1,2 @@
-# crates/applier/src/lib.rt
-/^fn note/,/^}/s/^    let temporary = h\.temporary;/    let temporary = false;/
+# crates/operation_cache/src/lib.rt
+/^pub fn note/,/^}/s/^    let temporary = h\.temporary;/    let temporary = false;/

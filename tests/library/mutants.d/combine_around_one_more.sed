@@ -1,2 +1,2 @@
-# crates/text_walk/src/lib.rt
-/^fn is_around/,/^}/s/^    (i - 1) as usize == d/    i as usize == d/
+# crates/feeds/src/lib.rt
+/^fn settle/,/^}/s/b\.deep != i as usize/b.deep != i as usize + 1/

@@ -1,2 +1,2 @@
 # crates/text_walk/src/lib.rt
-s/read_first(k\.n, x, t1, o1, f, a)/read_on(k.n, x, t1, o1, f, b1)/
+/^fn first_on/,/^}/s/let b = a\.first;/let b = x.block;/

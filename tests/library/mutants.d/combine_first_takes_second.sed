@@ -1,2 +1,2 @@
-# crates/applier/src/lib.rt
+# crates/edges/src/lib.rt
 /^pub fn first_edge/,/^}/s/number: r\.first,/number: r.second,/

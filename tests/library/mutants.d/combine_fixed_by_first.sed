@@ -1,2 +1,2 @@
-# crates/applier/src/lib.rt
-/^fn is_fixed/,/^}/s/^    if x\.number == 0 {/    if x.number <= 1 {/
+# crates/edges/src/lib.rt
+/^pub fn is_fixed/,/^}/s/^    if x\.number == 0 {/    if x.number <= 1 {/

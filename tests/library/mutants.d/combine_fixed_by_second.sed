@@ -1,2 +1,2 @@
-# crates/applier/src/lib.rt
-/^fn is_fixed/,/^}/s/^        operate(op, !x\.turned, y\.turned),/        operate(op, x.turned, y.turned),/
+# crates/edges/src/lib.rt
+/^pub fn is_fixed/,/^}/s/^        operate(op, !x\.turned, y\.turned),/        operate(op, x.turned, y.turned),/

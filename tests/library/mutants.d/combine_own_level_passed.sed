@@ -1,2 +1,2 @@
-# crates/applier/src/lib.rt
+# crates/edges/src/lib.rt
 /^fn is_passed/,/^}/s/^    i < r\.level/    i <= r.level/

@@ -1,2 +1,2 @@
-# crates/applier/src/lib.rt
-/^fn both_pass/,/^}/s/^    is_passed(i, j, s)/    is_passed(i, k, r)/
+# crates/edges/src/lib.rt
+/^pub fn both_pass/,/^}/s/^    is_passed(i, j, s)/    is_passed(i, k, r)/

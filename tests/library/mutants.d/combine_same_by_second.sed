@@ -1,2 +1,2 @@
-# crates/applier/src/lib.rt
-/^fn both_pass/,/^}/s/^    if !is_passed(i, k, r) {/    if !is_passed(i, j, s) {/
+# crates/edges/src/lib.rt
+/^pub fn both_pass/,/^}/s/^    if !is_passed(i, k, r) {/    if !is_passed(i, j, s) {/

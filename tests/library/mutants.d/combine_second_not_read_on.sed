@@ -1,2 +1,2 @@
 # crates/text_walk/src/lib.rt
-s/read_second(k\.n, y, t2, o2, g, a)/read_on(k.n, y, t2, o2, g, b2)/
+/^fn second_on/,/^}/s/let b = a\.second;/let b = x.block;/

@@ -1,2 +1,2 @@
-# crates/applier/src/lib.rt
+# crates/edges/src/lib.rt
 /^fn is_settled/,/^}/s/^    !differs(.*/    true/

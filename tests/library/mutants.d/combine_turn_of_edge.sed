@@ -1,2 +1,2 @@
-# crates/text_walk/src/lib.rt
-/^fn turn_of/,/^}/s/return b\.turned;/return f.turned;/
+# crates/feeds/src/lib.rt
+/^pub fn turn_of/,/^}/s/return b\.turned;/return f.turned;/
