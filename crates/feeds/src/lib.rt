@@ -8,13 +8,13 @@ ghost use Rattle.combining.specs.Tapes.{deepOf, sourceOf, nextTape};
 ghost use Rattle.blocks.specs.Blocks.{blockIn};
 ghost use Rattle.reader.specs.declared.Opens.{Opens};
 ghost use Rattle.feeds.specs.Cite.{feedOn, feedOf, begunIn, readBy, arrived, begunFrom};
+use blocks::Block;
+use blocks::next_block;
 use edges::Edge;
 use edges::first_edge;
 use edges::second_edge;
-use blocks::Block;
 use reader::first_cursor;
 use work_table::get as row_at;
-use blocks::next_block;
 
 // An input at a part: inside its text, at the block that was read last, which begins with the part and is smaller; or at an edge
 pub struct Feed {
@@ -29,7 +29,8 @@ pub struct Begun {
     pub block: Block,
 }
 
-fn edge_of(f: Feed, b: Block) -> Edge
+// The edge that an input is at
+pub fn edge_of(f: Feed, b: Block) -> Edge
     ensures { λ r. ⌜ r ≡ record { number = f .number; turned = f .turned; size = b .cursor .run .size } ⌝ }
 {
     let c = b.cursor;
@@ -69,7 +70,8 @@ fn settle(i: u32, f: Feed, b: Block) -> Feed
     }
 }
 
-fn first_feed(t: &[[u32; 6]], i: u32, f: Feed, b: Block) -> Feed
+// THE FIRST HALF of a part of level i
+pub fn first_half(t: &[[u32; 6]], i: u32, f: Feed, b: Block) -> Feed
     ensures { λ r. ⌜ ((n : ℕ) (o : Opens) (s : List ℕ) → feedOn r b o s (now (t .entry)) ≡ firstFeed deepOf sourceOf (nextTape n) i (feedOn f b o s (now (t .entry)))) ⌝ }
 {
     let inside = f.inside;
@@ -121,18 +123,6 @@ pub fn begin(n: u32, s: &[u8], t: &mut [[u32; 6]], o: &mut [[u32; 4]; 32]) -> Be
     }
 }
 
-// THE FIRST HALF of a part of level i
-pub fn first_half(t: &[[u32; 6]], i: u32, x: Begun) -> Begun
-    ensures { λ r. ⌜ ((n : ℕ) (o : List (List ℕ)) (s : List ℕ) → begunIn r o s (now (t .entry)) ≡ firstFeed deepOf sourceOf (nextTape n) i (begunIn x o s (now (t .entry)))) ⌝ }
-{
-    let f = x.feed;
-    let b = x.block;
-    Begun {
-        feed: first_feed(t, i, f, b),
-        block: b,
-    }
-}
-
 // THE SECOND HALF of a part of level i that the input was at as f; b: the block that was read last
 pub fn second_half(
     n: u32,
@@ -152,23 +142,12 @@ pub fn second_half(
     }
 }
 
-// The edge that an input is at
-pub fn edge_at(x: Begun) -> Edge
-    ensures { λ r. ⌜ r ≡ record { number = x .feed .number; turned = x .feed .turned; size = x .block .cursor .run .size } ⌝ }
-{
-    let f = x.feed;
-    let b = x.block;
-    edge_of(f, b)
-}
-
 // What it decides at the first word of the part
-pub fn turn_of(x: Begun) -> bool
-    ensures { λ r. ⌜ r ≡ cond (x .feed .inside) (x .block .turned) (x .feed .turned) ⌝ }
+pub fn turn_of(f: Feed, b: Block) -> bool
+    ensures { λ r. ⌜ r ≡ cond (f .inside) (b .turned) (f .turned) ⌝ }
 {
-    let f = x.feed;
     let inside = f.inside;
     if inside {
-        let b = x.block;
         return b.turned;
     }
     f.turned

@@ -12,10 +12,10 @@ ghost use Rattle.engine.specs.Pending.{pushAll};
 ghost use Rattle.meeting.specs.Cite.{endingsOf, writtenOf, writingOf};
 ghost use Rattle.report.specs.Printing.{lineLimit, refusedText, wordsText, lastText, outputPart, reportText, reportIn};
 ghost use Rattle.report.specs.Lines.{lineOf, emptyLine, Holds};
+use checker::Refusal;
 use meeting::Ending;
 use meeting::Writing;
 use meeting::Written;
-use checker::Refusal;
 
 const OPTION_LIMIT: u32 = 32;
 

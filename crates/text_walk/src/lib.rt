@@ -12,9 +12,11 @@ ghost use Rattle.meeting.specs.Cite.{penOf};
 ghost use Rattle.feeds.specs.Cite.{feedOf, begunIn};
 ghost use Rattle.text_walk.specs.Cite.{turnOf, gapIn, gapBy, carriedOf, sentOf, walkTexts, nodesBy, streamBy};
 use applier::apply;
+use blocks::Block;
 use edges::operate;
 use feeds::Begun;
-use feeds::edge_at;
+use feeds::Feed;
+use feeds::edge_of;
 use feeds::first_half;
 use feeds::second_half;
 use feeds::turn_of;
@@ -33,7 +35,6 @@ use pending_text::push_number;
 use pending_text::push_turn;
 use pending_text::send;
 use pending_text::wait;
-use blocks::Block;
 
 // ---- The walk
 
@@ -45,24 +46,18 @@ pub struct Task {
     pub covered: u64,
 }
 
-fn is_inside(x: Begun) -> bool
-    ensures { λ r. ⌜ r ≡ x .feed .inside ⌝ }
-{
-    let f = x.feed;
-    f.inside
-}
-
 // No option is left, or no input is in its text.
-fn at_edges(d: u32, f: Begun, g: Begun) -> bool
-    ensures { λ r. ⌜ r ≡ (eqb d 0 || not (f .feed .inside || (g .feed .inside || false))) ⌝ }
+fn at_edges(d: u32, f: Feed, g: Feed) -> bool
+    ensures { λ r. ⌜ r ≡ (eqb d 0 || not (f .inside || (g .inside || false))) ⌝ }
 {
     if d == 0 {
         return true;
     }
-    if is_inside(f) {
+    let inside = f.inside;
+    if inside {
         return false;
     }
-    !is_inside(g)
+    !g.inside
 }
 
 // What a part came to, with the block of each input that was read last; the first word that is not covered was met
@@ -121,12 +116,11 @@ fn first_on(
     s: &[u8],
     t: &mut [[u32; 6]],
     o: &mut [[u32; 4]; 32],
-    x: Begun,
+    f: Feed,
     a: Applied,
 ) -> Begun
-    ensures { λ r. ⌜ begunIn r (now (o .exit)) (now (s .entry)) (now (t .exit)) ≡ secondFeed deepOf sourceOf (nextTape n) i (feedOf (x .feed) (a .first) (now (o .entry)) (now (s .entry)) (now (t .entry))) ⌝ }
+    ensures { λ r. ⌜ begunIn r (now (o .exit)) (now (s .entry)) (now (t .exit)) ≡ secondFeed deepOf sourceOf (nextTape n) i (feedOf f (a .first) (now (o .entry)) (now (s .entry)) (now (t .entry))) ⌝ }
 {
-    let f = x.feed;
     let b = a.first;
     second_half(n, i, s, t, o, f, b)
 }
@@ -137,12 +131,11 @@ fn second_on(
     s: &[u8],
     t: &mut [[u32; 6]],
     o: &mut [[u32; 4]; 32],
-    x: Begun,
+    f: Feed,
     a: Applied,
 ) -> Begun
-    ensures { λ r. ⌜ begunIn r (now (o .exit)) (now (s .entry)) (now (t .exit)) ≡ secondFeed deepOf sourceOf (nextTape n) i (feedOf (x .feed) (a .second) (now (o .entry)) (now (s .entry)) (now (t .entry))) ⌝ }
+    ensures { λ r. ⌜ begunIn r (now (o .exit)) (now (s .entry)) (now (t .exit)) ≡ secondFeed deepOf sourceOf (nextTape n) i (feedOf f (a .second) (now (o .entry)) (now (s .entry)) (now (t .entry))) ⌝ }
 {
-    let f = x.feed;
     let b = a.second;
     second_half(n, i, s, t, o, f, b)
 }
@@ -162,7 +155,9 @@ fn cross(op: u32, m: usize, f: Begun, g: Begun, a: Applied, w: &mut [u8]) -> Gap
     let r = walked_of(a);
     let h = half_of(r);
     let z = pen_of(r);
-    let u = differs(h.complement, operate(op, turn_of(f), turn_of(g)));
+    let c = turn_of(f.feed, f.block);
+    let d = turn_of(g.feed, g.block);
+    let u = differs(h.complement, operate(op, c, d));
     let q = wait(w, m, h.wrote, h.skipped, h.number);
     let v = push_turn(w, q, u);
     Gap {
@@ -185,15 +180,13 @@ fn met(x: Walked, b: Applied) -> Applied
     }
 }
 
-fn went_on(x: Walked, f: Begun, g: Begun) -> Applied
-    ensures { λ r. ⌜ r ≡ record { walked = x; first = f .block; second = g .block; ended = false } ⌝ }
+fn went_on(x: Walked, b1: Block, b2: Block) -> Applied
+    ensures { λ r. ⌜ r ≡ record { walked = x; first = b1; second = b2; ended = false } ⌝ }
 {
-    let b = f.block;
-    let c = g.block;
     Applied {
         walked: x,
-        first: b,
-        second: c,
+        first: b1,
+        second: b2,
         ended: false,
     }
 }
@@ -208,8 +201,10 @@ fn texts(
     m: usize,
     x: &[u8],
     y: &[u8],
-    f: Begun,
-    g: Begun,
+    f: Feed,
+    g: Feed,
+    b1: Block,
+    b2: Block,
     o1: &mut [[u32; 4]; 32],
     o2: &mut [[u32; 4]; 32],
     t1: &mut [[u32; 6]],
@@ -221,20 +216,20 @@ fn texts(
     pen: Pen,
 ) -> Applied
     requires { ⌜ (d ≤ 32) × ((i + d ≤ 33) × (at + 2 ^ d ≤ 4294967296)) ⌝ }
-    ensures { λ r. ⌜ carriedOf r (now (x .entry)) (now (y .entry)) (now (o1 .exit)) (now (o2 .exit)) (now (t1 .exit)) (now (t2 .exit)) (now (t .exit)) (now (out .exit)) (now (w .exit)) (now (c .exit)) ≡ walkTexts k d i at m (begunIn f (now (o1 .entry)) (now (x .entry)) (now (t1 .entry)) ∷ begunIn g (now (o2 .entry)) (now (y .entry)) (now (t2 .entry)) ∷ []) (now (c .entry)) (now (t .entry)) (now (out .entry)) (now (w .entry)) (penOf pen) ⌝ }
+    ensures { λ r. ⌜ carriedOf r (now (x .entry)) (now (y .entry)) (now (o1 .exit)) (now (o2 .exit)) (now (t1 .exit)) (now (t2 .exit)) (now (t .exit)) (now (out .exit)) (now (w .exit)) (now (c .exit)) ≡ walkTexts k d i at m (feedOf f b1 (now (o1 .entry)) (now (x .entry)) (now (t1 .entry)) ∷ feedOf g b2 (now (o2 .entry)) (now (y .entry)) (now (t2 .entry)) ∷ []) (now (c .entry)) (now (t .entry)) (now (out .entry)) (now (w .entry)) (penOf pen) ⌝ }
 {
     if at_edges(d, f, g) {
-        let p = edge_at(f);
-        let q = edge_at(g);
+        let p = edge_of(f, b1);
+        let q = edge_of(g, b2);
         let r = apply(k.op, k.size, d, i, m, p, q, t1, t2, t, out, w, c, pen);
-        return went_on(r, f, g);
+        return went_on(r, b1, b2);
     }
     let e = d - 1;
     let j = i + 1;
     let mid = at + (1u64 << e);
     let p = push(w, m, b'(');
-    let f1 = first_half(t1, i, f);
-    let g1 = first_half(t2, i, g);
+    let f1 = first_half(t1, i, f, b1);
+    let g1 = first_half(t2, i, g, b2);
     let a = texts(
         k,
         e,
@@ -245,6 +240,8 @@ fn texts(
         y,
         f1,
         g1,
+        b1,
+        b2,
         o1,
         o2,
         t1,
@@ -273,8 +270,10 @@ fn texts(
         n.count,
         x,
         y,
-        f2,
-        g2,
+        f2.feed,
+        g2.feed,
+        f2.block,
+        g2.block,
         o1,
         o2,
         t1,
@@ -331,9 +330,34 @@ fn nodes(
     requires { ⌜ k .n ≤ 32 ⌝ }
     ensures { λ r. ⌜ sentOf r (now (out .exit)) (now (w .exit)) ≡ nodesBy k (begunIn f (now (o1 .entry)) (now (x .entry)) (now (t1 .entry)) ∷ begunIn g (now (o2 .entry)) (now (y .entry)) (now (t2 .entry)) ∷ []) (now (c .entry)) (now (t .entry)) (sentOf head (now (out .entry)) (now (w .entry))) ⌝ }
 {
-    let m = push_turn(w, 0, operate(k.op, turn_of(f), turn_of(g)));
+    let m = push_turn(
+        w,
+        0,
+        operate(k.op, turn_of(f.feed, f.block), turn_of(g.feed, g.block)),
+    );
     let z = pen_after(head);
-    let a = texts(k, k.n, 1, 0, m, x, y, f, g, o1, o2, t1, t2, t, out, w, c, z);
+    let a = texts(
+        k,
+        k.n,
+        1,
+        0,
+        m,
+        x,
+        y,
+        f.feed,
+        g.feed,
+        f.block,
+        g.block,
+        o1,
+        o2,
+        t1,
+        t2,
+        t,
+        out,
+        w,
+        c,
+        z,
+    );
     finish(k.n, k.covered, m, a, out, w)
 }
 

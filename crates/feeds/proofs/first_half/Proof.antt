@@ -1,13 +1,33 @@
--- The input there, beside the block that was read last. Assumes nothing.
-use Rattle.reader.specs.Lent.{opensIn}
+-- It settles in its text, or goes on from its edge. Assumes nothing.
+use mathlib.Core.Path.{_∙_}
+use Rattle.combining.specs.Tapes.{deepOf, sourceOf, nextTape}
+use Rattle.combining.specs.EdgeMade.{first-inside}
+use Rattle.feeds.specs.Cite.{feedOn}
+use Rattle.feeds.specs.FeedMade.{first-gone}
+use borrow.Author.Needs.{needs}
 use Rattle.feeds.proofs.first_half.Statement.{statement}
 use Rattle.feeds.proofs.first_half.Tie as tie
 
-first-feed-requires : tie.Need-first-feed-requires
-first-feed-requires c κs = tt
+settle-requires : tie.Need-settle-requires
+settle-requires c κs = tt
 
 returns : tie.Need-returns
-returns c = λ n o s. c .first-feed .ensures n (opensIn o (c .before .before .before .args .x .block .cursor .depth)) s
+returns c = λ n o s. c .settle .ensures n o s (c .before .before .args .t .now) ∙ first-inside deepOf sourceOf (nextTape n) (c .before .before .args .i) (feedOn (c .before .before .args .f) (c .before .before .args .b) o s (c .before .before .args .t .now)) (c .before .if1 .taken)
+
+edge-of-requires : tie.Need-edge-of-requires
+edge-of-requires c κs = tt
+
+get-requires : tie.Need-get-requires
+get-requires c κs = tt
+
+first-edge-requires : tie.Need-first-edge-requires
+first-edge-requires c κs = tt
+
+at-edge-requires : tie.Need-at-edge-requires
+at-edge-requires c κs = tt
+
+returns-2 : tie.Need-returns-2
+returns-2 c = λ n o s. first-gone n (c .before .before .before .before .before .args .i) o s (c .before .before .before .before .before .args .t .now) (c .before .before .before .before .before .args .f) (c .at-edge .result) (c .before .before .before .before .before .args .b) (c .before .first-edge .result) (c .before .before .before .edge-of .result) (c .at-edge .ensures) (c .before .before .before .before .if1 .left) (c .before .before .before .edge-of .ensures) (c .before .first-edge .ensures (c .before .before .before .before .before .args .t .now) (c .before .before .get .ensures))
 
 pub first-half-spec : {M : Type 1} → statement M
-first-half-spec = tie.close (tie.spec first-feed-requires returns)
+first-half-spec = tie.close (tie.spec settle-requires returns edge-of-requires get-requires first-edge-requires at-edge-requires returns-2)

@@ -4,7 +4,7 @@ use Rattle.feeds.proofs.turn_of.Statement.{statement}
 use Rattle.feeds.proofs.turn_of.Tie as tie
 
 returns : tie.Need-returns
-returns c = rw (c .before .if1 .taken) refl
+returns c = rw (c .if1 .taken) refl
 
 returns-2 : tie.Need-returns-2
 returns-2 c = rw (c .if1 .left) refl

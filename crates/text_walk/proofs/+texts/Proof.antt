@@ -7,7 +7,7 @@ use Rattle.text_walk.proofs.texts.Kinds as texts-kinds
 use Rattle.text_walk.proofs.+texts.Lts-texts as texts-lts
 use Rattle.text_walk.proofs.texts.Reads as texts
 use Rattle.applier.proofs.apply.Reads as apply
-use Rattle.feeds.proofs.edge_at.Reads as edge-at
+use Rattle.feeds.proofs.edge_of.Reads as edge-of
 use Rattle.feeds.proofs.first_half.Reads as first-half
 use Rattle.meeting.proofs.second.Reads as second
 use Rattle.pending_text.proofs.push.Reads as push
@@ -32,7 +32,8 @@ use Rattle.lists.specs.Powers.{both-halves}
 use Rattle.meeting.specs.Cite.{penOf}
 use Rattle.edges.specs.Cite.{edgeIn}
 use Rattle.edges.specs.declared.Edge.{Edge}
-use Rattle.feeds.specs.Cite.{tapeOf, begunIn}
+use Rattle.reader.specs.Lent.{opensIn}
+use Rattle.feeds.specs.Cite.{tapeOf, feedOf, begunIn}
 use Rattle.text_walk.specs.Cite.{gapIn}
 use Rattle.text_walk.specs.TextsMade.{one-down, first-asks, second-asks, texts-edges, texts-halted, texts-ended, texts-done, texts-on}
 
@@ -51,8 +52,8 @@ module _ (t : ℕ) where
   K = (
     at-edges.Asked,
     at-edges.Learnt,
-    edge-at.Asked,
-    edge-at.Learnt,
+    edge-of.Asked,
+    edge-of.Learnt,
     apply.Asked,
     apply.Learnt,
     went-on.Asked,
@@ -84,11 +85,11 @@ module _ (t : ℕ) where
   at-edges-requires : texts-lts.Need-at-edges-requires K (at t) texts.Post
   at-edges-requires c κs = tt
 
-  edge-at-requires : texts-lts.Need-edge-at-requires K (at t) texts.Post
-  edge-at-requires c κs = tt
+  edge-of-requires : texts-lts.Need-edge-of-requires K (at t) texts.Post
+  edge-of-requires c κs = tt
 
-  edge-at-requires-2 : texts-lts.Need-edge-at-requires-2 K (at t) texts.Post
-  edge-at-requires-2 c κs = tt
+  edge-of-requires-2 : texts-lts.Need-edge-of-requires-2 K (at t) texts.Post
+  edge-of-requires-2 c κs = tt
 
   apply-requires : texts-lts.Need-apply-requires K (at t) texts.Post
   apply-requires c κs = tt
@@ -130,15 +131,15 @@ module _ (t : ℕ) where
       let c22 = c17 .before .before .before .before .before in
       let a = c22 .args in
       let l = c7 .apply .last .1 .1 .1 .1 .1 .1 .1 .1 .1 in
-      rw (c .went-on .ensures) (texts-edges (a .k) (a .d) (a .i) (a .at) (a .m) (begunIn (a .f) (a .o1 .now) (a .x .now) (a .t1 .now)) (begunIn (a .g) (a .o2 .now) (a .y .now) (a .t2 .now)) (a .c .now) (a .t .now) (a .out .now) (a .w .now) (penOf (a .pen))
-      (edgeIn (c15 .edge-at .result) (a .t1 .now)) (edgeIn (c14 .edge-at2 .result) (a .t2 .now)) (c7 .apply .result) (l .0) (l .1 .0) (l .1 .1 .0) (l .1 .1 .1 .0) (sym (c17 .at-edges .ensures) ∙ c16 .if1 .taken) (omega (arith, c22 .pre)) (omega (arith, c22 .pre))
-      (ap (λ (e : Edge). edgeIn e (a .t1 .now)) (c15 .edge-at .ensures)) (ap (λ (e : Edge). edgeIn e (a .t2 .now)) (c14 .edge-at2 .ensures)) (c7 .apply .ensures))
+      rw (c .went-on .ensures) (texts-edges (a .k) (a .d) (a .i) (a .at) (a .m) (feedOf (a .f) (a .b1) (a .o1 .now) (a .x .now) (a .t1 .now)) (feedOf (a .g) (a .b2) (a .o2 .now) (a .y .now) (a .t2 .now)) (a .c .now) (a .t .now) (a .out .now) (a .w .now) (penOf (a .pen))
+      (edgeIn (c15 .edge-of .result) (a .t1 .now)) (edgeIn (c14 .edge-of2 .result) (a .t2 .now)) (c7 .apply .result) (l .0) (l .1 .0) (l .1 .1 .0) (l .1 .1 .1 .0) (sym (c17 .at-edges .ensures) ∙ c16 .if1 .taken) (omega (arith, c22 .pre)) (omega (arith, c22 .pre))
+      (ap (λ (e : Edge). edgeIn e (a .t1 .now)) (c15 .edge-of .ensures)) (ap (λ (e : Edge). edgeIn e (a .t2 .now)) (c14 .edge-of2 .ensures)) (c7 .apply .ensures))
 
   sub-e : texts-lts.Need-sub-e K (at t) texts.Post
   sub-e c =
       let c1 = c .before in
       let c6 = c1 .before .before .before .before .before in
-      let a = c6 .args in let z = inside-option (a .d) (a .f .feed .inside || (a .g .feed .inside || false)) (sym (c1 .at-edges .ensures) ∙ c .if1 .left) in omega (arith, z)
+      let a = c6 .args in let z = inside-option (a .d) (a .f .inside || (a .g .inside || false)) (sym (c1 .at-edges .ensures) ∙ c .if1 .left) in omega (arith, z)
 
   add-j : texts-lts.Need-add-j K (at t) texts.Post
   add-j c =
@@ -155,7 +156,7 @@ module _ (t : ℕ) where
   add-mid c =
       let c1 = c .before in
       let c6 = c1 .before .before .before .before .before in
-      let a = c6 .args in let z = inside-option (a .d) (a .f .feed .inside || (a .g .feed .inside || false)) (sym (c1 .at-edges .ensures) ∙ c .if1 .left) in
+      let a = c6 .args in let z = inside-option (a .d) (a .f .inside || (a .g .inside || false)) (sym (c1 .at-edges .ensures) ∙ c .if1 .left) in
       omega (arith, c6 .pre, z, shift-words (a .d - 1) (omega (arith, c6 .pre)), both-halves (a .d) (λ e. omega (arith, e, z)))
 
   push-requires : texts-lts.Need-push-requires K (at t) texts.Post
@@ -172,7 +173,7 @@ module _ (t : ℕ) where
       let c16 = c .before .before .before .before .before .before .before .before .before .before .before .before .before .before .before .before in
       let c17 = c16 .before in
       let c22 = c17 .before .before .before .before .before in
-      let a = c22 .args in let z = inside-option (a .d) (a .f .feed .inside || (a .g .feed .inside || false)) (sym (c17 .at-edges .ensures) ∙ c16 .if1 .left) in first-asks (a .d) (a .i) (a .at) t (c22 .pre) z
+      let a = c22 .args in let z = inside-option (a .d) (a .f .inside || (a .g .inside || false)) (sym (c17 .at-edges .ensures) ∙ c16 .if1 .left) in first-asks (a .d) (a .i) (a .at) t (c22 .pre) z
 
   is-halted-requires : texts-lts.Need-is-halted-requires K (at t) texts.Post
   is-halted-requires c κs = tt
@@ -216,10 +217,10 @@ module _ (t : ℕ) where
       let c27 = c25 .before .before in
       let c28 = c27 .before in
       let c33 = c28 .before .before .before .before .before in
-      let a = c33 .args in let l = c10 .texts .last .1 .1 .1 .1 .1 .1 .1 .1 .1 in let z = inside-option (a .d) (a .f .feed .inside || (a .g .feed .inside || false)) (sym (c28 .at-edges .ensures) ∙ c27 .if1 .left) in
-      texts-halted (a .k) (a .d) (a .i) (a .at) (a .m) (begunIn (a .f) (a .o1 .now) (a .x .now) (a .t1 .now)) (begunIn (a .g) (a .o2 .now) (a .y .now) (a .t2 .now)) (a .c .now) (a .t .now) (a .out .now) (a .w .now) (penOf (a .pen))
-      (a .d - 1) (one-down (a .d) z) (sym (c28 .at-edges .ensures) ∙ c27 .if1 .left) (begunIn (c21 .first-half .result) (a .o1 .now) (a .x .now) (a .t1 .now)) (begunIn (c19 .first-half2 .result) (a .o2 .now) (a .y .now) (a .t2 .now)) (record { bytes = c25 .push .last .0; count = c25 .push .result }) (c10 .texts .result) (tapeOf (c10 .texts .result .first) (l .0) (a .x .now) (l .1 .1 .0)) (tapeOf (c10 .texts .result .second) (l .1 .0) (a .y .now) (l .1 .1 .1 .0)) (l .1 .1 .1 .1 .0) (l .1 .1 .1 .1 .1 .0) (l .1 .1 .1 .1 .1 .1 .0) (l .1 .1 .1 .1 .1 .1 .1 .0)
-      (c21 .first-half .ensures (a .k .n) (a .o1 .now) (a .x .now)) (c19 .first-half2 .ensures (a .k .n) (a .o2 .now) (a .y .now)) (c25 .push .ensures) (c10 .texts .ensures)
+      let a = c33 .args in let l = c10 .texts .last .1 .1 .1 .1 .1 .1 .1 .1 .1 .1 .1 in let z = inside-option (a .d) (a .f .inside || (a .g .inside || false)) (sym (c28 .at-edges .ensures) ∙ c27 .if1 .left) in
+      texts-halted (a .k) (a .d) (a .i) (a .at) (a .m) (feedOf (a .f) (a .b1) (a .o1 .now) (a .x .now) (a .t1 .now)) (feedOf (a .g) (a .b2) (a .o2 .now) (a .y .now) (a .t2 .now)) (a .c .now) (a .t .now) (a .out .now) (a .w .now) (penOf (a .pen))
+      (a .d - 1) (one-down (a .d) z) (sym (c28 .at-edges .ensures) ∙ c27 .if1 .left) (feedOf (c21 .first-half .result) (a .b1) (a .o1 .now) (a .x .now) (a .t1 .now)) (feedOf (c19 .first-half2 .result) (a .b2) (a .o2 .now) (a .y .now) (a .t2 .now)) (record { bytes = c25 .push .last .0; count = c25 .push .result }) (c10 .texts .result) (tapeOf (c10 .texts .result .first) (l .0) (a .x .now) (l .1 .1 .0)) (tapeOf (c10 .texts .result .second) (l .1 .0) (a .y .now) (l .1 .1 .1 .0)) (l .1 .1 .1 .1 .0) (l .1 .1 .1 .1 .1 .0) (l .1 .1 .1 .1 .1 .1 .0) (l .1 .1 .1 .1 .1 .1 .1 .0)
+      (c21 .first-half .ensures (a .k .n) (opensIn (a .o1 .now) (a .b1 .cursor .depth)) (a .x .now)) (c19 .first-half2 .ensures (a .k .n) (opensIn (a .o2 .now) (a .b2 .cursor .depth)) (a .y .now)) (c25 .push .ensures) (c10 .texts .ensures)
       (c1 .is-halted .result) (c1 .is-halted .ensures) (c .if2 .taken)
 
   ended-at-requires : texts-lts.Need-ended-at-requires K (at t) texts.Post
@@ -268,10 +269,10 @@ module _ (t : ℕ) where
       let c30 = c28 .before .before in
       let c31 = c30 .before in
       let c36 = c31 .before .before .before .before .before in
-      let a = c36 .args in let l = c13 .texts .last .1 .1 .1 .1 .1 .1 .1 .1 .1 in let z = inside-option (a .d) (a .f .feed .inside || (a .g .feed .inside || false)) (sym (c31 .at-edges .ensures) ∙ c30 .if1 .left) in
-      rw (c .ended-at .ensures) (texts-ended (a .k) (a .d) (a .i) (a .at) (a .m) (begunIn (a .f) (a .o1 .now) (a .x .now) (a .t1 .now)) (begunIn (a .g) (a .o2 .now) (a .y .now) (a .t2 .now)) (a .c .now) (a .t .now) (a .out .now) (a .w .now) (penOf (a .pen))
-      (a .d - 1) (one-down (a .d) z) (sym (c31 .at-edges .ensures) ∙ c30 .if1 .left) (begunIn (c24 .first-half .result) (a .o1 .now) (a .x .now) (a .t1 .now)) (begunIn (c22 .first-half2 .result) (a .o2 .now) (a .y .now) (a .t2 .now)) (record { bytes = c28 .push .last .0; count = c28 .push .result }) (c13 .texts .result) (tapeOf (c13 .texts .result .first) (l .0) (a .x .now) (l .1 .1 .0)) (tapeOf (c13 .texts .result .second) (l .1 .0) (a .y .now) (l .1 .1 .1 .0)) (l .1 .1 .1 .1 .0) (l .1 .1 .1 .1 .1 .0) (l .1 .1 .1 .1 .1 .1 .0) (l .1 .1 .1 .1 .1 .1 .1 .0)
-      (c24 .first-half .ensures (a .k .n) (a .o1 .now) (a .x .now)) (c22 .first-half2 .ensures (a .k .n) (a .o2 .now) (a .y .now)) (c28 .push .ensures) (c13 .texts .ensures)
+      let a = c36 .args in let l = c13 .texts .last .1 .1 .1 .1 .1 .1 .1 .1 .1 .1 .1 in let z = inside-option (a .d) (a .f .inside || (a .g .inside || false)) (sym (c31 .at-edges .ensures) ∙ c30 .if1 .left) in
+      rw (c .ended-at .ensures) (texts-ended (a .k) (a .d) (a .i) (a .at) (a .m) (feedOf (a .f) (a .b1) (a .o1 .now) (a .x .now) (a .t1 .now)) (feedOf (a .g) (a .b2) (a .o2 .now) (a .y .now) (a .t2 .now)) (a .c .now) (a .t .now) (a .out .now) (a .w .now) (penOf (a .pen))
+      (a .d - 1) (one-down (a .d) z) (sym (c31 .at-edges .ensures) ∙ c30 .if1 .left) (feedOf (c24 .first-half .result) (a .b1) (a .o1 .now) (a .x .now) (a .t1 .now)) (feedOf (c22 .first-half2 .result) (a .b2) (a .o2 .now) (a .y .now) (a .t2 .now)) (record { bytes = c28 .push .last .0; count = c28 .push .result }) (c13 .texts .result) (tapeOf (c13 .texts .result .first) (l .0) (a .x .now) (l .1 .1 .0)) (tapeOf (c13 .texts .result .second) (l .1 .0) (a .y .now) (l .1 .1 .1 .0)) (l .1 .1 .1 .1 .0) (l .1 .1 .1 .1 .1 .0) (l .1 .1 .1 .1 .1 .1 .0) (l .1 .1 .1 .1 .1 .1 .1 .0)
+      (c24 .first-half .ensures (a .k .n) (opensIn (a .o1 .now) (a .b1 .cursor .depth)) (a .x .now)) (c22 .first-half2 .ensures (a .k .n) (opensIn (a .o2 .now) (a .b2 .cursor .depth)) (a .y .now)) (c28 .push .ensures) (c13 .texts .ensures)
       (1 * 2 ^ (a .d - 1) % 18446744073709551616) (shift-words (a .d - 1) (omega (arith, c36 .pre))) (c4 .is-halted .result) (c4 .is-halted .ensures) (c3 .if2 .left)
       (c1 .if3 .taken))
 
@@ -289,7 +290,7 @@ module _ (t : ℕ) where
       let c50 = c .before .before .before .before .before .before .before .before .before .before .before .before .before .before .before .before .before .before .before .before .before .before .before .before .before .before .before .before .before .before .before .before .before .before .before .before .before .before .before .before .before .before .before .before .before .before .before .before .before .before in
       let c51 = c50 .before in
       let c56 = c51 .before .before .before .before .before in
-      let a = c56 .args in let z = inside-option (a .d) (a .f .feed .inside || (a .g .feed .inside || false)) (sym (c51 .at-edges .ensures) ∙ c50 .if1 .left) in
+      let a = c56 .args in let z = inside-option (a .d) (a .f .inside || (a .g .inside || false)) (sym (c51 .at-edges .ensures) ∙ c50 .if1 .left) in
       second-asks (a .d) (a .i) (a .at) t (1 * 2 ^ (a .d - 1) % 18446744073709551616) (c56 .pre) z (shift-words (a .d - 1) (omega (arith, c56 .pre)))
 
   is-halted-requires-2 : texts-lts.Need-is-halted-requires-2 K (at t) texts.Post
@@ -352,10 +353,10 @@ module _ (t : ℕ) where
       let c61 = c59 .before .before in
       let c62 = c61 .before in
       let c67 = c62 .before .before .before .before .before in
-      let a = c67 .args in let l = c44 .texts .last .1 .1 .1 .1 .1 .1 .1 .1 .1 in let q = c10 .texts2 .last .1 .1 .1 .1 .1 .1 .1 .1 .1 in let z = inside-option (a .d) (a .f .feed .inside || (a .g .feed .inside || false)) (sym (c62 .at-edges .ensures) ∙ c61 .if1 .left) in
-      texts-done (a .k) (a .d) (a .i) (a .at) (a .m) (begunIn (a .f) (a .o1 .now) (a .x .now) (a .t1 .now)) (begunIn (a .g) (a .o2 .now) (a .y .now) (a .t2 .now)) (a .c .now) (a .t .now) (a .out .now) (a .w .now) (penOf (a .pen))
-      (a .d - 1) (one-down (a .d) z) (sym (c62 .at-edges .ensures) ∙ c61 .if1 .left) (begunIn (c55 .first-half .result) (a .o1 .now) (a .x .now) (a .t1 .now)) (begunIn (c53 .first-half2 .result) (a .o2 .now) (a .y .now) (a .t2 .now)) (record { bytes = c59 .push .last .0; count = c59 .push .result }) (c44 .texts .result) (tapeOf (c44 .texts .result .first) (l .0) (a .x .now) (l .1 .1 .0)) (tapeOf (c44 .texts .result .second) (l .1 .0) (a .y .now) (l .1 .1 .1 .0)) (l .1 .1 .1 .1 .0) (l .1 .1 .1 .1 .1 .0) (l .1 .1 .1 .1 .1 .1 .0) (l .1 .1 .1 .1 .1 .1 .1 .0)
-      (c55 .first-half .ensures (a .k .n) (a .o1 .now) (a .x .now)) (c53 .first-half2 .ensures (a .k .n) (a .o2 .now) (a .y .now)) (c59 .push .ensures) (c44 .texts .ensures)
+      let a = c67 .args in let l = c44 .texts .last .1 .1 .1 .1 .1 .1 .1 .1 .1 .1 .1 in let q = c10 .texts2 .last .1 .1 .1 .1 .1 .1 .1 .1 .1 .1 .1 in let z = inside-option (a .d) (a .f .inside || (a .g .inside || false)) (sym (c62 .at-edges .ensures) ∙ c61 .if1 .left) in
+      texts-done (a .k) (a .d) (a .i) (a .at) (a .m) (feedOf (a .f) (a .b1) (a .o1 .now) (a .x .now) (a .t1 .now)) (feedOf (a .g) (a .b2) (a .o2 .now) (a .y .now) (a .t2 .now)) (a .c .now) (a .t .now) (a .out .now) (a .w .now) (penOf (a .pen))
+      (a .d - 1) (one-down (a .d) z) (sym (c62 .at-edges .ensures) ∙ c61 .if1 .left) (feedOf (c55 .first-half .result) (a .b1) (a .o1 .now) (a .x .now) (a .t1 .now)) (feedOf (c53 .first-half2 .result) (a .b2) (a .o2 .now) (a .y .now) (a .t2 .now)) (record { bytes = c59 .push .last .0; count = c59 .push .result }) (c44 .texts .result) (tapeOf (c44 .texts .result .first) (l .0) (a .x .now) (l .1 .1 .0)) (tapeOf (c44 .texts .result .second) (l .1 .0) (a .y .now) (l .1 .1 .1 .0)) (l .1 .1 .1 .1 .0) (l .1 .1 .1 .1 .1 .0) (l .1 .1 .1 .1 .1 .1 .0) (l .1 .1 .1 .1 .1 .1 .1 .0)
+      (c55 .first-half .ensures (a .k .n) (opensIn (a .o1 .now) (a .b1 .cursor .depth)) (a .x .now)) (c53 .first-half2 .ensures (a .k .n) (opensIn (a .o2 .now) (a .b2 .cursor .depth)) (a .y .now)) (c59 .push .ensures) (c44 .texts .ensures)
       (1 * 2 ^ (a .d - 1) % 18446744073709551616) (shift-words (a .d - 1) (omega (arith, c67 .pre))) (c35 .is-halted .result) (c35 .is-halted .ensures) (c34 .if2 .left)
       (omega (arith, c32 .if3 .left)) (begunIn (c29 .first-on .result) (c29 .first-on .last .1 .1 .1 .1 .0) (a .x .now) (c29 .first-on .last .1 .1 .1 .0)) (begunIn (c25 .second-on .result) (c25 .second-on .last .1 .1 .1 .1 .0) (a .y .now) (c25 .second-on .last .1 .1 .1 .0)) (gapIn (c22 .cross .result) (c22 .cross .last .1 .1 .1 .1 .1 .0)) (c10 .texts2 .result) (tapeOf (c10 .texts2 .result .first) (q .0) (a .x .now) (q .1 .1 .0)) (tapeOf (c10 .texts2 .result .second) (q .1 .0) (a .y .now) (q .1 .1 .1 .0)) (q .1 .1 .1 .1 .0) (q .1 .1 .1 .1 .1 .0) (q .1 .1 .1 .1 .1 .1 .0) (q .1 .1 .1 .1 .1 .1 .1 .0)
       (c29 .first-on .ensures) (c25 .second-on .ensures) (c22 .cross .ensures) (c10 .texts2 .ensures)
@@ -433,10 +434,10 @@ module _ (t : ℕ) where
       let c73 = c71 .before .before in
       let c74 = c73 .before in
       let c79 = c74 .before .before .before .before .before in
-      let a = c79 .args in let l = c56 .texts .last .1 .1 .1 .1 .1 .1 .1 .1 .1 in let q = c22 .texts2 .last .1 .1 .1 .1 .1 .1 .1 .1 .1 in let z = inside-option (a .d) (a .f .feed .inside || (a .g .feed .inside || false)) (sym (c74 .at-edges .ensures) ∙ c73 .if1 .left) in
-      rw (c .met .ensures) (texts-on (a .k) (a .d) (a .i) (a .at) (a .m) (begunIn (a .f) (a .o1 .now) (a .x .now) (a .t1 .now)) (begunIn (a .g) (a .o2 .now) (a .y .now) (a .t2 .now)) (a .c .now) (a .t .now) (a .out .now) (a .w .now) (penOf (a .pen))
-      (a .d - 1) (one-down (a .d) z) (sym (c74 .at-edges .ensures) ∙ c73 .if1 .left) (begunIn (c67 .first-half .result) (a .o1 .now) (a .x .now) (a .t1 .now)) (begunIn (c65 .first-half2 .result) (a .o2 .now) (a .y .now) (a .t2 .now)) (record { bytes = c71 .push .last .0; count = c71 .push .result }) (c56 .texts .result) (tapeOf (c56 .texts .result .first) (l .0) (a .x .now) (l .1 .1 .0)) (tapeOf (c56 .texts .result .second) (l .1 .0) (a .y .now) (l .1 .1 .1 .0)) (l .1 .1 .1 .1 .0) (l .1 .1 .1 .1 .1 .0) (l .1 .1 .1 .1 .1 .1 .0) (l .1 .1 .1 .1 .1 .1 .1 .0)
-      (c67 .first-half .ensures (a .k .n) (a .o1 .now) (a .x .now)) (c65 .first-half2 .ensures (a .k .n) (a .o2 .now) (a .y .now)) (c71 .push .ensures) (c56 .texts .ensures)
+      let a = c79 .args in let l = c56 .texts .last .1 .1 .1 .1 .1 .1 .1 .1 .1 .1 .1 in let q = c22 .texts2 .last .1 .1 .1 .1 .1 .1 .1 .1 .1 .1 .1 in let z = inside-option (a .d) (a .f .inside || (a .g .inside || false)) (sym (c74 .at-edges .ensures) ∙ c73 .if1 .left) in
+      rw (c .met .ensures) (texts-on (a .k) (a .d) (a .i) (a .at) (a .m) (feedOf (a .f) (a .b1) (a .o1 .now) (a .x .now) (a .t1 .now)) (feedOf (a .g) (a .b2) (a .o2 .now) (a .y .now) (a .t2 .now)) (a .c .now) (a .t .now) (a .out .now) (a .w .now) (penOf (a .pen))
+      (a .d - 1) (one-down (a .d) z) (sym (c74 .at-edges .ensures) ∙ c73 .if1 .left) (feedOf (c67 .first-half .result) (a .b1) (a .o1 .now) (a .x .now) (a .t1 .now)) (feedOf (c65 .first-half2 .result) (a .b2) (a .o2 .now) (a .y .now) (a .t2 .now)) (record { bytes = c71 .push .last .0; count = c71 .push .result }) (c56 .texts .result) (tapeOf (c56 .texts .result .first) (l .0) (a .x .now) (l .1 .1 .0)) (tapeOf (c56 .texts .result .second) (l .1 .0) (a .y .now) (l .1 .1 .1 .0)) (l .1 .1 .1 .1 .0) (l .1 .1 .1 .1 .1 .0) (l .1 .1 .1 .1 .1 .1 .0) (l .1 .1 .1 .1 .1 .1 .1 .0)
+      (c67 .first-half .ensures (a .k .n) (opensIn (a .o1 .now) (a .b1 .cursor .depth)) (a .x .now)) (c65 .first-half2 .ensures (a .k .n) (opensIn (a .o2 .now) (a .b2 .cursor .depth)) (a .y .now)) (c71 .push .ensures) (c56 .texts .ensures)
       (1 * 2 ^ (a .d - 1) % 18446744073709551616) (shift-words (a .d - 1) (omega (arith, c79 .pre))) (c47 .is-halted .result) (c47 .is-halted .ensures) (c46 .if2 .left)
       (omega (arith, c44 .if3 .left)) (begunIn (c41 .first-on .result) (c41 .first-on .last .1 .1 .1 .1 .0) (a .x .now) (c41 .first-on .last .1 .1 .1 .0)) (begunIn (c37 .second-on .result) (c37 .second-on .last .1 .1 .1 .1 .0) (a .y .now) (c37 .second-on .last .1 .1 .1 .0)) (gapIn (c34 .cross .result) (c34 .cross .last .1 .1 .1 .1 .1 .0)) (c22 .texts2 .result) (tapeOf (c22 .texts2 .result .first) (q .0) (a .x .now) (q .1 .1 .0)) (tapeOf (c22 .texts2 .result .second) (q .1 .0) (a .y .now) (q .1 .1 .1 .0)) (q .1 .1 .1 .1 .0) (q .1 .1 .1 .1 .1 .0) (q .1 .1 .1 .1 .1 .1 .0) (q .1 .1 .1 .1 .1 .1 .1 .0)
       (c41 .first-on .ensures) (c37 .second-on .ensures) (c34 .cross .ensures) (c22 .texts2 .ensures)
@@ -445,8 +446,8 @@ module _ (t : ℕ) where
 pub +texts-spec : {M : Type 1} → statement M
 +texts-spec = close μ λ t. texts-lts.spec (K t) (at t) texts.Post
     (at-edges-requires t)
-    (edge-at-requires t)
-    (edge-at-requires-2 t)
+    (edge-of-requires t)
+    (edge-of-requires-2 t)
     (apply-requires t)
     (went-on-requires t)
     (same-length t)

@@ -72,7 +72,7 @@ returns c =
     let c30 = c29 .before in
     let c36 = c30 .before .before .before .before .before .before in
     let a = c36 .args in
-    let l = c15 .texts .last .1 .1 .1 .1 .1 .1 .1 .1 .1 in
+    let l = c15 .texts .last .1 .1 .1 .1 .1 .1 .1 .1 .1 .1 .1 in
     c4 .finish .ensures
     ∙ nodes-code (a .k) (begunIn (a .f) (a .o1 .now) (a .x .now) (a .t1 .now)) (begunIn (a .g) (a .o2 .now) (a .y .now) (a .t2 .now)) (a .c .now) (a .t .now) (c30 .turn-of .result) (c29 .turn-of2 .result) (c28 .operate .result)
     (sentOf (a .head) (a .out .now) (a .w .now)) (record { bytes = c27 .push-turn .last .0; count = c27 .push-turn .result }) (penOf (c24 .pen-after .result)) (c15 .texts .result)

@@ -1,2 +1,0 @@
-# crates/text_walk/src/lib.rt
-/^fn second_on/,/^}/s/let b = a\.second;/let b = x.block;/
