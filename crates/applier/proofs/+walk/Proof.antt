@@ -36,7 +36,8 @@ use Prim.Native.Nat.{ℕ, _-_, _<_}
 use Rattle.writing.specs.Run.{operate}
 use Rattle.engine.specs.Memo.{slotOf}
 use Rattle.engine.specs.RecallMade.{recall-word, recall-constant}
-use Rattle.meeting.specs.Cite.{halfOf, penOf}
+use Rattle.meeting.specs.Cite.{halfOf, penOf, walkedOf}
+use Rattle.applier.specs.Cite.{recalledOf}
 use Rattle.applier.specs.WalkMade.{pair, one-down, one-asks, half-asks, kept-in, constant-in, again-in, pair-told, pair-full, pair-on, pair-again}
 
 abbrev μ : Measures 6 walk-kinds.ps ℕ
@@ -253,7 +254,7 @@ module _ (t : ℕ) where
       let a = c32 .args in
       pair-full (a .op) (a .size) (a .d - 1) (a .i) (a .m) (a .x) (a .y) (a .t1 .now) (a .t2 .now) (a .c .now) (a .t .now) (a .out .now) (a .w .now) (penOf (a .pen)) (a .d) (one-down (a .d) (c29 .if1 .left)) (sym (c28 .is-fixed .ensures (a .t1 .now) (a .t2 .now)) ∙ c27 .if2 .left)
       (c26 .get .result) (c25 .get2 .result) (c26 .get .ensures) (c25 .get2 .ensures) (c24 .key-of .result) (c24 .key-of .ensures) (c23 .slot .result) (c23 .slot .ensures) (c20 .recall .result) (c20 .recall .ensures)
-      (c19 .if3 .left) (c14 .first-edge .result) (c13 .first-edge2 .result) _ _ (c14 .first-edge .ensures) (c13 .first-edge2 .ensures) (c17 .push .ensures) (c8 .walk .ensures) (penOf (c1 .pen-of .result)) (ap penOf (c1 .pen-of .ensures)) (c .if4 .taken)
+      (c19 .if3 .left) (c14 .first-edge .result) (c13 .first-edge2 .result) (record { bytes = c17 .push .last .0; count = c17 .push .result }) (recalledOf (c8 .walk .result) (c8 .walk .last .1 .1 .1 .1 .1 .1 .1 .1 .1 .0) (c8 .walk .last .1 .1 .1 .1 .1 .1 .1 .1 .1 .1 .0) (c8 .walk .last .1 .1 .1 .1 .1 .1 .1 .1 .1 .1 .1 .0) (c8 .walk .last .1 .1 .1 .1 .1 .1 .1 .1 .1 .1 .1 .1 .0)) (c14 .first-edge .ensures) (c13 .first-edge2 .ensures) (c17 .push .ensures) (c8 .walk .ensures) (penOf (c1 .pen-of .result)) (ap penOf (c1 .pen-of .ensures)) (c .if4 .taken)
 
   half-of-requires : walk-lts.Need-half-of-requires K (at t) walk.Post
   half-of-requires c κs = tt
@@ -351,10 +352,10 @@ module _ (t : ℕ) where
       let a = c59 .args in
       pair-again (a .op) (a .size) (a .d - 1) (a .i) (a .m) (a .x) (a .y) (a .t1 .now) (a .t2 .now) (a .c .now) (a .t .now) (a .out .now) (a .w .now) (penOf (a .pen)) (a .d) (one-down (a .d) (c56 .if1 .left)) (sym (c55 .is-fixed .ensures (a .t1 .now) (a .t2 .now)) ∙ c54 .if2 .left)
       (c53 .get .result) (c52 .get2 .result) (c53 .get .ensures) (c52 .get2 .ensures) (c51 .key-of .result) (c51 .key-of .ensures) (c50 .slot .result) (c50 .slot .ensures) (c47 .recall .result) (c47 .recall .ensures)
-      (c46 .if3 .left) (c41 .first-edge .result) (c40 .first-edge2 .result) _ _ (c41 .first-edge .ensures) (c40 .first-edge2 .ensures) (c44 .push .ensures) (c35 .walk .ensures)
-      (halfOf (c26 .half-of .result)) (penOf (c28 .pen-of .result)) (c25 .both-pass .result) (c24 .second-edge .result) (c23 .second-edge2 .result) (c22 .operate3 .result) (c21 .differs .result) _ _ _ _
+      (c46 .if3 .left) (c41 .first-edge .result) (c40 .first-edge2 .result) (record { bytes = c44 .push .last .0; count = c44 .push .result }) (recalledOf (c35 .walk .result) (c35 .walk .last .1 .1 .1 .1 .1 .1 .1 .1 .1 .0) (c35 .walk .last .1 .1 .1 .1 .1 .1 .1 .1 .1 .1 .0) (c35 .walk .last .1 .1 .1 .1 .1 .1 .1 .1 .1 .1 .1 .0) (c35 .walk .last .1 .1 .1 .1 .1 .1 .1 .1 .1 .1 .1 .1 .0)) (c41 .first-edge .ensures) (c40 .first-edge2 .ensures) (c44 .push .ensures) (c35 .walk .ensures)
+      (halfOf (c26 .half-of .result)) (penOf (c28 .pen-of .result)) (c25 .both-pass .result) (c24 .second-edge .result) (c23 .second-edge2 .result) (c22 .operate3 .result) (c21 .differs .result) (record { bytes = c19 .wait .last .0; count = c19 .wait .result }) (record { bytes = c15 .push-turn .last .0; count = c15 .push-turn .result }) (recalledOf (c9 .kept4 .result) (c35 .walk .last .1 .1 .1 .1 .1 .1 .1 .1 .1 .0) (c35 .walk .last .1 .1 .1 .1 .1 .1 .1 .1 .1 .1 .0) (c15 .push-turn .last .0) (c35 .walk .last .1 .1 .1 .1 .1 .1 .1 .1 .1 .1 .1 .1 .0)) (walkedOf (c5 .second .result) (c5 .second .last .1 .1 .1 .1 .1 .1 .0) (c5 .second .last .1 .1 .1 .1 .1 .1 .1 .0) (c5 .second .last .1 .1 .1 .1 .1 .1 .1 .1 .0))
       (ap halfOf (c26 .half-of .ensures)) (ap penOf (c28 .pen-of .ensures)) (c27 .if4 .left) (c25 .both-pass .ensures) (c24 .second-edge .ensures) (c23 .second-edge2 .ensures) (c22 .operate3 .ensures) (c21 .differs .ensures) (c19 .wait .ensures) (c15 .push-turn .ensures) (c5 .second .ensures)
-      (c12 .is-alike .result) (c12 .is-alike .ensures) (c11 .if5 .taken) (again-in (c9 .kept4 .result) (c10 .numbered .result) (c26 .half-of .result) (c28 .pen-of .result) (c22 .operate3 .result) _ _ _ _ (c9 .kept4 .ensures) (c10 .numbered .ensures))
+      (c12 .is-alike .result) (c12 .is-alike .ensures) (c11 .if5 .taken) (again-in (c9 .kept4 .result) (c10 .numbered .result) (c26 .half-of .result) (c28 .pen-of .result) (c22 .operate3 .result) (c35 .walk .last .1 .1 .1 .1 .1 .1 .1 .1 .1 .0) (c35 .walk .last .1 .1 .1 .1 .1 .1 .1 .1 .1 .1 .0) (c15 .push-turn .last .0) (c35 .walk .last .1 .1 .1 .1 .1 .1 .1 .1 .1 .1 .1 .1 .0) (c9 .kept4 .ensures) (c10 .numbered .ensures))
 
   walk-requires-2 : walk-lts.Need-walk-requires-2 K (at t) walk.Post
   walk-requires-2 c κs =
@@ -432,10 +433,10 @@ module _ (t : ℕ) where
       let a = c71 .args in
       pair-on (a .op) (a .size) (a .d - 1) (a .i) (a .m) (a .x) (a .y) (a .t1 .now) (a .t2 .now) (a .c .now) (a .t .now) (a .out .now) (a .w .now) (penOf (a .pen)) (a .d) (one-down (a .d) (c68 .if1 .left)) (sym (c67 .is-fixed .ensures (a .t1 .now) (a .t2 .now)) ∙ c66 .if2 .left)
       (c65 .get .result) (c64 .get2 .result) (c65 .get .ensures) (c64 .get2 .ensures) (c63 .key-of .result) (c63 .key-of .ensures) (c62 .slot .result) (c62 .slot .ensures) (c59 .recall .result) (c59 .recall .ensures)
-      (c58 .if3 .left) (c53 .first-edge .result) (c52 .first-edge2 .result) _ _ (c53 .first-edge .ensures) (c52 .first-edge2 .ensures) (c56 .push .ensures) (c47 .walk .ensures)
-      (halfOf (c38 .half-of .result)) (penOf (c40 .pen-of .result)) (c37 .both-pass .result) (c36 .second-edge .result) (c35 .second-edge2 .result) (c34 .operate3 .result) (c33 .differs .result) _ _ _ _
+      (c58 .if3 .left) (c53 .first-edge .result) (c52 .first-edge2 .result) (record { bytes = c56 .push .last .0; count = c56 .push .result }) (recalledOf (c47 .walk .result) (c47 .walk .last .1 .1 .1 .1 .1 .1 .1 .1 .1 .0) (c47 .walk .last .1 .1 .1 .1 .1 .1 .1 .1 .1 .1 .0) (c47 .walk .last .1 .1 .1 .1 .1 .1 .1 .1 .1 .1 .1 .0) (c47 .walk .last .1 .1 .1 .1 .1 .1 .1 .1 .1 .1 .1 .1 .0)) (c53 .first-edge .ensures) (c52 .first-edge2 .ensures) (c56 .push .ensures) (c47 .walk .ensures)
+      (halfOf (c38 .half-of .result)) (penOf (c40 .pen-of .result)) (c37 .both-pass .result) (c36 .second-edge .result) (c35 .second-edge2 .result) (c34 .operate3 .result) (c33 .differs .result) (record { bytes = c31 .wait .last .0; count = c31 .wait .result }) (record { bytes = c27 .push-turn .last .0; count = c27 .push-turn .result }) (recalledOf (c18 .walk2 .result) (c18 .walk2 .last .1 .1 .1 .1 .1 .1 .1 .1 .1 .0) (c18 .walk2 .last .1 .1 .1 .1 .1 .1 .1 .1 .1 .1 .0) (c18 .walk2 .last .1 .1 .1 .1 .1 .1 .1 .1 .1 .1 .1 .0) (c18 .walk2 .last .1 .1 .1 .1 .1 .1 .1 .1 .1 .1 .1 .1 .0)) (walkedOf (c8 .second2 .result) (c8 .second2 .last .1 .1 .1 .1 .1 .1 .0) (c8 .second2 .last .1 .1 .1 .1 .1 .1 .1 .0) (c8 .second2 .last .1 .1 .1 .1 .1 .1 .1 .1 .0))
       (ap halfOf (c38 .half-of .ensures)) (ap penOf (c40 .pen-of .ensures)) (c39 .if4 .left) (c37 .both-pass .ensures) (c36 .second-edge .ensures) (c35 .second-edge2 .ensures) (c34 .operate3 .ensures) (c33 .differs .ensures) (c31 .wait .ensures) (c27 .push-turn .ensures) (c8 .second2 .ensures)
-      (c24 .is-alike .result) (c24 .is-alike .ensures) (c23 .if5 .left) (c18 .walk2 .ensures) _ (c1 .note .ensures)
+      (c24 .is-alike .result) (c24 .is-alike .ensures) (c23 .if5 .left) (c18 .walk2 .ensures) (c1 .note .last .0) (c1 .note .ensures)
 
 pub +walk-spec : {M : Type 1} → statement M
 +walk-spec = close μ λ t. walk-lts.spec (K t) (at t) walk.Post
