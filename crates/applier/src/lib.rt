@@ -19,7 +19,6 @@ use meeting::Half;
 use meeting::Pen;
 use meeting::Walked;
 use meeting::constant;
-use meeting::differs;
 use meeting::half_of;
 use meeting::kept;
 use meeting::numbered;
@@ -33,6 +32,7 @@ use operation_cache::slot;
 use pending_text::push;
 use pending_text::push_turn;
 use pending_text::wait;
+use work_table::differs;
 use work_table::get as row_at;
 
 fn half_told(r: Told) -> Half

@@ -18,8 +18,8 @@ use reader::Reached;
 use reader::first_cursor;
 use reader::read_on;
 use work_table::Edge;
+use work_table::differs;
 use work_table::get;
-use work_table::turned_about;
 
 // ---- What was passed last
 
@@ -35,7 +35,7 @@ fn parity_of(o: &[[u32; 4]; 32], d: usize) -> bool
         }
         let a = o[i];
         if a[2] != 0 {
-            p = turned_about(a[3] != 0, p);
+            p = differs(a[3] != 0, p);
         }
         i += 1;
     }
@@ -51,7 +51,7 @@ pub fn edge_of(r: Reached, o: &[[u32; 4]; 32]) -> Edge
     let l = q.last;
     Edge {
         number: l.number,
-        turned: turned_about(p, q.complement),
+        turned: differs(p, q.complement),
     }
 }
 

@@ -29,7 +29,7 @@ checkedBy r = cond (r .faulty) (C.refused (lateOf r)) (C.done (record { size = r
 
 -- ---- Cleared tables --------------------------------------------------------------------------
 
-clear-cleared : (t : List (List ℕ)) → clearTo t (length t) ≡ C.cleared noRecord t
+pub clear-cleared : (t : List (List ℕ)) → clearTo t (length t) ≡ C.cleared noRecord t
 unfolding C.cleared
 clear-cleared [] = refl
 clear-cleared (r ∷ t) =

@@ -20,20 +20,21 @@ use blocks::Loaded;
 use blocks::load;
 use checker::Checking;
 use checker::Refusal;
+use checker::early;
 use edges::operate;
 use feeds::Begun;
 use feeds::Feed;
 use feeds::begin;
 use meeting::Writing;
 use meeting::Written;
-use meeting::differs;
-use meeting::early;
 use meeting::ending_of;
 use pending_text::Sent;
 use reader::Cause;
 use text_walk::Task;
 use text_walk::stream;
 use unique_table::clear;
+use work_table::clear as clear_table;
+use work_table::differs;
 
 fn answer(n: u32, covered: u64, x: Sent) -> Written
     requires { ⌜ n ≤ 32 ⌝ }
@@ -174,11 +175,8 @@ fn enter(n: u32, s: &[u8], t: &mut [[u32; 6]], o: &mut [[u32; 4]; 32], l: Loaded
 fn clear_rows(t: &mut [[u32; 6]])
     ensures { λ _. ⌜ now (t .exit) ≡ replicate (length (now (t .entry))) (replicate 6 0) ⌝ }
 {
-    let mut i = 0;
-    while i < t.len() {
-        t[i] = [0; 6];
-        i += 1;
-    }
+    let z = t.len();
+    clear_table(t, z);
 }
 
 // COMBINING two streams by an operator: causes 1 to 4, then those of stream 1, then those of stream 2.

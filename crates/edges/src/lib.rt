@@ -8,9 +8,9 @@ ghost use Rattle.writing.specs.Run.{digitAt, operate};
 ghost use Rattle.work_table.specs.Table.{getIn};
 ghost use Rattle.engine.specs.Applying.{firstSource, secondSource, fixed};
 ghost use Rattle.edges.specs.Cite.{edgeIn};
-use meeting::differs;
 use unique_table::either;
 use work_table::Row;
+use work_table::differs;
 
 // ---- The operator
 

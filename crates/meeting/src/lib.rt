@@ -2,10 +2,6 @@
 ghost use mathlib.Core.Path.{_≡_};
 ghost use mathlib.Core.Bool.{cond, true, false};
 ghost use mathlib.Core.List.{[]};
-ghost use Rattle.lists.specs.Lists.{differ};
-ghost use Rattle.reading.specs.Causes.{refusal};
-ghost use Rattle.reader.specs.Cite.{causeOf};
-ghost use Rattle.checker.specs.Answers.{refusalOf};
 ghost use Rattle.writing.specs.Run.{whole, inputEnded, outputFull};
 ghost use Rattle.engine.specs.Engine.{isStale, alikeConstant, alikeNumber, barredHalf, spaced, sendNode, writeTemporary, giveIn, knownIn, meetIn, secondIn, doneIn};
 ghost use Rattle.meeting.specs.Cite.{halfOf, penOf, walkedOf, endingsOf};
@@ -15,7 +11,6 @@ use pending_text::close;
 use pending_text::push;
 use pending_text::send;
 use pending_text::wait;
-use reader::Cause;
 use unique_table::Ends;
 use unique_table::either;
 use unique_table::find;
@@ -87,12 +82,6 @@ fn temporary(v: bool) -> Half
         complement: v,
         wrote: true,
     }
-}
-
-pub fn differs(a: bool, b: bool) -> bool
-    ensures { λ r. ⌜ r ≡ differ a b ⌝ }
-{
-    if a { !b } else { b }
 }
 
 // ---- The five rules
@@ -416,17 +405,6 @@ pub struct Written {
 pub enum Writing {
     Refused(Refusal),
     Done(Written),
-}
-
-// Tested before anything is written.
-pub fn early(c: Cause) -> Refusal
-    ensures { λ r. ⌜ refusalOf r ≡ refusal (causeOf c) 0 0 ⌝ }
-{
-    Refusal {
-        cause: c,
-        stream: 0,
-        byte: 0,
-    }
 }
 
 // more: of what is to be written than the output holds; all: words are covered

@@ -23,7 +23,6 @@ use feeds::turn_of;
 use meeting::Half;
 use meeting::Pen;
 use meeting::Walked;
-use meeting::differs;
 use meeting::done;
 use meeting::half_of;
 use meeting::pen_after;
@@ -35,6 +34,7 @@ use pending_text::push_number;
 use pending_text::push_turn;
 use pending_text::send;
 use pending_text::wait;
+use work_table::differs;
 
 // ---- The walk
 

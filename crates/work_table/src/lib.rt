@@ -149,7 +149,7 @@ pub struct Edge {
 }
 
 // a, turned about if t
-pub fn turned_about(t: bool, a: bool) -> bool
+pub fn differs(t: bool, a: bool) -> bool
     ensures { λ r. ⌜ r ≡ differ t a ⌝ }
 {
     if t { !a } else { a }
@@ -187,6 +187,6 @@ pub fn second_edge(x: Row, i: u32, e: Edge) -> Edge
     }
     Edge {
         number: x.second,
-        turned: turned_about(x.complement, e.turned),
+        turned: differs(x.complement, e.turned),
     }
 }

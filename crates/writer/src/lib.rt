@@ -8,15 +8,14 @@ ghost use Rattle.writing.specs.Run.{whole, inputEnded, outputFull};
 ghost use Rattle.writing.specs.Calls.{truthAt, write};
 ghost use Rattle.engine.specs.Engine.{sameBytes, allBytes, alikeBytes, againHalf, walkIn, bodyIn, streamIn};
 ghost use Rattle.meeting.specs.Cite.{halfOf, penOf, walkedOf, writtenOf, writingOf};
+use checker::early;
 use meeting::Half;
 use meeting::Pen;
 use meeting::Walked;
 use meeting::Writing;
 use meeting::Written;
 use meeting::constant;
-use meeting::differs;
 use meeting::done;
-use meeting::early;
 use meeting::ending_of;
 use meeting::half_of;
 use meeting::kept;
@@ -32,6 +31,7 @@ use pending_text::send;
 use pending_text::wait;
 use reader::Cause;
 use unique_table::clear;
+use work_table::differs;
 
 // ---- The walk over a truth table
 

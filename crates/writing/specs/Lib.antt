@@ -26,13 +26,10 @@ pub mod Meaning
 pub mod Rewalk
 pub mod Faithful
 -- Walks over any number of inputs, and walks that keep no text
-pub mod Walk
-pub mod Positions
 pub mod Shape
 pub mod Flow
 pub mod Online
 pub mod OnlineRuns
-pub mod Lockstep
 pub mod CallLaws
 -- The queue as code holds it
 pub mod Links

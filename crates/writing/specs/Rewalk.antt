@@ -17,7 +17,7 @@ use Rattle.writing.specs.ConstantPart.{joined, part-suc, constant, joine
 use Rattle.writing.specs.Storing.{Sound}
 use Rattle.writing.specs.Steps.{Step}
 use Rattle.writing.specs.Normal.{Normal, find-hits}
-use Rattle.writing.specs.Meaning.{Is, is-carried}
+use Rattle.writing.specs.Meaning.{Is}
 
 -- ---- A part met by number --------------------------------------------------------------------
 
@@ -172,12 +172,3 @@ is-shift ns f g (suc m) i k t u at at′ h (inr e) =
           let p : at + 2 ^ m + w ≡ at + (2 ^ m + w) = omega arith in let q : at′ + 2 ^ m + w ≡ at′ + (2 ^ m + w) = omega arith in
           ap g q ∙ h (2 ^ m + w) (omega arith) ∙ ap (λ (w : ℕ). differ u (f w)) (sym p)) (e .3)),
     )
-
--- The same decisions (or all complemented) came at the same level to number k in the state s, and k has not been given out since.
-pub met-before : (n size m i k at at′ j : ℕ) (f g : ℕ → Bool) (t u : Bool) (s s′ : State) → Is (s .table) f m i k t at
-    → Step j s s′ → (0 < k → stamp (s′ .table) k ≡ stamp (s .table) k)
-    → ((w : ℕ) → w < 2 ^ m → g (at′ + w) ≡ differ u (f (at + w))) → Sound s′ → Normal n s′ → 0 < i
-    → part size m i at′ g s′ ≡ again s′ i k (differ u t)
-met-before n size m i k at at′ j f g t u s s′ is st e h so nm r =
-    walk-again n size m i k at′ g (differ u t) s′ so nm r
-    (is-shift (s′ .table) f g m i k t u at at′ h (is-carried j s s′ st f m i k t at e is))

@@ -1,2 +1,2 @@
 # crates/work_table/src/lib.rt
-s/turned: turned_about(x.complement, e.turned),/turned: e.turned,/
+s/turned: differs(x.complement, e.turned),/turned: e.turned,/

@@ -10,19 +10,19 @@ use Rattle.blocks.proofs.edge_of.Tie as tie
 parity-of-requires : tie.Need-parity-of-requires
 parity-of-requires c κs = search needs
 
-turned-about-requires : tie.Need-turned-about-requires
-turned-about-requires c κs = search needs
+differs-requires : tie.Need-differs-requires
+differs-requires c κs = search needs
 
 returns : tie.Need-returns
 returns c =
     let a = c .before .before .before .before .args in
     let parityof = c .before .before .before .parity-of in
-    ap (λ (b : Bool). record { number = a .r .run .last .number; turned = b }) (c .turned-about .ensures ∙ ap (λ (p : Bool). differ p (a .r .run .complement)) (parityof .ensures))
+    ap (λ (b : Bool). record { number = a .r .run .last .number; turned = b }) (c .differs .ensures ∙ ap (λ (p : Bool). differ p (a .r .run .complement)) (parityof .ensures))
 
 pub edge-of-spec : {M : Type 1} → statement M
 edge-of-spec =
     tie.close
     (tie.spec
     parity-of-requires
-    turned-about-requires
+    differs-requires
     returns)

@@ -41,11 +41,11 @@ element-copy-out-a c = omega (arith, c .if1 .left, c .before .before .loop .inv 
 array-read-if2 : tie.Need-array-read-if2 Inv-loop μ-loop
 array-read-if2 c = search needs
 
-array-read-turned-about : tie.Need-array-read-turned-about Inv-loop μ-loop
-array-read-turned-about c = search needs
+array-read-differs : tie.Need-array-read-differs Inv-loop μ-loop
+array-read-differs c = search needs
 
-turned-about-requires : tie.Need-turned-about-requires Inv-loop μ-loop
-turned-about-requires c κs = search needs
+differs-requires : tie.Need-differs-requires Inv-loop μ-loop
+differs-requires c κs = search needs
 
 add-i : tie.Need-add-i Inv-loop μ-loop
 add-i c = search needs
@@ -86,8 +86,8 @@ parity-of-spec =
     mul-a
     element-copy-out-a
     array-read-if2
-    array-read-turned-about
-    turned-about-requires
+    array-read-differs
+    differs-requires
     add-i
     loop-less
     loop-again

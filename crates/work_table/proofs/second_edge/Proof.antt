@@ -1,4 +1,4 @@
--- `skips` tells which case of `secondEdge` it is, and `turned_about` turns as `differ` does.
+-- `skips` tells which case of `secondEdge` it is, and `differs` turns as `differ` does.
 -- Assumes nothing.
 use mathlib.Core.Path.{refl, sym, _∙_}
 use borrow.Author.Needs.{needs}
@@ -11,11 +11,11 @@ skips-requires c κs = search needs
 returns : tie.Need-returns
 returns c = rw (sym (c .before .skips .ensures) ∙ c .if1 .taken) refl
 
-turned-about-requires : tie.Need-turned-about-requires
-turned-about-requires c κs = search needs
+differs-requires : tie.Need-differs-requires
+differs-requires c κs = search needs
 
 returns-2 : tie.Need-returns-2
-returns-2 c = rw (sym (c .before .before .skips .ensures) ∙ c .before .if1 .left, c .turned-about .ensures) refl
+returns-2 c = rw (sym (c .before .before .skips .ensures) ∙ c .before .if1 .left, c .differs .ensures) refl
 
 pub second-edge-spec : {M : Type 1} → statement M
-second-edge-spec = tie.close (tie.spec skips-requires returns turned-about-requires returns-2)
+second-edge-spec = tie.close (tie.spec skips-requires returns differs-requires returns-2)
