@@ -36,7 +36,8 @@ use Rattle.claims.specs.PaperRows as R
 use Rattle.claims.specs.PaperRows.{Row, rows, Holds}
 use Rattle.claims.specs.ReadBack.{ReadsBack}
 use Rattle.claims.specs.WrittenBytes.{Written}
-use Rattle.claims.specs.Runs.{smaller-covered, Operated, ran, run-read, run-operated, run-whole-read, runs-covered, runs-begin, runs-decide, wrote, wrote-read, wrote-whole-read}
+use Rattle.claims.specs.Terms.{Operated}
+use Rattle.claims.specs.Runs.{smaller-covered, ran, run-read, run-operated, run-whole-read, runs-covered, runs-begin, runs-decide, wrote, wrote-read, wrote-whole-read}
 
 -- ---- The examples marked P -------------------------------------------------------------------
 

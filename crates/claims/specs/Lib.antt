@@ -4,6 +4,8 @@ pub mod Valid
 pub mod Agree
 pub mod ReadBack
 pub mod WrittenBytes
+pub mod Terms
+pub mod Refused
 pub mod Runs
 pub mod PaperRows
 pub mod Claims

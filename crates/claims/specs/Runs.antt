@@ -1,64 +1,33 @@
 -- What a run of combining, or a call of writing, that is not refused is: its limits, its streams without fault, its answer and its written bytes.
 -- Assumes nothing.
 use mathlib.Core.Path.{_≡_, refl, sym, ap, ap₂, _∙_, subst⁻¹}
+use mathlib.Core.Logic.{inr, ⊎-elim}
 use mathlib.Core.Bool.{Bool, true, false, cond}
 use mathlib.Core.List.{List, [], _∷_, _++_}
-use mathlib.Core.Option.{Option, none, some}
+use mathlib.Core.Option.{none}
 use Prim.{tt}
-use Prim.Native.Nat.{ℕ, suc, _≤_, _<_, _^_, min}
+use Prim.Native.Nat.{ℕ, _≤_, _<_, _^_, min}
 use native.Mathlib.Omega.{arith}
-use lib.Dec.{ltb, leb, eqb}
+use lib.Dec.{ltb, eqb}
 use lib.ListN.{length, take}
-use borrow.Author.Tests.{ltb-false, leb-true, eqb-true, not-false}
-use Rattle.lists.specs.Lists.{All, and-r}
+use borrow.Author.Tests.{ltb-false, eqb-true}
+use Rattle.lists.specs.Lists.{decide-le}
 use Rattle.lists.specs.Prefixes.{Begins}
-use Rattle.reading.specs.Limits.{optionLimit, tableLimit, truthTableLeast, truthTableMost}
-use Rattle.reading.specs.Causes.{Refusal, Result, refused, done, Test, gate, unlessRefused}
-use Rattle.reading.specs.Reading.{Fault, reading}
+use Rattle.reading.specs.Limits.{optionLimit, tableLimit, truthTableMost}
+use Rattle.reading.specs.Causes.{Result, done, unlessRefused}
+use Rattle.reading.specs.Reading.{reading}
 use Rattle.reading.specs.Deciding.{decided, decision}
-use Rattle.reading.specs.Calls.{manyOptions, shortTable, notTruthTable, wrongLength, unlessFault}
 use Rattle.reading.specs.Covered.{covered, covered-decided, covered-most, covered-grows, decision-stands}
-use Rattle.writing.specs.Run.{operate, Input, runCovered, joint, runText, runOf, writtenBytes, outputAfter, whole, inputEnded, outputFull, Answer, answerOf}
+use Rattle.writing.specs.Run.{operate, runCovered, joint, runText, runOf, writtenBytes, outputAfter, whole, inputEnded, outputFull, Answer, answerOf}
 use Rattle.writing.specs.Inputs.{runCovered-most, runCovered-two, runCovered-each, Extends, Extend, runCovered-grows, runOf-written}
 use Rattle.writing.specs.Output.{output-written, written-all}
-use Rattle.writing.specs.Calls.{largeSize, largeOperator, unlessFaults, orNo, inputOf, combineText, shortTables, combineAnswer, combine, writeText, truthAt, writeAnswer, write}
+use Rattle.writing.specs.Calls.{orNo, inputOf, combineText, combineAnswer, combine, writeText, truthAt, writeAnswer, write}
+use Rattle.claims.specs.Terms.{notThreeToSixteen, Operated}
+use Rattle.claims.specs.Refused.{inputs, Streams, combine-by, write-by}
 use Rattle.claims.specs.ReadBack.{ReadsBack, read-back}
 use Rattle.claims.specs.WrittenBytes.{Written, run-written}
 
--- ---- Not refused -----------------------------------------------------------------------------
-
-clash : {A B : Type 0} (r : Refusal) (a : A) → refused r ≡ done a → B
-clash r a e = let z : _≡_ {A = ℕ} 0 1 = cc in absurd (omega arith)
-
-same-done : {A : Type 0} (a b : A) → done a ≡ done b → a ≡ b
-same-done a b e = cc
-
--- no test was met
-gate-done : {A : Type 0} (ts : List Test) (x : Result A) (a : A) → gate ts x ≡ done a → All (λ t. t .met ≡ false) ts × (x ≡ done a)
-unfolding gate
-gate-done [] x a e = (tt, e)
-gate-done {A = A} (t ∷ ts) x a e = go (t .met) refl e (gate-done ts x a)
-  where
-    go : (m : Bool) → t .met ≡ m → elim m as (λ _. Result A) [ true ↦ refused (record { cause = t .cause; stream = 0; byte = 0 }) | false ↦ gate ts x ] ≡ done a
-        → (gate ts x ≡ done a → All (λ (u : Test). u .met ≡ false) ts × (x ≡ done a)) → All (λ (u : Test). u .met ≡ false) (t ∷ ts) × (x ≡ done a)
-    go true p q ih = clash _ a q
-    go false p q ih = let h = ih q in ((p, h .0), h .1)
-
--- no stream had a fault
-faults-done : {A : Type 0} (n k : ℕ) (ss : List (List ℕ)) (x : Result A) (a : A) → unlessFaults n k ss x ≡ done a → All (λ s. reading n s .fault ≡ none) ss × (x ≡ done a)
-unfolding unlessFaults
-faults-done n k [] x a e = (tt, e)
-faults-done {A = A} n k (s ∷ ss) x a e = go (reading n s .fault) refl e (faults-done n (suc k) ss x a)
-  where
-    go : (f : Option Fault) → reading n s .fault ≡ f → unlessFault k f (unlessFaults n (suc k) ss x) ≡ done a
-        → (unlessFaults n (suc k) ss x ≡ done a → All (λ (u : List ℕ). reading n u .fault ≡ none) ss × (x ≡ done a)) → All (λ (u : List ℕ). reading n u .fault ≡ none) (s ∷ ss) × (x ≡ done a)
-    go none p q ih = let h = ih q in ((p, h .0), h .1)
-    go (some f) p q ih = clash _ a q
-
 -- ---- A run of combining ----------------------------------------------------------------------
-
-abbrev pub inputs : ℕ → List ℕ → List ℕ → List Input
-inputs n x y = inputOf n x ∷ inputOf n y ∷ []
 
 -- the first bytes of the output, as many as are answered, are the written ones
 answer-written : (n c : ℕ) (text out : List ℕ) → take (answerOf n c text out .written) (outputAfter text out) ≡ writtenBytes text out
@@ -79,8 +48,8 @@ answer-whole n c text out e = go (ltb (length out) (length text)) refl (eqb c (2
     go false a true b h = (eqb-true c (2 ^ n) b, written-all text out (ltb-false (length out) (length text) a))
     go false a false b h = absurd (let z : _≡_ {A = ℕ} 0 1 = cc in omega arith)
 
-abbrev pub Streams : List ℕ → List ℕ → List (List ℕ)
-Streams x y = x ∷ y ∷ []
+pub not-above : (k limit : ℕ) → (limit < k → ⊥) → k ≤ limit
+not-above k limit h = ⊎-elim (λ (l : k ≤ limit). l) (λ (l : limit < k). absurd (h l)) (decide-le k limit)
 
 -- the run over the streams x and y with the answer r, and the output t after it
 pub record Ran (n op size : ℕ) (x y out : List ℕ) (r : Answer) (t : List ℕ) : Type 0 where
@@ -96,30 +65,19 @@ pub ran : {R S : Type 0} (z : R) (o : S) (n op size : ℕ) (x y out : List ℕ) 
 unfolding combine combineAnswer unlessRefused
 ran z o n op size x y out t u v r e =
     let text = combineText n op size (Streams x y) in
-    let a = answerOf n (runCovered n (inputs n x y)) text out in
-    let g = gate-done (manyOptions n ∷ largeOperator 2 op ∷ largeSize size ∷ shortTables (length t ∷ length u ∷ length v ∷ [])) (unlessFaults n 1 (Streams x y) (done a)) r e in
-    let f = faults-done n 1 (Streams x y) (done a) r (g .1) in
-    let s : a ≡ r = same-done a r (f .1) in
+    let b = combine-by n op size x y out (length t) (length u) (length v) .unless r .0 e in
+    let m = b .0 in
     record {
-      options = ltb-false _ _ (g .0 .0);
-      fit = ltb-false _ _ (g .0 .1 .1 .0);
-      first = f .0 .0;
-      second = f .0 .1 .0;
-      answer = sym s;
+      options = not-above n optionLimit (m .0);
+      fit = not-above size tableLimit (m .1 .1 .0);
+      first = m .1 .1 .1 .1 .1 .1 .0;
+      second = m .1 .1 .1 .1 .1 .1 .1 .0;
+      answer = b .1;
       bytes = ap (λ (o : Result Answer). take (r .written) (unlessRefused o out (λ (q : Answer). outputAfter text out))) e
-          ∙ ap (λ (q : Answer). take (q .written) (outputAfter text out)) (sym s) ∙ answer-written n (runCovered n (inputs n x y)) text out;
+          ∙ ap (λ (q : Answer). take (q .written) (outputAfter text out)) (b .1) ∙ answer-written n (runCovered n (inputs n x y)) text out;
     }
 
 -- ---- What its written bytes decide -----------------------------------------------------------
-
--- Both streams decide the word w, and d is what the operator decides from them: "its digit 2a + b for the decisions a, b of the two input
--- streams on that word".
-pub record Operated (n op : ℕ) (x y : List ℕ) (w : ℕ) (d : Bool) : Type 0 where
-  pub a : Bool
-  pub b : Bool
-  pub first : decision n x w ≡ decided a
-  pub second : decision n y w ≡ decided b
-  pub digit : d ≡ operate op (a ∷ b ∷ [])
 
 module _ (n : ℕ) (x : List ℕ) where
   -- on a word that it covers, a stream's input decides as the stream does
@@ -215,17 +173,17 @@ pub wrote : {R : Type 0} (z : R) (n size : ℕ) (truths out : List ℕ) (t : Lis
 unfolding write writeAnswer unlessRefused
 wrote z n size truths out t r e =
     let text = writeText n size truths in
-    let a = answerOf n (2 ^ n) text out in
-    let g = gate-done (notTruthTable n ∷ largeSize size ∷ shortTable (length t) ∷ wrongLength n truths ∷ []) (done a) r e in
-    let s : a ≡ r = same-done a r (g .1) in
-    let m : n ≤ truthTableMost = leb-true _ _ (and-r (leb truthTableLeast n) (leb n truthTableMost) (not-false _ (g .0 .0))) in
+    let b = write-by n size truths out (length t) .unless r .0 e in
     record {
-      options = omega arith;
-      fit = ltb-false _ _ (g .0 .1 .0);
-      answer = sym s;
+      options = small n (b .0 .0);
+      fit = not-above size tableLimit (b .0 .1 .0);
+      answer = b .1;
       bytes = ap (λ (o : Result Answer). take (r .written) (unlessRefused o out (λ (q : Answer). outputAfter text out))) e
-          ∙ ap (λ (q : Answer). take (q .written) (outputAfter text out)) (sym s) ∙ answer-written n (2 ^ n) text out;
+          ∙ ap (λ (q : Answer). take (q .written) (outputAfter text out)) (b .1) ∙ answer-written n (2 ^ n) text out;
     }
+  where
+    small : (n : ℕ) → (notThreeToSixteen n → ⊥) → n ≤ optionLimit
+    small n h = let m = not-above n truthTableMost (λ k. h (inr k)) in omega (arith, m)
 
 module _ (n size : ℕ) (truths out : List ℕ) (r : Answer) (t : List ℕ) (h : Wrote n size truths out r t) where
   -- the written bytes, clipped or not

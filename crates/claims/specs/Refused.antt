@@ -1,0 +1,226 @@
+-- Each call is turned down by the causes that apply to it, in the paper's order, and by nothing else. A test of a call's definition stands for a
+-- line (`test-line`), a stream's fault for another (`fault-line`). Assumes nothing.
+use mathlib.Core.Path.{_≡_, refl, sym, ap, _∙_, subst, subst⁻¹}
+use mathlib.Core.Logic.{_≢_, _⊎_, inl, inr, ⊎-elim, _↔_}
+use mathlib.Core.Bool.{Bool, true, false, not, _&&_, true≢false, false≢true}
+use mathlib.Core.List.{List, [], _∷_, _++_}
+use mathlib.Core.Option.{Option, none, some}
+use Prim.{tt}
+use Prim.Native.Nat.{ℕ, suc, _-_, _/_, _≤_, _<_, _^_}
+use native.Mathlib.Omega.{arith}
+use lib.Dec.{ltb, leb, eqb}
+use lib.ListN.{length, getD}
+use borrow.Author.Tests.{ltb-true, ltb-false, leb-true, leb-false, eqb-true, eqb-false, not-true, not-false}
+use Rattle.reading.specs.Limits.{optionLimit, tableLimit, truthTableLeast, truthTableMost}
+use Rattle.reading.specs.Causes.{Cause, optionCount, operatorCode, sizeToWrite, workTable, wordRange, truthTable, call, causeRow, Refusal, refusal, Result, refused, done, Test, test, gate}
+use Rattle.reading.specs.Reading.{Fault, Reading, reading}
+use Rattle.reading.specs.Settled.{never-some, fault-inside, fault-place}
+use Rattle.reading.specs.Calls.{manyOptions, shortTable, notTruthTable, wrongLength, unlessFault, checkedOf, checkAnswer, verdict, decideAnswer, fillAnswer}
+use Rattle.reading.specs.Deciding.{trace}
+use Rattle.reading.specs.Prefix.{trace-reading}
+use Rattle.writing.specs.Run.{Input, runCovered, answerOf}
+use Rattle.writing.specs.Calls.{largeSize, writeText, writeAnswer, largeOperator, unlessFaults, inputOf, combineText, shortTables, combineAnswer}
+use Rattle.claims.specs.Terms.{Line, meets, faults, Met, Unmet, First, AllUnmet, Named, TurnedDown, checkLines, decideLines, notThreeToSixteen, fillLines, writeLines, combineLines}
+
+-- ---- Answers ---------------------------------------------------------------------------------
+
+pub clash : {A B : Type 0} (r : Refusal) (a : A) → refused r ≡ done a → B
+clash r a e = let z : _≡_ {A = ℕ} 0 1 = cc in absurd (omega arith)
+
+pub same-done : {A : Type 0} (a b : A) → done a ≡ done b → a ≡ b
+same-done a b e = cc
+
+same-refused : {A : Type 0} (f g : Refusal) → _≡_ {A = Result A} (refused f) (refused g) → f ≡ g
+same-refused f g e = cc
+
+same-fault : (g : Fault) (f : Refusal) (k : ℕ) → some g ≡ some (record { cause = f .cause; byte = f .byte }) → f .stream ≡ k → refusal (g .cause) k (g .byte) ≡ f
+same-fault g f k e d = let h : g ≡ record { cause = f .cause; byte = f .byte } = cc in
+    ap (λ (i : Fault). refusal (i .cause) k (i .byte)) h ∙ ap (λ (j : ℕ). refusal (f .cause) j (f .byte)) (sym d)
+
+-- ---- Lines -----------------------------------------------------------------------------------
+
+-- the answer a: the first line that is met says how it is refused; if none is met, it is v
+pub record By {A : Type 0} (ls : List Line) (v : A) (a : Result A) : Type 0 where
+  pub exactly : (f : Refusal) → (a ≡ refused f) ↔ First ls f
+  pub unless : (r : A) → (a ≡ done r) ↔ (AllUnmet ls × (r ≡ v))
+
+-- no line: not refused
+by-none : {A : Type 0} (v : A) → By [] v (done v)
+by-none v = record { exactly = λ f. (λ e. clash f v (sym e), λ h. absurd h); unless = λ r. (λ e. (tt, sym (same-done v r e)), λ h. ap done (sym (h .1))) }
+
+-- a test that is met if P
+test-line : {A : Type 0} (P : Type 0) (t : Test) (ts : List Test) (ls : List Line) (v : A) (x : Result A) → (t .met ≡ true → P) → (t .met ≡ false → P → ⊥)
+    → By ls v (gate ts x) → By (meets (t .cause) P ∷ ls) v (gate (t ∷ ts) x)
+unfolding gate
+test-line {A} P t ts ls v x p q h = go (t .met) p q
+  where
+    answer : Bool → Result A
+    answer m = elim m as (λ _. Result A) [ true ↦ refused (refusal (t .cause) 0 0) | false ↦ gate ts x ]
+
+    go : (m : Bool) → (m ≡ true → P) → (m ≡ false → P → ⊥) → By (meets (t .cause) P ∷ ls) v (answer m)
+    go true p q = record {
+      exactly = λ f. (
+        λ e. inl (p refl, sym (same-refused _ f e)),
+        ⊎-elim (λ k. ap refused (sym (k .1))) (λ k. absurd (k .0 (p refl))),
+      );
+      unless = λ r. (λ e. clash _ r e, λ k. absurd (k .0 .0 (p refl)));
+    }
+    go false p q = record {
+      exactly = λ f. (
+        λ e. inr (q refl, h .exactly f .0 e),
+        ⊎-elim (λ k. absurd (q refl (k .0))) (λ k. h .exactly f .1 (k .1)),
+      );
+      unless = λ r. (λ e. let k = h .unless r .0 e in ((q refl, k .0), k .1), λ k. h .unless r .1 (k .0 .1, k .1));
+    }
+
+-- the test stands for the line
+abbrev Stands : Test → Line → Type 0
+Stands t (meets c P) = (t .cause ≡ c) × (t .met ≡ true → P) × (t .met ≡ false → P → ⊥)
+Stands t (faults n k x) = ⊥
+
+-- the tests stand for the first lines, and the rest of the call for the rest
+abbrev Opens : {A : Type 0} → List Test → List Line → A → Result A → Type 0
+Opens [] ls v x = By ls v x
+Opens (t ∷ ts) [] v x = ⊥
+Opens (t ∷ ts) (l ∷ ls) v x = Stands t l × Opens ts ls v x
+
+tests-lines : {A : Type 0} (ts : List Test) (ls : List Line) (v : A) (x : Result A) → Opens ts ls v x → By ls v (gate ts x)
+unfolding gate
+tests-lines [] ls v x h = h
+tests-lines (t ∷ ts) [] v x h = absurd h
+tests-lines (t ∷ ts) (meets c P ∷ ls) v x h =
+    subst (λ (d : Cause). By (meets d P ∷ ls) v (gate (t ∷ ts) x)) (h .0 .0) (test-line P t ts ls v x (h .0 .1) (h .0 .2) (tests-lines ts ls v x (h .1)))
+tests-lines (t ∷ ts) (faults n k y ∷ ls) v x h = absurd (h .0)
+
+-- the fault of a stream
+fault-line : {A : Type 0} (n k : ℕ) (x : List ℕ) (ls : List Line) (v : A) (a : Result A) → By ls v a → By (faults n k x ∷ ls) v (unlessFault k (reading n x .fault) a)
+fault-line {A} n k x ls v a h = go (reading n x .fault) refl
+  where
+    go : (o : Option Fault) → reading n x .fault ≡ o → By (faults n k x ∷ ls) v (unlessFault k o a)
+    go none e = record {
+      exactly = λ f. (
+        λ d. inr (e, h .exactly f .0 d),
+        ⊎-elim (λ m. never-some _ (sym e ∙ m .0)) (λ m. h .exactly f .1 (m .1)),
+      );
+      unless = λ r. (λ d. let m = h .unless r .0 d in ((e, m .0), m .1), λ m. h .unless r .1 (m .0 .1, m .1));
+    }
+    go (some g) e = record {
+      exactly = λ f. (
+        λ d. inl (subst (λ (i : Refusal). Met (faults n k x) i) (same-refused _ f d) (e, refl)),
+        ⊎-elim (λ m. ap refused (same-fault g f k (sym e ∙ m .0) (m .1))) (λ m. never-some g (sym (m .0) ∙ e)),
+      );
+      unless = λ r. (λ d. clash _ r d, λ m. never-some g (sym (m .0 .0) ∙ e));
+    }
+
+-- ---- What a refusal names --------------------------------------------------------------------
+
+-- a line for a call over the streams xs
+abbrev Fits : List (List ℕ) → Line → Type 0
+Fits xs (meets c P) = causeRow c .names ≡ call
+Fits xs (faults n k x) = (0 < k) × (k ≤ length xs) × (getD xs (k - 1) [] ≡ x)
+
+abbrev AllFit : List (List ℕ) → List Line → Type 0
+AllFit xs [] = Unit {0}
+AllFit xs (l ∷ ls) = Fits xs l × AllFit xs ls
+
+met-named : (xs : List (List ℕ)) (l : Line) → Fits xs l → (f : Refusal) → Met l f → Named xs f
+met-named xs (meets c P) h f m =
+    inl (ap (λ (g : Refusal). causeRow (g .cause) .names) (m .1) ∙ h, ap (λ (g : Refusal). g .stream) (m .1), ap (λ (g : Refusal). g .byte) (m .1))
+met-named xs (faults n k x) h f m =
+    inr (
+      fault-place n x _ (m .0),
+      omega (arith, m .1, h .0),
+      omega (arith, m .1, h .1),
+      subst⁻¹ (λ (j : ℕ). f .byte < length (getD xs (j - 1) [])) (m .1) (subst⁻¹ (λ (y : List ℕ). f .byte < length y) (h .2) (fault-inside n x _ (m .0))),
+    )
+
+first-named : (xs : List (List ℕ)) (ls : List Line) → AllFit xs ls → (f : Refusal) → First ls f → Named xs f
+first-named xs [] h f m = absurd m
+first-named xs (l ∷ ls) h f m = ⊎-elim (met-named xs l (h .0) f) (λ k. first-named xs ls (h .1) f (k .1)) m
+
+turned-down : {A : Type 0} (xs : List (List ℕ)) (ls : List Line) (v : A) (a : Result A) → AllFit xs ls → By ls v a → TurnedDown xs ls a
+turned-down xs ls v a h b = record {
+  exactly = b .exactly;
+  unless = (λ k. b .unless (k .0) .0 (k .1) .0, λ k. (v, b .unless v .1 (k, refl)));
+  names = λ f e. first-named xs ls h f (b .exactly f .0 e);
+}
+
+-- ---- The calls -------------------------------------------------------------------------------
+
+above : (c : Cause) (limit k : ℕ) → Stands (test c (ltb limit k)) (meets c (limit < k))
+above c limit k = (refl, ltb-true limit k, λ e h. omega (arith, ltb-false limit k e, h))
+
+from : (c : Cause) (least k : ℕ) → Stands (test c (leb least k)) (meets c (least ≤ k))
+from c least k = (refl, leb-true least k, λ e h. omega (arith, leb-false least k e, h))
+
+not-three-to-sixteen : (n : ℕ) → Stands (notTruthTable n) (meets optionCount (notThreeToSixteen n))
+not-three-to-sixteen n = go (leb truthTableLeast n) refl (leb n truthTableMost) refl
+  where
+    go : (p : Bool) → leb truthTableLeast n ≡ p → (q : Bool) → leb n truthTableMost ≡ q → Stands (test optionCount (not (p && q))) (meets optionCount (notThreeToSixteen n))
+    go true a true b = (refl, λ e. absurd (false≢true e), λ e. ⊎-elim (λ h. omega (arith, leb-true truthTableLeast n a, h)) (λ h. omega (arith, leb-true n truthTableMost b, h)))
+    go true a false b = (refl, λ e. inr (leb-false n truthTableMost b), λ e. absurd (true≢false e))
+    go false a q b = (refl, λ e. inl (leb-false truthTableLeast n a), λ e. absurd (true≢false e))
+
+wrong-length : (n : ℕ) (truths : List ℕ) → Stands (wrongLength n truths) (meets truthTable (length truths ≢ 2 ^ n / 8))
+wrong-length n truths = (refl, λ e. eqb-false _ _ (not-true _ e), λ e h. h (eqb-true _ _ (not-false _ e)))
+
+-- a call over the stream x alone
+one-stream : (n : ℕ) (x : List ℕ) → AllFit (x ∷ []) (faults n 1 x ∷ [])
+one-stream n x = ((omega arith, omega arith, refl), tt)
+
+pub check-by : (n : ℕ) (x : List ℕ) (records : ℕ) → By (checkLines n x records) (checkedOf (reading n x .state)) (checkAnswer n x records)
+unfolding checkAnswer
+check-by n x records = tests-lines (manyOptions n ∷ shortTable records ∷ []) _ _ _
+    (above optionCount optionLimit n, (above workTable records tableLimit, fault-line n 1 x [] _ _ (by-none _)))
+
+pub check-lines : (n : ℕ) (x : List ℕ) (records : ℕ) → TurnedDown (x ∷ []) (checkLines n x records) (checkAnswer n x records)
+check-lines n x records = turned-down (x ∷ []) _ _ _ (refl, (refl, one-stream n x)) (check-by n x records)
+
+pub decide-lines : (n : ℕ) (x : List ℕ) (w records : ℕ) → TurnedDown (x ∷ []) (decideLines n x w records) (decideAnswer n x w records)
+unfolding decideAnswer
+decide-lines n x w records =
+    let v = verdict n (trace n x) w in
+    let f : trace n x .reading .fault ≡ reading n x .fault = ap (λ (r : Reading). r .fault) (trace-reading n x) in
+    turned-down (x ∷ []) _ v _ (refl, (refl, (refl, one-stream n x)))
+    (tests-lines (manyOptions n ∷ shortTable records ∷ test wordRange (leb (2 ^ n) w) ∷ []) _ v _
+    (above optionCount optionLimit n, (above workTable records tableLimit, (from wordRange (2 ^ n) w,
+    subst⁻¹ (λ (o : Option Fault). By (faults n 1 x ∷ []) v (unlessFault 1 o (done v))) f (fault-line n 1 x [] v _ (by-none v))))))
+
+pub fill-by : (n : ℕ) (x truths : List ℕ) (records : ℕ) → By (fillLines n x truths records) (reading n x .state .covered) (fillAnswer n x truths records)
+unfolding fillAnswer
+fill-by n x truths records = tests-lines (notTruthTable n ∷ shortTable records ∷ wrongLength n truths ∷ []) _ _ _
+    (not-three-to-sixteen n, (above workTable records tableLimit, (wrong-length n truths, fault-line n 1 x [] _ _ (by-none _))))
+
+pub fill-lines : (n : ℕ) (x truths : List ℕ) (records : ℕ) → TurnedDown (x ∷ []) (fillLines n x truths records) (fillAnswer n x truths records)
+fill-lines n x truths records = turned-down (x ∷ []) _ _ _ (refl, (refl, (refl, one-stream n x))) (fill-by n x truths records)
+
+pub write-by : (n size : ℕ) (truths out : List ℕ) (records : ℕ)
+    → By (writeLines n size truths records) (answerOf n (2 ^ n) (writeText n size truths) out) (writeAnswer n size truths out records)
+unfolding writeAnswer
+write-by n size truths out records = tests-lines (notTruthTable n ∷ largeSize size ∷ shortTable records ∷ wrongLength n truths ∷ []) _ _ _
+    (not-three-to-sixteen n, (above sizeToWrite tableLimit size, (above workTable records tableLimit, (wrong-length n truths, by-none _))))
+
+pub write-lines : (n size : ℕ) (truths out : List ℕ) (records : ℕ) → TurnedDown [] (writeLines n size truths records) (writeAnswer n size truths out records)
+write-lines n size truths out records = turned-down [] _ _ _ (refl, (refl, (refl, (refl, tt)))) (write-by n size truths out records)
+
+-- the streams of a run, and what they are as its inputs
+abbrev pub Streams : List ℕ → List ℕ → List (List ℕ)
+Streams x y = x ∷ y ∷ []
+
+abbrev pub inputs : ℕ → List ℕ → List ℕ → List Input
+inputs n x y = inputOf n x ∷ inputOf n y ∷ []
+
+pub combine-by : (n op size : ℕ) (x y out : List ℕ) (a b c : ℕ)
+    → By (combineLines n op size x y a b c) (answerOf n (runCovered n (inputs n x y)) (combineText n op size (Streams x y)) out)
+    (combineAnswer n op size (Streams x y) out (a ∷ b ∷ c ∷ []))
+unfolding combineAnswer unlessFaults
+combine-by n op size x y out a b c =
+    let short : (k : ℕ) → Stands (shortTable k) (meets workTable (k < tableLimit)) = λ k. above workTable k tableLimit in
+    tests-lines (manyOptions n ∷ largeOperator 2 op ∷ largeSize size ∷ shortTables (a ∷ b ∷ c ∷ [])) _ _ _
+    (above optionCount optionLimit n, (from operatorCode 16 op, (above sizeToWrite tableLimit size, (short a, (short b, (short c,
+    fault-line n 1 x (faults n 2 y ∷ []) _ _ (fault-line n 2 y [] _ _ (by-none _))))))))
+
+pub combine-lines : (n op size : ℕ) (x y out : List ℕ) (a b c : ℕ)
+    → TurnedDown (x ∷ y ∷ []) (combineLines n op size x y a b c) (combineAnswer n op size (x ∷ y ∷ []) out (a ∷ b ∷ c ∷ []))
+combine-lines n op size x y out a b c = turned-down (x ∷ y ∷ []) _ _ _
+    (refl, (refl, (refl, (refl, (refl, (refl, ((omega arith, omega arith, refl), ((omega arith, omega arith, refl), tt)))))))) (combine-by n op size x y out a b c)

@@ -1,0 +1,138 @@
+-- The terms in which the demands are stated (Claims): how a call is turned down, what lent memory holds after it, and what written bytes decide.
+-- Assumes nothing.
+use mathlib.Core.Path.{_≡_}
+use mathlib.Core.Logic.{_≢_, _⊎_, _↔_}
+use mathlib.Core.Bool.{Bool}
+use mathlib.Core.List.{List, [], _∷_}
+use mathlib.Core.Option.{none, some}
+use Prim.Native.Nat.{ℕ, _-_, _/_, _≤_, _<_, _^_, min}
+use lib.ListN.{length, take, drop, getD}
+use Rattle.reading.specs.Limits.{optionLimit, tableLimit, truthTableLeast, truthTableMost}
+use Rattle.reading.specs.Causes.{Cause, optionCount, operatorCode, sizeToWrite, workTable, wordRange, truthTable, call, place, causeRow, Refusal, refusal, Result, refused, done, cleared}
+use Rattle.reading.specs.Element.{over}
+use Rattle.reading.specs.Reading.{reading}
+use Rattle.reading.specs.Deciding.{decided, decision}
+use Rattle.reading.specs.Covered.{covered}
+use Rattle.writing.specs.Run.{operate, Answer, endingOf}
+
+-- ---- Turned down -----------------------------------------------------------------------------
+
+-- A line of the table "Turned down": a cause that names the call, and when it is met; or the fault, if any, of stream k, read with n options.
+pub data Line : Type 1 where
+  meets : Cause → Type 0 → Line
+  faults : ℕ → ℕ → List ℕ → Line
+
+-- the line is met, and f is returned: "stream 0, byte 0", or the stream and the byte of its fault
+abbrev pub Met : Line → Refusal → Type 0
+Met (meets c P) f = P × (f ≡ refusal c 0 0)
+Met (faults n k x) f = (reading n x .fault ≡ some (record { cause = f .cause; byte = f .byte })) × (f .stream ≡ k)
+
+abbrev pub Unmet : Line → Type 0
+Unmet (meets c P) = P → ⊥
+Unmet (faults n k x) = reading n x .fault ≡ none
+
+-- f is what the first line that is met returns
+abbrev pub First : List Line → Refusal → Type 0
+First [] f = ⊥
+First (l ∷ ls) f = Met l f ⊎ (Unmet l × First ls f)
+
+-- no line is met
+abbrev pub AllUnmet : List Line → Type 0
+AllUnmet [] = Unit {0}
+AllUnmet (l ∷ ls) = Unmet l × AllUnmet ls
+
+-- what a refusal names, xs being the streams: the call, or a stream and a byte inside it
+abbrev pub Named : List (List ℕ) → Refusal → Type 0
+Named xs f =
+    ((causeRow (f .cause) .names ≡ call) × (f .stream ≡ 0) × (f .byte ≡ 0))
+    ⊎ ((causeRow (f .cause) .names ≡ place) × (0 < f .stream) × (f .stream ≤ length xs) × (f .byte < length (getD xs (f .stream - 1) [])))
+
+-- A call over the streams xs that answers a is turned down by the lines ls, tested in this order, and by nothing else.
+pub record TurnedDown {A : Type 0} (xs : List (List ℕ)) (ls : List Line) (a : Result A) : Type 0 where
+  -- it is refused with f exactly if f is what the first line that is met returns
+  pub exactly : (f : Refusal) → (a ≡ refused f) ↔ First ls f
+  -- it is not refused exactly if no line is met
+  pub unless : ((r : A) × (a ≡ done r)) ↔ AllUnmet ls
+  -- what a refusal names
+  pub names : (f : Refusal) → a ≡ refused f → Named xs f
+
+-- ---- The causes of each call ------------------------------------------------------------------
+
+-- "Causes 1 to 6 are tested in that order where they apply, then all of stream 1, then all of stream 2". The work tables have as many records as said.
+
+abbrev pub checkLines : ℕ → List ℕ → ℕ → List Line
+checkLines n x records = meets optionCount (optionLimit < n) ∷ meets workTable (records < tableLimit) ∷ faults n 1 x ∷ []
+
+abbrev pub decideLines : ℕ → List ℕ → ℕ → ℕ → List Line
+decideLines n x w records = meets optionCount (optionLimit < n) ∷ meets workTable (records < tableLimit) ∷ meets wordRange (2 ^ n ≤ w) ∷ faults n 1 x ∷ []
+
+-- "truth table n not 3 to 16"
+abbrev pub notThreeToSixteen : ℕ → Type 0
+notThreeToSixteen n = (n < truthTableLeast) ⊎ (truthTableMost < n)
+
+abbrev pub fillLines : ℕ → List ℕ → List ℕ → ℕ → List Line
+fillLines n x truths records =
+    meets optionCount (notThreeToSixteen n) ∷ meets workTable (records < tableLimit) ∷ meets truthTable (length truths ≢ 2 ^ n / 8) ∷ faults n 1 x ∷ []
+
+abbrev pub writeLines : ℕ → ℕ → List ℕ → ℕ → List Line
+writeLines n size truths records =
+    meets optionCount (notThreeToSixteen n) ∷ meets sizeToWrite (tableLimit < size) ∷ meets workTable (records < tableLimit) ∷ meets truthTable (length truths ≢ 2 ^ n / 8) ∷ []
+
+abbrev pub combineLines : ℕ → ℕ → ℕ → List ℕ → List ℕ → ℕ → ℕ → ℕ → List Line
+combineLines n op size x y records records′ records″ =
+    meets optionCount (optionLimit < n)
+    ∷ meets operatorCode (15 < op)
+    ∷ meets sizeToWrite (tableLimit < size)
+    ∷ meets workTable (records < tableLimit)
+    ∷ meets workTable (records′ < tableLimit)
+    ∷ meets workTable (records″ < tableLimit)
+    ∷ faults n 1 x
+    ∷ faults n 2 y
+    ∷ []
+
+-- ---- Lent memory -----------------------------------------------------------------------------
+
+-- A work table held t, and holds t′ after a call that answers a; z: the record that is zero.
+pub record TableLeft {A R : Type 0} (z : R) (a : Result A) (t t′ : List R) : Type 0 where
+  -- as it was, if the refusal names the call
+  pub kept : (f : Refusal) → a ≡ refused f → causeRow (f .cause) .names ≡ call → t′ ≡ t
+  -- every record zero after any other refusal, and after an answer
+  pub zeroed : (f : Refusal) → a ≡ refused f → causeRow (f .cause) .names ≡ place → t′ ≡ cleared z t
+  pub answered : (r : A) → a ≡ done r → t′ ≡ cleared z t
+
+-- An output held `out`, and holds out′ after a call that answers a.
+pub record OutputLeft (a : Result Answer) (out out′ : List ℕ) : Type 0 where
+  -- as it was, if the call is refused
+  pub kept : (f : Refusal) → a ≡ refused f → out′ ≡ out
+  -- "Bytes beyond those written keep their content."
+  pub beyond : (r : Answer) → a ≡ done r → (drop (r .written) out′ ≡ drop (r .written) out) × (length out′ ≡ length out)
+
+-- ---- What was written ------------------------------------------------------------------------
+
+-- A run over n options answers r and leaves out′ in the output that held `out`, where the paper defines `text` and c covered words.
+pub record Gets (n c : ℕ) (text out : List ℕ) (r : Answer) (out′ : List ℕ) : Type 0 where
+  -- the written bytes are the text's, as many as there is room for
+  pub bytes : take (r .written) out′ ≡ take (length out) text
+  pub count : r .written ≡ min (length out) (length text)
+  pub covers : r .covered ≡ c
+  pub ending : r .ending ≡ endingOf n c text out
+
+-- Both streams decide the word w, and d is what the operator decides from them: "its digit 2a + b for the decisions a, b of the two input
+-- streams on that word".
+pub record Operated (n op : ℕ) (x y : List ℕ) (w : ℕ) (d : Bool) : Type 0 where
+  pub a : Bool
+  pub b : Bool
+  pub first : decision n x w ≡ decided a
+  pub second : decision n y w ≡ decided b
+  pub digit : d ≡ operate op (a ∷ b ∷ [])
+
+-- The bytes, read with n options, cover at most c words and decide each word w that they cover, with a d that is Right there.
+pub record ReadAs (n c : ℕ) (Right : ℕ → Bool → Type 0) (bytes : List ℕ) : Type 0 where
+  -- they are accepted
+  pub accepted : reading n bytes .fault ≡ none
+  pub within : covered n bytes ≤ c
+  pub decides : (w : ℕ) → w < covered n bytes → (d : Bool) × (decision n bytes w ≡ decided d) × Right w d
+
+-- The bytes have come to the point, and cover every word.
+abbrev pub Complete : ℕ → List ℕ → Type 0
+Complete n bytes = (reading n bytes .state .place .mark ≡ over) × (covered n bytes ≡ 2 ^ n)
