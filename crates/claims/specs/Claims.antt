@@ -1,179 +1,110 @@
--- WHAT IS CLAIMED of the definitions that document 01 gives for each call. Every statement stands under a line of plain words and is proved by a
--- citation; the definitions that it names are those of the calls: `check`, `decide` and `fill` in reading's Calls, `write` and `combine` in
--- writing's Calls. Assumes nothing.
-use mathlib.Core.Path.{_≡_, sym, ap, _∙_, subst⁻¹}
-use mathlib.Core.Logic.{_↔_}
-use mathlib.Core.Bool.{Bool, true, false}
-use mathlib.Core.List.{List, [], _∷_, _++_, List·Memᴰ}
+-- WHAT IS CLAIMED of the definitions that document 01 gives for each call: `check`, `decide` and `fill` in reading's Calls, `write` and `combine`
+-- in writing's Calls. The contract of each call in code says that answer and lent memory are what its definition gives. Three records have the three
+-- demands, each statement under a line of plain words; their values at the end prove them by citation. Terms has the terms, Examples a run of each,
+-- Further what else is proved. R: a record of a work table to read with, S: one of a table to write with; z, o: those that are zero.
+-- x, y: input streams; t, u, v: work tables; out: what the output held. Assumes nothing.
+use mathlib.Core.Path.{_≡_}
+use mathlib.Core.Bool.{Bool}
+use mathlib.Core.List.{List, [], _∷_, _++_}
 use mathlib.Core.Option.{none, some}
-use Prim.Native.Nat.{ℕ, suc, _/_, _%_, _≤_, _<_, _^_, min}
-use lib.ListN.{length, take, drop, getD}
-use Rattle.lists.specs.Lists.{has, Distinct}
+use Prim.Native.Nat.{ℕ, _/_, _%_, _≤_, _<_, _^_, min}
+use lib.ListN.{length, take, getD}
+use Rattle.lists.specs.Lists.{All}
 use Rattle.lists.specs.Prefixes.{Begins}
-use Rattle.reading.specs.Limits.{optionLimit, tableLimit}
-use Rattle.reading.specs.Causes.{wrongByte, call, place, causeRow, Refusal, Result, refused, done, cleared}
-use Rattle.reading.specs.Grammar.{IsStream, Viable}
-use Rattle.reading.specs.Nodes.{hasParent}
-use Rattle.reading.specs.Element.{over, fault, ranOut}
-use Rattle.reading.specs.Reading.{Fault, Reading, reading}
-use Rattle.reading.specs.Deciding.{decided, undecided, decision, trace}
-use Rattle.reading.specs.Calls.{verdictOf, decide, digitOf, bytesFrom, fill}
+use Rattle.reading.specs.Limits.{tableLimit}
+use Rattle.reading.specs.Causes.{Refusal, refused, done}
+use Rattle.reading.specs.Element.{over}
+use Rattle.reading.specs.Reading.{Fault, reading}
+use Rattle.reading.specs.Deciding.{decided, undecided, decision}
+use Rattle.reading.specs.Calls.{Checked, extent, check, Verdict, verdictOf, decide, digitOf, fill}
 use Rattle.reading.specs.Covered as C
 use Rattle.reading.specs.Covered.{covered}
-use Rattle.reading.specs.Prefix as P
 use Rattle.reading.specs.Settled as S
-use Rattle.reading.specs.CauseSeven as G
 use Rattle.reading.specs.CallLaws as L
-use Rattle.writing.specs.UniqueTable.{start}
-use Rattle.writing.specs.Rules.{part}
-use Rattle.writing.specs.Run.{runCovered, runText, writtenBytes, outputAfter, whole, outputFull, Answer, answerOf}
-use Rattle.writing.specs.Calls.{inputOf, truthAt, write, Combine, combine}
-use Rattle.writing.specs.CallLaws as M
-use Rattle.writing.specs.Queue as Q
-use Rattle.writing.specs.Grows as W
-use Rattle.writing.specs.Output as O
-use Rattle.claims.specs.PaperRows as R
-use Rattle.claims.specs.PaperRows.{Row, rows, Holds}
-use Rattle.claims.specs.ReadBack.{ReadsBack}
-use Rattle.claims.specs.WrittenBytes.{Written}
-use Rattle.claims.specs.Terms.{Operated}
-use Rattle.claims.specs.Runs.{smaller-covered, ran, run-read, run-operated, run-whole-read, runs-covered, runs-begin, runs-decide, wrote, wrote-read, wrote-whole-read}
+use Rattle.writing.specs.Run.{runText, whole, Answer}
+use Rattle.writing.specs.Calls.{truthAt, write, combine}
+use Rattle.claims.specs.Terms.{TurnedDown, checkLines, decideLines, fillLines, writeLines, combineLines, TableLeft, OutputLeft, Gets, Operated, ReadAs, Complete}
+use Rattle.claims.specs.Refused as T
+use Rattle.claims.specs.LentMemory as M
+use Rattle.claims.specs.Runs as U
 
--- ---- The examples marked P -------------------------------------------------------------------
+-- ---- Demand 1 --------------------------------------------------------------------------------
 
--- Each row of the table P1 to P12 holds: what is written, and what checking answers.
-pub paper-rows : (r : Row) → List·Memᴰ r rows → Holds r
-paper-rows = R.the-table
+-- "Lent memory contains, after each call on whatever bytes and numbers came in, exactly what document 01 says; every call returns; a refused one
+-- leaves the output untouched and names the cause and the byte." (What an output gets is in demand 2. Definitions return; that code does is in
+-- its contract.)
+pub record Demand1 {R S : Type 0} (z : R) (o : S) : Type 0 where
+  -- Each call is refused exactly if it meets one of its causes; the first in the paper's order is named, with stream 0 and byte 0, or with the
+  -- stream, stream 1 before stream 2, and a byte inside it.
+  pub check-refused : (n : ℕ) (x : List ℕ) (t : List R) → TurnedDown (x ∷ []) (checkLines n x (length t)) (check z n x t .answer)
+  pub decide-refused : (n : ℕ) (x : List ℕ) (w : ℕ) (t : List R) → TurnedDown (x ∷ []) (decideLines n x w (length t)) (decide z n x w t .answer)
+  pub fill-refused : (n : ℕ) (x truths : List ℕ) (t : List R) → TurnedDown (x ∷ []) (fillLines n x truths (length t)) (fill z n x truths t .answer)
+  pub write-refused : (n size : ℕ) (truths out : List ℕ) (v : List S)
+      → TurnedDown [] (writeLines n size truths (length v)) (write o n size truths out v .answer)
+  pub combine-refused : (n op size : ℕ) (x y out : List ℕ) (t u : List R) (v : List S)
+      → TurnedDown (x ∷ y ∷ []) (combineLines n op size x y (length t) (length u) (length v)) (combine z o n op size x y out t u v .answer)
+  -- "In a stream the lowest fault place counts": the bytes before it are without fault.
+  pub lowest-fault : (n : ℕ) (x : List ℕ) (f : Fault) → reading n x .fault ≡ some f → (f .byte < length x) × (reading n (take (f .byte) x) .fault ≡ none)
+  -- A work table is as it was after a refusal that names the call, and zero in every record after any other return.
+  pub check-table : (n : ℕ) (x : List ℕ) (t : List R) → let c = check z n x t in TableLeft z (c .answer) t (c .table)
+  pub decide-table : (n : ℕ) (x : List ℕ) (w : ℕ) (t : List R) → let c = decide z n x w t in TableLeft z (c .answer) t (c .table)
+  pub fill-table : (n : ℕ) (x truths : List ℕ) (t : List R) → let c = fill z n x truths t in TableLeft z (c .answer) t (c .table)
+  pub write-table : (n size : ℕ) (truths out : List ℕ) (v : List S) → let c = write o n size truths out v in TableLeft o (c .answer) v (c .table)
+  pub combine-tables : (n op size : ℕ) (x y out : List ℕ) (t u : List R) (v : List S)
+      → let c = combine z o n op size x y out t u v in
+      TableLeft z (c .answer) t (c .first) × TableLeft z (c .answer) u (c .second) × TableLeft o (c .answer) v (c .third)
+  -- A refused call leaves truth table and output as they were; another keeps their length and, in the output, the bytes beyond those written.
+  pub fill-truths : (n : ℕ) (x truths : List ℕ) (t : List R)
+      → let c = fill z n x truths t in ((f : Refusal) → c .answer ≡ refused f → c .truths ≡ truths) × (length (c .truths) ≡ length truths)
+  pub write-output : (n size : ℕ) (truths out : List ℕ) (v : List S) → let c = write o n size truths out v in OutputLeft (c .answer) out (c .output)
+  pub combine-output : (n op size : ℕ) (x y out : List ℕ) (t u : List R) (v : List S)
+      → let c = combine z o n op size x y out t u v in OutputLeft (c .answer) out (c .output)
 
--- ---- Cause 7 and the grammar -----------------------------------------------------------------
+-- ---- Demand 2 --------------------------------------------------------------------------------
 
--- Cause 7 is at the first byte that no stream could have there: with it no stream begins so, without it some stream does.
-pub cause-seven : (n : ℕ) (bytes : List ℕ) (b : ℕ) → reading n bytes .fault ≡ some (record { cause = wrongByte; byte = b })
-    → (b < length bytes) × Viable (take b bytes) × (Viable (take (suc b) bytes) → ⊥)
-cause-seven = G.wrong-byte
-
--- Bytes without fault begin some stream.
-pub no-fault : (n : ℕ) (bytes : List ℕ) → reading n bytes .fault ≡ none → Viable bytes
-no-fault = G.viable-so-far
-
--- Of bytes without fault, those that have come to the point are exactly the streams of the grammar.
-pub complete-streams : (n : ℕ) (bytes : List ℕ) → reading n bytes .fault ≡ none → (reading n bytes .state .place .mark ≡ over) ↔ IsStream bytes
-complete-streams n bytes e = (G.complete-stream n bytes e, λ h. G.stream-complete n bytes h e)
-
--- The lowest fault place counts: a fault lies inside the bytes, and those before it are without fault.
-pub lowest-fault : (n : ℕ) (bytes : List ℕ) (f : Fault) → reading n bytes .fault ≡ some f → (f .byte < length bytes) × (reading n (take (f .byte) bytes) .fault ≡ none)
-lowest-fault n bytes f e = (S.fault-inside n bytes f e, S.fault-lowest n bytes f e)
-
--- The reader, which only steps, stops at the same byte: where it finds cause 7, and where the bytes run out.
-pub reader-cause-seven : (bytes : List ℕ) (b : ℕ) → G.stepped bytes .outcome ≡ fault wrongByte b → (b < length bytes) × Viable (take b bytes) × (Viable (take (suc b) bytes) → ⊥)
-reader-cause-seven = G.stepped-wrong
-
-pub reader-no-fault : (bytes : List ℕ) → G.stepped bytes .outcome ≡ ranOut → Viable bytes × ((G.stepped bytes .place .mark ≡ over) ↔ IsStream bytes)
-reader-no-fault bytes e = (G.stepped-viable bytes e, G.stepped-over bytes e)
-
--- ---- Demand 1: lent memory -------------------------------------------------------------------
-
--- A refused call leaves the output as it was, whatever came in.
-pub refused-fill : {R : Type 0} (z : R) (n : ℕ) (bytes old : List ℕ) (t : List R) (f : Refusal) → fill z n bytes old t .answer ≡ refused f → fill z n bytes old t .truths ≡ old
-refused-fill = L.fill-refused
-
-pub refused-write : {R : Type 0} (z : R) (n size : ℕ) (truths out : List ℕ) (t : List R) (f : Refusal)
-    → write z n size truths out t .answer ≡ refused f → write z n size truths out t .output ≡ out
-refused-write = M.write-refused
-
-pub refused-combine : {R S : Type 0} (z : R) (o : S) (n op size : ℕ) (x y out : List ℕ) (t u : List R) (v : List S) (f : Refusal)
-    → combine z o n op size x y out t u v .answer ≡ refused f → combine z o n op size x y out t u v .output ≡ out
-refused-combine = M.combine-refused
-
--- The work tables are as they were after a refusal that names the call (causes 1 to 6), and zero in every record after any other return.
-pub combine-tables : {R S : Type 0} (z : R) (o : S) (n op size : ℕ) (x y out : List ℕ) (t u : List R) (v : List S)
-    → let a = combine z o n op size x y out t u v .answer in let Tables = M.Tables z o n op size x y out t u v in
-    ((f : Refusal) → a ≡ refused f → causeRow (f .cause) .names ≡ call → Tables t u v)
-    × ((f : Refusal) → a ≡ refused f → causeRow (f .cause) .names ≡ place → Tables (cleared z t) (cleared z u) (cleared o v))
-    × ((r : Answer) → a ≡ done r → Tables (cleared z t) (cleared z u) (cleared o v))
-combine-tables z o n op size x y out t u v = (M.combine-untouched z o n op size x y out t u v, M.combine-zeroed z o n op size x y out t u v, M.combine-done z o n op size x y out t u v)
-
--- ---- Demand 2: reading -----------------------------------------------------------------------
-
--- The words that a stream covers are those that it decides: a covered word has a decision, another has none.
-pub covered-words : (n : ℕ) (bytes : List ℕ) (w : ℕ) → w < 2 ^ n
-    → (w < covered n bytes → (d : Bool) × (decision n bytes w ≡ decided d)) × (covered n bytes ≤ w → decision n bytes w ≡ undecided)
-covered-words n bytes w h = (λ k. (_, C.covered-decided n bytes w h k), C.uncovered-undecided n bytes w h)
-
--- A complete stream covers every word.
-pub complete-covers : (n : ℕ) (bytes : List ℕ) → reading n bytes .state .place .mark ≡ over → covered n bytes ≡ 2 ^ n
-complete-covers = C.complete-covers
-
--- Deciding answers yes, no or not yet as the diagram's definition decides the word.
-pub deciding : {R : Type 0} (z : R) (n : ℕ) (bytes : List ℕ) (w : ℕ) (table : List R) → n ≤ optionLimit → tableLimit ≤ length table → w < 2 ^ n → reading n bytes .fault ≡ none
-    → decide z n bytes w table .answer ≡ done (verdictOf (decision n bytes w))
-deciding = L.decide-decision
-
--- A filled truth table has that decision at binary digit w mod 8 of byte w / 8, and 0 from the covered count on.
-pub filling : (k n : ℕ) (bytes : List ℕ) (w : ℕ) → w < 2 ^ n → w / 8 < k → getD (bytesFrom k n (trace n bytes) 0) (w / 8) 0 / 2 ^ (w % 8) % 2 ≡ digitOf (verdictOf (decision n bytes w))
-filling = L.filled-word
-
--- Reading a longer stream goes on where the shorter one stopped: a fault stays, the covered count grows, a decided word stays decided.
-pub longer-streams : (n : ℕ) (x u : List ℕ)
-    → ((f : Fault) → reading n x .fault ≡ some f → reading n (x ++ u) .fault ≡ some f)
-    × (covered n x ≤ covered n (x ++ u))
-    × ((w : ℕ) (d : Bool) → w < 2 ^ n → decision n x w ≡ decided d → decision n (x ++ u) w ≡ decided d)
-longer-streams n x u = (λ f e. ap (λ (r : Reading). r .fault) (P.fault-stands n x u f e) ∙ e, C.covered-grows n x u, λ w d. C.decision-stands n x u w d)
-
--- ---- Writing ---------------------------------------------------------------------------------
-
--- The covered count of a run over two streams is the smaller of theirs.
-pub smaller-count : (n : ℕ) (x y : List ℕ) → runCovered n (inputOf n x ∷ inputOf n y ∷ []) ≡ min (covered n x) (covered n y)
-smaller-count = smaller-covered
-
--- The queue has the stored nodes that are no stored node's child, each once, and no others.
-pub queue-holds : (size n : ℕ) (f : ℕ → Bool)
-    → let s = part size n 1 0 f start .state in
-    Distinct (s .queue) × ((q : ℕ) → (has q (s .queue) ≡ true) ↔ ((0 < q) × (q < length (s .table)) × (hasParent (s .table) q ≡ false)))
-queue-holds = Q.queue-exact
-
--- Words that a run does not cover change nothing in its text: what the inputs decide there is free.
-pub later-words : (n size c : ℕ) (f g : ℕ → Bool) → ((w : ℕ) → w < c → f w ≡ g w) → runText n size c f ≡ runText n size c g
-later-words = W.run-stable
-
--- Bytes beyond those written keep their content, and the output keeps its length.
-pub bytes-beyond : (text out : List ℕ)
-    → let k = length (writtenBytes text out) in (drop k (outputAfter text out) ≡ drop k out) × (length (outputAfter text out) ≡ length out)
-bytes-beyond text out = (O.output-beyond text out, O.output-length text out)
-
--- A walk may stop as soon as what it has released is longer than the output: what the output gets and the answer are settled.
-pub stopping : (n size c c′ : ℕ) (f g : ℕ → Bool) (out : List ℕ) → c ≤ c′ → c′ ≤ 2 ^ n → ((w : ℕ) → w < c → f w ≡ g w) → length out < length (runText n size c f)
-    → (outputAfter (runText n size c′ g) out ≡ writtenBytes (runText n size c f) out)
-    × (answerOf n c′ (runText n size c′ g) out ≡ record { written = length out; covered = c′; ending = outputFull })
-stopping = O.may-stop
-
--- ---- Demand 2: reading what was written ------------------------------------------------------
-
--- The stream that writing gives for a truth table is accepted, complete, covers all words, and decides each as the table does.
-pub writing-read-back : {R : Type 0} (z : R) (n size : ℕ) (truths out : List ℕ) (t : List R) (r : Answer) → write z n size truths out t .answer ≡ done r → r .ending ≡ whole
-    → ReadsBack n (truthAt truths) (take (r .written) (write z n size truths out t .output))
-writing-read-back z n size truths out t r e = wrote-whole-read n size truths out r _ (wrote z n size truths out t r e)
-
--- What writing gives in an output that is too short is accepted, and decides the words that it covers as the table does.
-pub writing-beginning : {R : Type 0} (z : R) (n size : ℕ) (truths out : List ℕ) (t : List R) (r : Answer) → write z n size truths out t .answer ≡ done r
-    → Written n (2 ^ n) (truthAt truths) (take (r .written) (write z n size truths out t .output))
-writing-beginning z n size truths out t r e = wrote-read n size truths out r _ (wrote z n size truths out t r e)
-
--- The stream that combining gives decides every word as the operator does, taken word by word, if the run ends "whole".
-pub combining-read-back : {R S : Type 0} (z : R) (o : S) (n op size : ℕ) (x y out : List ℕ) (t u : List R) (v : List S) (r : Answer) → combine z o n op size x y out t u v .answer ≡ done r → r .ending ≡ whole
-    → let bytes = take (r .written) (combine z o n op size x y out t u v .output) in
-    (covered n bytes ≡ 2 ^ n) × (reading n bytes .state .place .mark ≡ over) × ((w : ℕ) → w < 2 ^ n → (d : Bool) × (decision n bytes w ≡ decided d) × Operated n op x y w d)
-combining-read-back z o n op size x y out t u v r e h =
-    let s = ran z o n op size x y out t u v r e in
-    let b = run-whole-read n op size x y out r _ s h in
-    (b .covers, b .complete, λ w k. run-operated n op size x y out r _ s w (subst⁻¹ (λ (c : ℕ). w < c) (b .covers) k))
+-- "Reading decides each word as the diagram's definition does; writing gives precisely the stream that document 01 defines for the operator taken
+-- word by word and the table size; reading that stream gives the same decisions."
+pub record Demand2 {R S : Type 0} (z : R) (o : S) : Type 0 where
+  -- READING. The words that a stream covers are those that it decides: a covered word has a decision, another has none.
+  pub covered-words : (n : ℕ) (x : List ℕ) (w : ℕ) → w < 2 ^ n
+      → (w < covered n x → (d : Bool) × (decision n x w ≡ decided d)) × (covered n x ≤ w → decision n x w ≡ undecided)
+  -- A complete stream covers every word.
+  pub complete-covers : (n : ℕ) (x : List ℕ) → reading n x .state .place .mark ≡ over → covered n x ≡ 2 ^ n
+  -- Checking answers the declared size, the covered count, and complete or cut.
+  pub checking : (n : ℕ) (x : List ℕ) (t : List R) (r : Checked) → check z n x t .answer ≡ done r
+      → let s = reading n x .state in r ≡ record { size = s .size; covered = covered n x; extent = extent (s .place .mark) }
+  -- Deciding answers yes, no or not yet as the diagram decides the word.
+  pub deciding : (n : ℕ) (x : List ℕ) (w : ℕ) (t : List R) (r : Verdict) → decide z n x w t .answer ≡ done r → r ≡ verdictOf (decision n x w)
+  -- Filling answers the covered count; word w is binary digit w mod 8 of byte w / 8, and 0 from the covered count on.
+  pub filling : (n : ℕ) (x truths : List ℕ) (t : List R) (r : ℕ) → fill z n x truths t .answer ≡ done r
+      → let after = fill z n x truths t .truths in
+      (r ≡ covered n x) × All (λ b. b < 256) after × ((w : ℕ) → w < 2 ^ n → getD after (w / 8) 0 / 2 ^ (w % 8) % 2 ≡ digitOf (verdictOf (decision n x w)))
+  -- WRITING a truth table. The output gets the first bytes of the table's stream, as many as fit.
+  pub writing-stream : (n size : ℕ) (truths out : List ℕ) (v : List S) (r : Answer) → write o n size truths out v .answer ≡ done r
+      → Gets n (2 ^ n) (runText n size (2 ^ n) (truthAt truths)) out r (write o n size truths out v .output)
+  -- The written bytes, all or not, are accepted and decide the words that they cover as the table does.
+  pub writing-read : (n size : ℕ) (truths out : List ℕ) (v : List S) (r : Answer) → write o n size truths out v .answer ≡ done r
+      → ReadAs n (r .covered) (λ w d. d ≡ truthAt truths w) (take (r .written) (write o n size truths out v .output))
+  -- If the ending is "whole" they are complete, and cover every word.
+  pub writing-whole : (n size : ℕ) (truths out : List ℕ) (v : List S) (r : Answer) → write o n size truths out v .answer ≡ done r → r .ending ≡ whole
+      → Complete n (take (r .written) (write o n size truths out v .output))
+  -- COMBINING. On the words that both streams cover the operator decides; their number is the run's covered count.
+  pub combining-words : (n op : ℕ) (x y : List ℕ) (w : ℕ) → w < min (covered n x) (covered n y) → (d : Bool) × Operated n op x y w d
+  -- Whatever f decides these words as the operator does, the output gets the first bytes of its stream for that covered count, as many as fit.
+  pub combining-stream : (n op size : ℕ) (x y out : List ℕ) (t u : List R) (v : List S) (r : Answer) → combine z o n op size x y out t u v .answer ≡ done r
+      → let c = min (covered n x) (covered n y) in
+      (f : ℕ → Bool) → ((w : ℕ) → w < c → Operated n op x y w (f w)) → Gets n c (runText n size c f) out r (combine z o n op size x y out t u v .output)
+  -- The written bytes, whatever the ending, are accepted and decide the words that they cover as the operator does.
+  pub combining-read : (n op size : ℕ) (x y out : List ℕ) (t u : List R) (v : List S) (r : Answer) → combine z o n op size x y out t u v .answer ≡ done r
+      → ReadAs n (r .covered) (Operated n op x y) (take (r .written) (combine z o n op size x y out t u v .output))
+  -- If the ending is "whole" they are complete, and cover every word.
+  pub combining-whole : (n op size : ℕ) (x y out : List ℕ) (t u : List R) (v : List S) (r : Answer) → combine z o n op size x y out t u v .answer ≡ done r
+      → r .ending ≡ whole → Complete n (take (r .written) (combine z o n op size x y out t u v .output))
 
 -- ---- Demand 3 --------------------------------------------------------------------------------
 
--- Of two runs of combining, "alike in operator, option count and table size, where each input stream of the second is the first's with any bytes
--- after it or none, and the second's output is at least as long, whatever outputs and work tables held before": x, y and x′, y′ are their streams,
--- r and r′ their answers, bytes and bytes′ their written bytes.
-pub record Demand3 (n op : ℕ) (x y x′ y′ : List ℕ) (r r′ : Answer) (bytes bytes′ : List ℕ) : Type 0 where
+-- Of two runs: x, y and x′, y′ are their streams, r and r′ their answers, bytes and bytes′ their written bytes.
+pub record Together (n op : ℕ) (x y x′ y′ : List ℕ) (r r′ : Answer) (bytes bytes′ : List ℕ) : Type 0 where
   -- "the second's written bytes begin with all that the first wrote"
   pub begins : Begins bytes bytes′
   -- "its covered count is no smaller"
@@ -185,46 +116,62 @@ pub record Demand3 (n op : ℕ) (x y x′ y′ : List ℕ) (r r′ : Answer) (by
   pub decides : (w : ℕ) → w < covered n bytes
       → (d : Bool) × (decision n bytes w ≡ decided d) × (decision n bytes′ w ≡ decided d) × Operated n op x y w d × Operated n op x′ y′ w d
 
--- DEMAND 3, whole: of any two such runs, neither refused.
-pub demand-3 : {R S : Type 0} (z : R) (o : S) (n op size : ℕ) (x y x₊ y₊ out out′ : List ℕ) (t u t′ u′ : List R) (v v′ : List S) (r r′ : Answer) → length out ≤ length out′
-    → let run = combine z o n op size x y out t u v in
-    let run′ = combine z o n op size (x ++ x₊) (y ++ y₊) out′ t′ u′ v′ in
-    run .answer ≡ done r → run′ .answer ≡ done r′
-    → Demand3 n op x y (x ++ x₊) (y ++ y₊) r r′ (take (r .written) (run .output)) (take (r′ .written) (run′ .output))
-demand-3 z o n op size x y x₊ y₊ out out′ t u t′ u′ v v′ r r′ l e e′ =
-    let s = ran z o n op size x y out t u v r e in
-    let s′ = ran z o n op size (x ++ x₊) (y ++ y₊) out′ t′ u′ v′ r′ e′ in
-    record {
-      begins = runs-begin n op size x y x₊ y₊ out out′ r r′ _ _ s s′ l;
-      covers = runs-covered n op size x y x₊ y₊ out out′ r r′ _ _ s s′ l;
-      accepted = (run-read n op size x y out r _ s .accepted, run-read n op size (x ++ x₊) (y ++ y₊) out′ r′ _ s′ .accepted);
-      decides = runs-decide n op size x y x₊ y₊ out out′ r r′ _ _ s s′ l;
-    }
+pub record Demand3 {R S : Type 0} (z : R) (o : S) : Type 0 where
+  -- "Take any two runs, neither refused, alike in operator, option count and table size, where each input stream of the second is the first's with
+  -- any bytes after it or none, and the second's output is at least as long, whatever outputs and work tables held before. Then together:"
+  pub runs : (n op size : ℕ) (x y x₊ y₊ out out′ : List ℕ) (t u t′ u′ : List R) (v v′ : List S) (r r′ : Answer) → length out ≤ length out′
+      → let run = combine z o n op size x y out t u v in
+      let run′ = combine z o n op size (x ++ x₊) (y ++ y₊) out′ t′ u′ v′ in
+      run .answer ≡ done r → run′ .answer ≡ done r′
+      → Together n op x y (x ++ x₊) (y ++ y₊) r r′ (take (r .written) (run .output)) (take (r′ .written) (run′ .output))
 
--- ---- The calls ---------------------------------------------------------------------------------
+-- ---- The proofs ------------------------------------------------------------------------------
 
--- What the contract of `combine` in crate combiner says of a call: its answer, the three work tables and the output afterwards. There R is a record
--- of 6 cells and S one of 12; z and o are all zero.
-abbrev pub Called : {R S : Type 0} → R → S → ℕ → ℕ → ℕ → List ℕ → List ℕ → List ℕ → List R → List R → List S → Result Answer → List R → List R → List S → List ℕ → Type 0
-Called z o n op size x y out t u v a p q w bytes = record { answer = a; first = p; second = q; third = w; output = bytes } ≡ combine z o n op size x y out t u v
+pub demand-1 : {R S : Type 0} (z : R) (o : S) → Demand1 z o
+unfolding check decide fill write combine
+demand-1 z o = record {
+  check-refused = λ n x t. T.check-lines n x (length t);
+  decide-refused = λ n x w t. T.decide-lines n x w (length t);
+  fill-refused = λ n x truths t. T.fill-lines n x truths (length t);
+  write-refused = λ n size truths out v. T.write-lines n size truths out (length v);
+  combine-refused = λ n op size x y out t u v. T.combine-lines n op size x y out (length t) (length u) (length v);
+  lowest-fault = λ n x f e. (S.fault-inside n x f e, S.fault-lowest n x f e);
+  check-table = M.check-table z;
+  decide-table = M.decide-table z;
+  fill-table = M.fill-table z;
+  write-table = M.write-table o;
+  combine-tables = M.combine-tables z o;
+  fill-truths = λ n x truths t. (L.fill-refused z n x truths t, M.fill-length z n x truths t);
+  write-output = M.write-output o;
+  combine-output = M.combine-output z o;
+}
 
--- DEMAND 2 of a call that ends "whole": the bytes that it wrote, read as a stream, decide every word as the operator does, taken word by word.
-pub call-demand-2 : {R S : Type 0} (z : R) (o : S) (n op size : ℕ) (x y out : List ℕ) (t u : List R) (v : List S) (r : Answer) (p q : List R) (w : List S) (after : List ℕ)
-    → Called z o n op size x y out t u v (done r) p q w after → r .ending ≡ whole
-    → let bytes = take (r .written) after in
-    (covered n bytes ≡ 2 ^ n) × (reading n bytes .state .place .mark ≡ over) × ((w : ℕ) → w < 2 ^ n → (d : Bool) × (decision n bytes w ≡ decided d) × Operated n op x y w d)
-call-demand-2 {R} {S} z o n op size x y out t u v r p q w after h e =
-    subst⁻¹ (λ (l : List ℕ). (covered n (take (r .written) l) ≡ 2 ^ n) × (reading n (take (r .written) l) .state .place .mark ≡ over)
-    × ((w : ℕ) → w < 2 ^ n → (d : Bool) × (decision n (take (r .written) l) w ≡ decided d) × Operated n op x y w d)) (ap (λ (c : Combine R S). c .output) h)
-    (combining-read-back z o n op size x y out t u v r (sym (ap (λ (c : Combine R S). c .answer) h)) e)
+pub demand-2 : {R S : Type 0} (z : R) (o : S) → Demand2 z o
+unfolding check
+demand-2 z o = record {
+  covered-words = λ n x w h. (λ k. (_, C.covered-decided n x w h k), C.uncovered-undecided n x w h);
+  complete-covers = C.complete-covers;
+  checking = λ n x t r e. T.check-by n x (length t) .unless r .0 e .1;
+  deciding = T.decide-decided z;
+  filling = M.filled z;
+  writing-stream = λ n size truths out v r e. U.wrote-gets n size truths out r _ (U.wrote o n size truths out v r e);
+  writing-read = λ n size truths out v r e. U.wrote-read-as n size truths out r _ (U.wrote o n size truths out v r e);
+  writing-whole = λ n size truths out v r e. U.wrote-complete n size truths out r _ (U.wrote o n size truths out v r e);
+  combining-words = U.operated-covered;
+  combining-stream = λ n op size x y out t u v r e. U.run-gets n op size x y out r _ (U.ran z o n op size x y out t u v r e);
+  combining-read = λ n op size x y out t u v r e. U.run-read-as n op size x y out r _ (U.ran z o n op size x y out t u v r e);
+  combining-whole = λ n op size x y out t u v r e. U.run-complete n op size x y out r _ (U.ran z o n op size x y out t u v r e);
+}
 
--- DEMAND 3 of two calls, whatever outputs and work tables held before.
-pub calls-demand-3 : {R S : Type 0} (z : R) (o : S) (n op size : ℕ) (x y x₊ y₊ out out′ : List ℕ) (t u t′ u′ : List R) (v v′ : List S) (r r′ : Answer) (p q p′ q′ : List R) (w w′ : List S)
-    (after after′ : List ℕ) → length out ≤ length out′ → Called z o n op size x y out t u v (done r) p q w after
-    → Called z o n op size (x ++ x₊) (y ++ y₊) out′ t′ u′ v′ (done r′) p′ q′ w′ after′
-    → Demand3 n op x y (x ++ x₊) (y ++ y₊) r r′ (take (r .written) after) (take (r′ .written) after′)
-calls-demand-3 {R} {S} z o n op size x y x₊ y₊ out out′ t u t′ u′ v v′ r r′ p q p′ q′ w w′ after after′ l h h′ =
-    subst⁻¹ (λ (k : List ℕ). Demand3 n op x y (x ++ x₊) (y ++ y₊) r r′ (take (r .written) k) (take (r′ .written) after′)) (ap (λ (c : Combine R S). c .output) h)
-    (subst⁻¹ (λ (k : List ℕ). Demand3 n op x y (x ++ x₊) (y ++ y₊) r r′ (take (r .written) (combine z o n op size x y out t u v .output)) (take (r′ .written) k))
-    (ap (λ (c : Combine R S). c .output) h′)
-    (demand-3 z o n op size x y x₊ y₊ out out′ t u t′ u′ v v′ r r′ l (sym (ap (λ (c : Combine R S). c .answer) h)) (sym (ap (λ (c : Combine R S). c .answer) h′))))
+pub demand-3 : {R S : Type 0} (z : R) (o : S) → Demand3 z o
+demand-3 z o = record {
+  runs = λ n op size x y x₊ y₊ out out′ t u t′ u′ v v′ r r′ l e e′.
+      let s = U.ran z o n op size x y out t u v r e in
+      let s′ = U.ran z o n op size (x ++ x₊) (y ++ y₊) out′ t′ u′ v′ r′ e′ in
+      record {
+        begins = U.runs-begin n op size x y x₊ y₊ out out′ r r′ _ _ s s′ l;
+        covers = U.runs-covered n op size x y x₊ y₊ out out′ r r′ _ _ s s′ l;
+        accepted = (U.run-read n op size x y out r _ s .accepted, U.run-read n op size (x ++ x₊) (y ++ y₊) out′ r′ _ s′ .accepted);
+        decides = U.runs-decide n op size x y x₊ y₊ out out′ r r′ _ _ s s′ l;
+      };
+}

@@ -6,6 +6,7 @@ pub mod ReadBack
 pub mod WrittenBytes
 pub mod Terms
 pub mod Refused
+pub mod LentMemory
 pub mod Runs
 pub mod PaperRows
 pub mod Claims

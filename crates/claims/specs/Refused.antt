@@ -11,12 +11,14 @@ use native.Mathlib.Omega.{arith}
 use lib.Dec.{ltb, leb, eqb}
 use lib.ListN.{length, getD}
 use borrow.Author.Tests.{ltb-true, ltb-false, leb-true, leb-false, eqb-true, eqb-false, not-true, not-false}
+use Rattle.lists.specs.Lists.{decide-eq, decide-le}
 use Rattle.reading.specs.Limits.{optionLimit, tableLimit, truthTableLeast, truthTableMost}
 use Rattle.reading.specs.Causes.{Cause, optionCount, operatorCode, sizeToWrite, workTable, wordRange, truthTable, call, causeRow, Refusal, refusal, Result, refused, done, Test, test, gate}
 use Rattle.reading.specs.Reading.{Fault, Reading, reading}
 use Rattle.reading.specs.Settled.{never-some, fault-inside, fault-place}
-use Rattle.reading.specs.Calls.{manyOptions, shortTable, notTruthTable, wrongLength, unlessFault, checkedOf, checkAnswer, verdict, decideAnswer, fillAnswer}
-use Rattle.reading.specs.Deciding.{trace}
+use Rattle.reading.specs.Calls.{manyOptions, shortTable, notTruthTable, wrongLength, unlessFault, checkedOf, checkAnswer, Verdict, verdictOf, verdict, decideAnswer, decide, fillAnswer}
+use Rattle.reading.specs.Deciding.{decision, trace}
+use Rattle.reading.specs.CallLaws.{decide-decision}
 use Rattle.reading.specs.Prefix.{trace-reading}
 use Rattle.writing.specs.Run.{Input, runCovered, answerOf}
 use Rattle.writing.specs.Calls.{largeSize, writeText, writeAnswer, largeOperator, unlessFaults, inputOf, combineText, shortTables, combineAnswer}
@@ -145,6 +147,12 @@ turned-down xs ls v a h b = record {
   names = λ f e. first-named xs ls h f (b .exactly f .0 e);
 }
 
+pub not-above : (k limit : ℕ) → (limit < k → ⊥) → k ≤ limit
+not-above k limit h = ⊎-elim (λ (l : k ≤ limit). l) (λ (l : limit < k). absurd (h l)) (decide-le k limit)
+
+pub not-apart : (k j : ℕ) → (k ≢ j → ⊥) → k ≡ j
+not-apart k j h = ⊎-elim (λ (e : k ≡ j). e) (λ (d : k ≢ j). absurd (h d)) (decide-eq k j)
+
 -- ---- The calls -------------------------------------------------------------------------------
 
 above : (c : Cause) (limit k : ℕ) → Stands (test c (ltb limit k)) (meets c (limit < k))
@@ -185,6 +193,17 @@ decide-lines n x w records =
     (tests-lines (manyOptions n ∷ shortTable records ∷ test wordRange (leb (2 ^ n) w) ∷ []) _ v _
     (above optionCount optionLimit n, (above workTable records tableLimit, (from wordRange (2 ^ n) w,
     subst⁻¹ (λ (o : Option Fault). By (faults n 1 x ∷ []) v (unlessFault 1 o (done v))) f (fault-line n 1 x [] v _ (by-none v))))))
+
+-- what it answers is what the stream decides
+pub decide-decided : {R : Type 0} (z : R) (n : ℕ) (x : List ℕ) (w : ℕ) (t : List R) (r : Verdict) → decide z n x w t .answer ≡ done r → r ≡ verdictOf (decision n x w)
+unfolding decide
+decide-decided z n x w t r e =
+    let m = decide-lines n x w (length t) .unless .0 (r, e) in
+    let h = decide-decision z n x w t (not-above n optionLimit (m .0)) (not-above tableLimit (length t) (m .1 .0)) (below (m .1 .1 .0)) (m .1 .1 .1 .0) in
+    same-done r (verdictOf (decision n x w)) (sym e ∙ h)
+  where
+    below : (2 ^ n ≤ w → ⊥) → w < 2 ^ n
+    below h = not-above (suc w) (2 ^ n) (λ l. h (omega (arith, l)))
 
 pub fill-by : (n : ℕ) (x truths : List ℕ) (records : ℕ) → By (fillLines n x truths records) (reading n x .state .covered) (fillAnswer n x truths records)
 unfolding fillAnswer

@@ -1,7 +1,7 @@
 -- What a run of combining, or a call of writing, that is not refused is: its limits, its streams without fault, its answer and its written bytes.
 -- Assumes nothing.
-use mathlib.Core.Path.{_≡_, refl, sym, ap, ap₂, _∙_, subst⁻¹}
-use mathlib.Core.Logic.{inr, ⊎-elim}
+use mathlib.Core.Path.{_≡_, refl, sym, ap, ap₂, _∙_, subst, subst⁻¹}
+use mathlib.Core.Logic.{inr}
 use mathlib.Core.Bool.{Bool, true, false, cond}
 use mathlib.Core.List.{List, [], _∷_, _++_}
 use mathlib.Core.Option.{none}
@@ -11,7 +11,6 @@ use native.Mathlib.Omega.{arith}
 use lib.Dec.{ltb, eqb}
 use lib.ListN.{length, take}
 use borrow.Author.Tests.{ltb-false, eqb-true}
-use Rattle.lists.specs.Lists.{decide-le}
 use Rattle.lists.specs.Prefixes.{Begins}
 use Rattle.reading.specs.Limits.{optionLimit, tableLimit, truthTableMost}
 use Rattle.reading.specs.Causes.{Result, done, unlessRefused}
@@ -19,13 +18,14 @@ use Rattle.reading.specs.Reading.{reading}
 use Rattle.reading.specs.Deciding.{decided, decision}
 use Rattle.reading.specs.Covered.{covered, covered-decided, covered-most, covered-grows, decision-stands}
 use Rattle.writing.specs.Run.{operate, runCovered, joint, runText, runOf, writtenBytes, outputAfter, whole, inputEnded, outputFull, Answer, answerOf}
+use Rattle.writing.specs.Grows.{run-stable}
 use Rattle.writing.specs.Inputs.{runCovered-most, runCovered-two, runCovered-each, Extends, Extend, runCovered-grows, runOf-written}
-use Rattle.writing.specs.Output.{output-written, written-all}
+use Rattle.writing.specs.Output.{written-length, output-written, written-all}
 use Rattle.writing.specs.Calls.{orNo, inputOf, combineText, combineAnswer, combine, writeText, truthAt, writeAnswer, write}
-use Rattle.claims.specs.Terms.{notThreeToSixteen, Operated}
-use Rattle.claims.specs.Refused.{inputs, Streams, combine-by, write-by}
-use Rattle.claims.specs.ReadBack.{ReadsBack, read-back}
-use Rattle.claims.specs.WrittenBytes.{Written, run-written}
+use Rattle.claims.specs.Terms.{notThreeToSixteen, Gets, Operated, ReadAs, Complete}
+use Rattle.claims.specs.Refused.{not-above, inputs, Streams, combine-by, write-by}
+use Rattle.claims.specs.ReadBack.{read-back}
+use Rattle.claims.specs.WrittenBytes.{decided-same, Written, run-written}
 
 -- ---- A run of combining ----------------------------------------------------------------------
 
@@ -48,8 +48,14 @@ answer-whole n c text out e = go (ltb (length out) (length text)) refl (eqb c (2
     go false a true b h = (eqb-true c (2 ^ n) b, written-all text out (ltb-false (length out) (length text) a))
     go false a false b h = absurd (let z : _≡_ {A = ℕ} 0 1 = cc in omega arith)
 
-pub not-above : (k limit : ℕ) → (limit < k → ⊥) → k ≤ limit
-not-above k limit h = ⊎-elim (λ (l : k ≤ limit). l) (λ (l : limit < k). absurd (h l)) (decide-le k limit)
+gets : (n c : ℕ) (text out : List ℕ) (r : Answer) (t : List ℕ) → r ≡ answerOf n c text out → take (r .written) t ≡ writtenBytes text out → Gets n c text out r t
+unfolding answerOf writtenBytes
+gets n c text out r t e b = record {
+  bytes = b;
+  count = ap (λ (q : Answer). q .written) e ∙ written-length text out;
+  covers = ap (λ (q : Answer). q .covered) e;
+  ending = ap (λ (q : Answer). q .ending) e;
+}
 
 -- the run over the streams x and y with the answer r, and the output t after it
 pub record Ran (n op size : ℕ) (x y out : List ℕ) (r : Answer) (t : List ℕ) : Type 0 where
@@ -110,6 +116,17 @@ joint-operated n op x y w h =
     let q = input-decided n y w (omega (arith, h, c .1 .0)) in
     record { a = p .0; b = q .0; first = p .1; second = q .1; digit = ap₂ (λ (s t : Bool). operate op (s ∷ t ∷ [])) (p .2) (q .2) }
 
+-- the operator decides one way only
+operated-same : (n op : ℕ) (x y : List ℕ) (w : ℕ) (c d : Bool) → Operated n op x y w c → Operated n op x y w d → c ≡ d
+operated-same n op x y w c d p q =
+    let e : p .a ≡ q .a = decided-same (decision n x w) (p .a) (q .a) (p .first) (q .first) in
+    let f : p .b ≡ q .b = decided-same (decision n y w) (p .b) (q .b) (p .second) (q .second) in
+    p .digit ∙ ap₂ (λ (s t : Bool). operate op (s ∷ t ∷ [])) e f ∙ sym (q .digit)
+
+-- on a word that both streams cover it does decide
+pub operated-covered : (n op : ℕ) (x y : List ℕ) (w : ℕ) → w < min (covered n x) (covered n y) → (d : Bool) × Operated n op x y w d
+operated-covered n op x y w h = (_, joint-operated n op x y w (omega (arith, h, smaller-covered n x y)))
+
 module _ (n op size : ℕ) (x y out : List ℕ) (r : Answer) (t : List ℕ) (h : Ran n op size x y out r t) where
   pub run-covered : r .covered ≡ runCovered n (inputs n x y)
   run-covered = ap (λ (q : Answer). q .covered) (h .answer) ∙ answer-covered n (runCovered n (inputs n x y)) (combineText n op size (Streams x y)) out
@@ -121,17 +138,34 @@ module _ (n op size : ℕ) (x y out : List ℕ) (r : Answer) (t : List ℕ) (h :
       (run-written n size (runCovered n (inputs n x y)) (joint (operate op) (inputs n x y)) out (h .options) (h .fit) (runCovered-most n (inputs n x y))))
 
   -- a word that they cover they decide as the operator does
-  pub run-operated : (w : ℕ) → w < covered n (take (r .written) t) → (d : Bool) × (decision n (take (r .written) t) w ≡ decided d) × Operated n op x y w d
+  run-operated : (w : ℕ) → w < covered n (take (r .written) t) → (d : Bool) × (decision n (take (r .written) t) w ≡ decided d) × Operated n op x y w d
   run-operated w l = (_, run-read .decides w l, joint-operated n op x y w (omega (arith, l, run-read .within, run-covered)))
 
+  pub run-read-as : ReadAs n (r .covered) (Operated n op x y) (take (r .written) t)
+  run-read-as = record { accepted = run-read .accepted; within = run-read .within; decides = run-operated }
+
   -- a run that ends "whole" is read back whole
-  pub run-whole-read : r .ending ≡ whole → ReadsBack n (joint (operate op) (inputs n x y)) (take (r .written) t)
+  pub run-complete : r .ending ≡ whole → Complete n (take (r .written) t)
   unfolding combineText runOf
-  run-whole-read e =
+  run-complete e =
       let f = joint (operate op) (inputs n x y) in
       let c = runCovered n (inputs n x y) in
       let p = answer-whole n c (runText n size c f) out (sym (ap (λ (q : Answer). q .ending) (h .answer)) ∙ e) in
-      subst⁻¹ (ReadsBack n f) (h .bytes ∙ p .1 ∙ ap (λ (k : ℕ). runText n size k f) (p .0)) (read-back n size f (h .options) (h .fit))
+      let b = read-back n size f (h .options) (h .fit) in
+      subst⁻¹ (Complete n) (h .bytes ∙ p .1 ∙ ap (λ (k : ℕ). runText n size k f) (p .0)) (b .complete, b .covers)
+
+  -- it gets the text of any function that is the operator's on the covered words
+  pub run-gets : (f : ℕ → Bool) → ((w : ℕ) → w < min (covered n x) (covered n y) → Operated n op x y w (f w))
+      → Gets n (min (covered n x) (covered n y)) (runText n size (min (covered n x) (covered n y)) f) out r t
+  unfolding combineText runOf
+  run-gets f k =
+      let c = runCovered n (inputs n x y) in
+      let g = joint (operate op) (inputs n x y) in
+      let e = smaller-covered n x y in
+      let s : runText n size c g ≡ runText n size c f =
+          run-stable n size c g f (λ w l. operated-same n op x y w (g w) (f w) (joint-operated n op x y w l) (k w (omega (arith, l, e)))) in
+      subst (λ (m : ℕ). Gets n m (runText n size m f) out r t) e
+      (subst (λ (text : List ℕ). Gets n c text out r t) s (gets n c (runText n size c g) out r t (h .answer) (h .bytes)))
 
 -- ---- Two runs --------------------------------------------------------------------------------
 
@@ -186,13 +220,20 @@ wrote z n size truths out t r e =
     small n h = let m = not-above n truthTableMost (λ k. h (inr k)) in omega (arith, m)
 
 module _ (n size : ℕ) (truths out : List ℕ) (r : Answer) (t : List ℕ) (h : Wrote n size truths out r t) where
-  -- the written bytes, clipped or not
-  pub wrote-read : Written n (2 ^ n) (truthAt truths) (take (r .written) t)
+  pub wrote-gets : Gets n (2 ^ n) (runText n size (2 ^ n) (truthAt truths)) out r t
   unfolding writeText
-  wrote-read = subst⁻¹ (Written n (2 ^ n) (truthAt truths)) (h .bytes) (run-written n size (2 ^ n) (truthAt truths) out (h .options) (h .fit) (omega arith))
+  wrote-gets = gets n (2 ^ n) (runText n size (2 ^ n) (truthAt truths)) out r t (h .answer) (h .bytes)
 
-  pub wrote-whole-read : r .ending ≡ whole → ReadsBack n (truthAt truths) (take (r .written) t)
+  -- the written bytes, clipped or not
+  pub wrote-read-as : ReadAs n (r .covered) (λ w d. d ≡ truthAt truths w) (take (r .written) t)
   unfolding writeText
-  wrote-whole-read e =
+  wrote-read-as =
+      let b = subst⁻¹ (Written n (2 ^ n) (truthAt truths)) (h .bytes) (run-written n size (2 ^ n) (truthAt truths) out (h .options) (h .fit) (omega arith)) in
+      record { accepted = b .accepted; within = omega (arith, b .within, wrote-gets .covers); decides = λ w l. (truthAt truths w, b .decides w l, refl) }
+
+  pub wrote-complete : r .ending ≡ whole → Complete n (take (r .written) t)
+  unfolding writeText
+  wrote-complete e =
       let p = answer-whole n (2 ^ n) (runText n size (2 ^ n) (truthAt truths)) out (sym (ap (λ (q : Answer). q .ending) (h .answer)) ∙ e) in
-      subst⁻¹ (ReadsBack n (truthAt truths)) (h .bytes ∙ p .1) (read-back n size (truthAt truths) (h .options) (h .fit))
+      let b = read-back n size (truthAt truths) (h .options) (h .fit) in
+      subst⁻¹ (Complete n) (h .bytes ∙ p .1) (b .complete, b .covers)

@@ -27,7 +27,7 @@ pub record Written (n c : ℕ) (f : ℕ → Bool) (t : List ℕ) : Type 0 where
   pub within : covered n t ≤ c
   pub decides : (w : ℕ) → w < covered n t → decision n t w ≡ decided (f w)
 
-decided-same : (x : Decision) (a b : Bool) → x ≡ decided a → x ≡ decided b → a ≡ b
+pub decided-same : (x : Decision) (a b : Bool) → x ≡ decided a → x ≡ decided b → a ≡ b
 decided-same x a b p q = cc
 
 -- f with one word turned about

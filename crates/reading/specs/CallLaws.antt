@@ -10,6 +10,7 @@ use native.Mathlib.Omega.{arith}
 use lib.Dec.{ltb}
 use lib.ListN.{length, getD}
 use borrow.Author.Tests.{ltb-false, le-ltb, lt-leb}
+use Rattle.lists.specs.Lists.{All}
 use Rattle.reading.specs.Limits.{optionLimit, tableLimit}
 use Rattle.reading.specs.Causes.{Names, call, place, leavesAll, causeRow, Refusal, Result, refused, done, gate, cleared, tableAfter, unlessRefused}
 use Rattle.reading.specs.Reading.{Reading, reading}
@@ -71,6 +72,23 @@ filled-word k n bytes w h l =
     ap (λ (y : ℕ). y / 2 ^ (w % 8) % 2) (bytes-at k n t 0 (w / 8) l)
     ∙ words-digit 8 n t (8 * (0 + w / 8)) (w % 8) (omega arith)
     ∙ ap (λ (y : ℕ). digitOf (verdict n t y)) e ∙ ap digitOf (verdict-decision n bytes w h)
+
+-- it has the bytes asked for
+pub filled-length : (k n : ℕ) (t : Trace) (i : ℕ) → length (bytesFrom k n t i) ≡ k
+unfolding bytesFrom
+filled-length zero n t i = refl
+filled-length (suc k) n t i = ap suc (filled-length k n t (i + 1))
+
+words-low : (k n : ℕ) (t : Trace) (w : ℕ) → wordsFrom k n t w < 2 ^ k
+unfolding wordsFrom
+words-low zero n t w = omega arith
+words-low (suc k) n t w = omega (arith, digitOf-low (verdict n t w), words-low k n t (w + 1), pow-succ' 2 k)
+
+-- each of them is a byte
+pub filled-bytes : (k n : ℕ) (t : Trace) (i : ℕ) → All (λ b. b < 256) (bytesFrom k n t i)
+unfolding bytesFrom
+filled-bytes zero n t i = tt
+filled-bytes (suc k) n t i = (words-low 8 n t (8 * i), filled-bytes k n t (i + 1))
 
 -- ---- Lent memory -----------------------------------------------------------------------------
 
