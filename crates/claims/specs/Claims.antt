@@ -3,7 +3,7 @@
 -- demands, each statement under a line of plain words; their values at the end prove them by citation. Terms has the terms, Examples a run of each,
 -- Further what else is proved. R: a record of a work table to read with, S: one of a table to write with; z, o: those that are zero.
 -- x, y: input streams; t, u, v: work tables; out: what the output held. Assumes nothing.
-use mathlib.Core.Path.{_≡_}
+use mathlib.Core.Path.{_≡_, ap, _∙_}
 use mathlib.Core.Bool.{Bool}
 use mathlib.Core.List.{List, [], _∷_, _++_}
 use mathlib.Core.Option.{none, some}
@@ -88,6 +88,10 @@ pub record Demand2 {R S : Type 0} (z : R) (o : S) : Type 0 where
   -- If the ending is "whole" they are complete, and cover every word.
   pub writing-whole : (n size : ℕ) (truths out : List ℕ) (v : List S) (r : Answer) → write o n size truths out v .answer ≡ done r → r .ending ≡ whole
       → Complete n (take (r .written) (write o n size truths out v .output))
+  -- "reading that stream gives the same decisions": deciding a word that the written bytes cover answers what the table has there.
+  pub writing-decided : (n size : ℕ) (truths out : List ℕ) (v : List S) (r : Answer) → write o n size truths out v .answer ≡ done r
+      → let bytes = take (r .written) (write o n size truths out v .output) in
+      (w : ℕ) (t : List R) → w < covered n bytes → tableLimit ≤ length t → decide z n bytes w t .answer ≡ done (verdictOf (decided (truthAt truths w)))
   -- COMBINING. On the words that both streams cover the operator decides; their number is the run's covered count.
   pub combining-words : (n op : ℕ) (x y : List ℕ) (w : ℕ) → w < min (covered n x) (covered n y) → (d : Bool) × Operated n op x y w d
   -- Whatever f decides these words as the operator does, the output gets the first bytes of its stream for that covered count, as many as fit.
@@ -100,6 +104,11 @@ pub record Demand2 {R S : Type 0} (z : R) (o : S) : Type 0 where
   -- If the ending is "whole" they are complete, and cover every word.
   pub combining-whole : (n op size : ℕ) (x y out : List ℕ) (t u : List R) (v : List S) (r : Answer) → combine z o n op size x y out t u v .answer ≡ done r
       → r .ending ≡ whole → Complete n (take (r .written) (combine z o n op size x y out t u v .output))
+  -- "reading that stream gives the same decisions": deciding a word that the written bytes cover answers what the operator decides there.
+  pub combining-decided : (n op size : ℕ) (x y out : List ℕ) (t u : List R) (v : List S) (r : Answer) → combine z o n op size x y out t u v .answer ≡ done r
+      → let bytes = take (r .written) (combine z o n op size x y out t u v .output) in
+      (w : ℕ) (p : List R) → w < covered n bytes → tableLimit ≤ length p
+      → (d : Bool) × Operated n op x y w d × (decide z n bytes w p .answer ≡ done (verdictOf (decided d)))
 
 -- ---- Demand 3 --------------------------------------------------------------------------------
 
@@ -157,10 +166,17 @@ demand-2 z o = record {
   writing-stream = λ n size truths out v r e. U.wrote-gets n size truths out r _ (U.wrote o n size truths out v r e);
   writing-read = λ n size truths out v r e. U.wrote-read-as n size truths out r _ (U.wrote o n size truths out v r e);
   writing-whole = λ n size truths out v r e. U.wrote-complete n size truths out r _ (U.wrote o n size truths out v r e);
+  writing-decided = λ n size truths out v r e w t h l.
+      let s = U.wrote o n size truths out v r e in
+      let q = U.read-decided z n _ _ _ (s .options) (U.wrote-read-as n size truths out r _ s) w t h l in
+      q .2 ∙ ap (λ (d : Bool). done (verdictOf (decided d))) (q .1);
   combining-words = U.operated-covered;
   combining-stream = λ n op size x y out t u v r e. U.run-gets n op size x y out r _ (U.ran z o n op size x y out t u v r e);
   combining-read = λ n op size x y out t u v r e. U.run-read-as n op size x y out r _ (U.ran z o n op size x y out t u v r e);
   combining-whole = λ n op size x y out t u v r e. U.run-complete n op size x y out r _ (U.ran z o n op size x y out t u v r e);
+  combining-decided = λ n op size x y out t u v r e.
+      let s = U.ran z o n op size x y out t u v r e in
+      U.read-decided z n _ _ _ (s .options) (U.run-read-as n op size x y out r _ s);
 }
 
 pub demand-3 : {R S : Type 0} (z : R) (o : S) → Demand3 z o

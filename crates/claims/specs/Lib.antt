@@ -10,3 +10,5 @@ pub mod LentMemory
 pub mod Runs
 pub mod PaperRows
 pub mod Claims
+pub mod Further
+pub mod Examples

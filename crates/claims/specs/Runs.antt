@@ -15,7 +15,9 @@ use Rattle.lists.specs.Prefixes.{Begins}
 use Rattle.reading.specs.Limits.{optionLimit, tableLimit, truthTableMost}
 use Rattle.reading.specs.Causes.{Result, done, unlessRefused}
 use Rattle.reading.specs.Reading.{reading}
-use Rattle.reading.specs.Deciding.{decided, decision}
+use Rattle.reading.specs.Deciding.{Decision, decided, decision}
+use Rattle.reading.specs.Calls.{verdictOf, decide}
+use Rattle.reading.specs.CallLaws.{decide-decision}
 use Rattle.reading.specs.Covered.{covered, covered-decided, covered-most, covered-grows, decision-stands}
 use Rattle.writing.specs.Run.{operate, runCovered, joint, runText, runOf, writtenBytes, outputAfter, whole, inputEnded, outputFull, Answer, answerOf}
 use Rattle.writing.specs.Grows.{run-stable}
@@ -56,6 +58,13 @@ gets n c text out r t e b = record {
   covers = ap (λ (q : Answer). q .covered) e;
   ending = ap (λ (q : Answer). q .ending) e;
 }
+
+-- deciding a word of bytes that are read so answers what is right there
+pub read-decided : {R : Type 0} (z : R) (n c : ℕ) (Right : ℕ → Bool → Type 0) (bytes : List ℕ) → n ≤ optionLimit → ReadAs n c Right bytes
+    → (w : ℕ) (t : List R) → w < covered n bytes → tableLimit ≤ length t → (d : Bool) × Right w d × (decide z n bytes w t .answer ≡ done (verdictOf (decided d)))
+read-decided z n c Right bytes small h w t l k =
+    let d = h .decides w l in
+    (d .0, d .2, decide-decision z n bytes w t small k (omega (arith, l, covered-most n bytes)) (h .accepted) ∙ ap (λ (x : Decision). done (verdictOf x)) (d .1))
 
 -- the run over the streams x and y with the answer r, and the output t after it
 pub record Ran (n op size : ℕ) (x y out : List ℕ) (r : Answer) (t : List ℕ) : Type 0 where

@@ -1,0 +1,144 @@
+-- The demands on runs, by computation: their premises are met, and what they say is what document 01 says there. The run is its program's example,
+-- the OR of two rules over three options with table size 4. Assumes nothing.
+use mathlib.Core.Path.{_≡_, refl}
+use mathlib.Core.List.{List, [], _∷_, _++_, map}
+use Prim.Native.Nat.{ℕ}
+use native.Mathlib.Omega.{arith}
+use lib.ListN.{length, take, replicate}
+use Rattle.reading.specs.Limits.{tableLimit}
+use Rattle.reading.specs.Bytes.{text}
+use Rattle.reading.specs.Causes.{Cause, operatorCode, workTable, notInTable, tooDeep, refused, done, refusal, cleared}
+use Rattle.reading.specs.Reading.{reading}
+use Rattle.reading.specs.Calls.{complete, cut, check, isNo, isYes, decide, fill}
+use Rattle.reading.specs.Covered.{covered}
+use Rattle.writing.specs.Run.{whole, inputEnded, outputFull}
+use Rattle.writing.specs.Calls.{write, Combine, combine}
+use Rattle.claims.specs.Claims.{Together, demand-3}
+
+-- a work table of 1,024 records, which are numbers here; all held 7, and zero is 0
+abbrev table : List ℕ
+table = replicate tableLimit 7
+
+abbrev zeros : List ℕ
+zeros = replicate tableLimit 0
+
+-- the two rules, and an output of 28 bytes
+abbrev first : List ℕ
+unfolding text
+first = text "4\n(0(0~0):1):2."
+
+abbrev second : List ℕ
+unfolding text
+second = text "4\n(((0~0):1))."
+
+abbrev output : List ℕ
+unfolding text
+output = text "............................"
+
+abbrev run : ℕ → List ℕ → List ℕ → List ℕ → Combine ℕ ℕ
+unfolding combine
+run op x y out = combine 0 0 3 op 4 x y out table table table
+
+-- ---- Demand 1 --------------------------------------------------------------------------------
+
+-- number 1 is not in the table: cause 10 at byte 3 of stream 2; the output is as it was, and every record zero
+faulty-second : run 14 first (text "4\n(1).") output ≡ record {
+  answer = refused (refusal notInTable 2 3);
+  first = zeros;
+  second = zeros;
+  third = zeros;
+  output = output;
+}
+unfolding combine text
+faulty-second = refl
+
+-- stream 1 comes first: cause 9 at its byte 5
+faulty-both : run 14 (text "4\n((((") (text "4\n(1).") output .answer ≡ refused (refusal tooDeep 1 5)
+unfolding combine text
+faulty-both = refl
+
+-- an operator above 15 comes before the streams, and all is as it was
+no-operator : run 16 (text "4\n((((") second output ≡ record {
+  answer = refused (refusal operatorCode 0 0);
+  first = table;
+  second = table;
+  third = table;
+  output = output;
+}
+unfolding combine text
+no-operator = refl
+
+-- ---- Demand 2 --------------------------------------------------------------------------------
+
+-- the run of the paper, whole; the bytes beyond those written keep their content
+joined : run 14 first second output ≡ record {
+  answer = done (record { written = 23; covered = 8; ending = whole });
+  first = zeros;
+  second = zeros;
+  third = zeros;
+  output = text "4\n(((0~0):1)(1~0):2):3......";
+}
+unfolding combine text
+joined = refl
+
+-- its written bytes are accepted, complete, and decide each word as OR does
+abbrev written : List ℕ
+unfolding combine text
+written = take 23 (run 14 first second output .output)
+
+joined-checked : check 0 3 written table .answer ≡ done (record { size = 4; covered = 8; extent = complete })
+unfolding combine check text
+joined-checked = refl
+
+joined-decided : map (λ w. decide 0 3 written w table .answer) (0 ∷ 1 ∷ 2 ∷ 3 ∷ 4 ∷ 5 ∷ 6 ∷ 7 ∷ [])
+    ≡ map done (isNo ∷ isYes ∷ isNo ∷ isYes ∷ isNo ∷ isYes ∷ isYes ∷ isYes ∷ [])
+unfolding combine decide text
+joined-decided = refl
+
+-- an output that is too short gets the first bytes, which are accepted and cover two words
+joined-short : run 14 first second (text "...........") .answer ≡ done (record { written = 11; covered = 8; ending = outputFull })
+unfolding combine text
+joined-short = refl
+
+short-checked : check 0 3 (run 14 first second (text "...........") .output) table .answer ≡ done (record { size = 4; covered = 2; extent = cut })
+unfolding combine check text
+short-checked = refl
+
+-- two or more set, written from a truth table, and filled from what was written
+majority : write 0 3 4 (232 ∷ []) output table ≡ record {
+  answer = done (record { written = 26; covered = 8; ending = whole });
+  table = zeros;
+  output = text "4\n((0(0~0):1):2(1~0):3):4...";
+}
+unfolding write text
+majority = refl
+
+majority-filled : fill 0 3 (text "4\n((0(0~0):1):2(1~0):3):4.") (0 ∷ []) table ≡ record { answer = done 8; table = zeros; truths = 232 ∷ [] }
+unfolding fill text
+majority-filled = refl
+
+-- ---- Demand 3 --------------------------------------------------------------------------------
+
+-- the second rule cut after 12 bytes: four words are covered, and the released text ends with the node stored under 1
+abbrev begun : List ℕ
+unfolding text
+begun = text "4\n(((0~0):1)"
+
+abbrev rest : List ℕ
+unfolding text
+rest = text ")."
+
+begun-run : run 14 first begun (text "............") .answer ≡ done (record { written = 11; covered = 4; ending = inputEnded })
+unfolding combine text
+begun-run = refl
+
+-- its written bytes decide the words 0 and 1
+begun-covered : covered 3 (take 11 (run 14 first begun (text "............") .output)) ≡ 2
+unfolding combine reading text
+begun-covered = refl
+
+-- THE PAIR: demand 3 of this run and the run of the paper
+begun-joined : Together 3 14 first begun first second (record { written = 11; covered = 4; ending = inputEnded }) (record { written = 23; covered = 8; ending = whole })
+    (text "4\n(((0~0):1") (text "4\n(((0~0):1)(1~0):2):3.")
+unfolding combine text
+begun-joined = demand-3 {R = ℕ} {S = ℕ} 0 0 .runs 3 14 4 first begun [] rest (text "............") output table table table table table table _ _ (omega arith) refl refl

@@ -1,0 +1,121 @@
+-- WHAT ELSE IS PROVED of the definitions, beside the three demands (Claims): the examples marked P, cause 7 and the grammar, longer streams, the
+-- queue, words that are not covered; and demands 2 and 3 as they follow from the contract of a call. Each statement stands under a line of plain
+-- words and is proved by a citation. Assumes nothing.
+use mathlib.Core.Path.{_≡_, sym, ap, _∙_, subst⁻¹}
+use mathlib.Core.Logic.{_↔_}
+use mathlib.Core.Bool.{Bool, true, false}
+use mathlib.Core.List.{List, [], _∷_, _++_, List·Memᴰ}
+use mathlib.Core.Option.{none, some}
+use Prim.Native.Nat.{ℕ, suc, _≤_, _<_, _^_, min}
+use lib.ListN.{length, take}
+use Rattle.lists.specs.Lists.{has, Distinct}
+use Rattle.reading.specs.Causes.{wrongByte, Result, done}
+use Rattle.reading.specs.Grammar.{IsStream, Viable}
+use Rattle.reading.specs.Nodes.{hasParent}
+use Rattle.reading.specs.Element.{over, fault, ranOut}
+use Rattle.reading.specs.Reading.{Fault, Reading, reading}
+use Rattle.reading.specs.Deciding.{decided, decision}
+use Rattle.reading.specs.Covered as C
+use Rattle.reading.specs.Covered.{covered}
+use Rattle.reading.specs.Prefix as P
+use Rattle.reading.specs.CauseSeven as G
+use Rattle.writing.specs.UniqueTable.{start}
+use Rattle.writing.specs.Rules.{part}
+use Rattle.writing.specs.Run.{runText, writtenBytes, outputAfter, whole, outputFull, Answer, answerOf}
+use Rattle.writing.specs.Calls.{Combine, combine}
+use Rattle.writing.specs.Queue as Q
+use Rattle.writing.specs.Grows as W
+use Rattle.writing.specs.Output as O
+use Rattle.claims.specs.PaperRows as R
+use Rattle.claims.specs.PaperRows.{Row, rows, Holds}
+use Rattle.claims.specs.Terms.{Operated, ReadAs, Complete}
+use Rattle.claims.specs.Claims.{Together, demand-2, demand-3}
+
+-- ---- The examples marked P -------------------------------------------------------------------
+
+-- Each row of the table P1 to P12 holds: what is written, and what checking answers.
+pub paper-rows : (r : Row) → List·Memᴰ r rows → Holds r
+paper-rows = R.the-table
+
+-- ---- Cause 7 and the grammar -----------------------------------------------------------------
+
+-- Cause 7 is at the first byte that no stream could have there: with it no stream begins so, without it some stream does.
+pub cause-seven : (n : ℕ) (bytes : List ℕ) (b : ℕ) → reading n bytes .fault ≡ some (record { cause = wrongByte; byte = b })
+    → (b < length bytes) × Viable (take b bytes) × (Viable (take (suc b) bytes) → ⊥)
+cause-seven = G.wrong-byte
+
+-- Bytes without fault begin some stream.
+pub no-fault : (n : ℕ) (bytes : List ℕ) → reading n bytes .fault ≡ none → Viable bytes
+no-fault = G.viable-so-far
+
+-- Of bytes without fault, those that have come to the point are exactly the streams of the grammar.
+pub complete-streams : (n : ℕ) (bytes : List ℕ) → reading n bytes .fault ≡ none → (reading n bytes .state .place .mark ≡ over) ↔ IsStream bytes
+complete-streams n bytes e = (G.complete-stream n bytes e, λ h. G.stream-complete n bytes h e)
+
+-- The reader, which only steps, stops at the same byte: where it finds cause 7, and where the bytes run out.
+pub reader-cause-seven : (bytes : List ℕ) (b : ℕ) → G.stepped bytes .outcome ≡ fault wrongByte b
+    → (b < length bytes) × Viable (take b bytes) × (Viable (take (suc b) bytes) → ⊥)
+reader-cause-seven = G.stepped-wrong
+
+pub reader-no-fault : (bytes : List ℕ) → G.stepped bytes .outcome ≡ ranOut → Viable bytes × ((G.stepped bytes .place .mark ≡ over) ↔ IsStream bytes)
+reader-no-fault bytes e = (G.stepped-viable bytes e, G.stepped-over bytes e)
+
+-- ---- Longer streams --------------------------------------------------------------------------
+
+-- Reading a longer stream goes on where the shorter one stopped: a fault stays, the covered count grows, a decided word stays decided.
+pub longer-streams : (n : ℕ) (x u : List ℕ)
+    → ((f : Fault) → reading n x .fault ≡ some f → reading n (x ++ u) .fault ≡ some f)
+    × (covered n x ≤ covered n (x ++ u))
+    × ((w : ℕ) (d : Bool) → w < 2 ^ n → decision n x w ≡ decided d → decision n (x ++ u) w ≡ decided d)
+longer-streams n x u = (λ f e. ap (λ (r : Reading). r .fault) (P.fault-stands n x u f e) ∙ e, C.covered-grows n x u, λ w d. C.decision-stands n x u w d)
+
+-- ---- Writing ---------------------------------------------------------------------------------
+
+-- The queue has the stored nodes that are no stored node's child, each once, and no others.
+pub queue-holds : (size n : ℕ) (f : ℕ → Bool)
+    → let s = part size n 1 0 f start .state in
+    Distinct (s .queue) × ((q : ℕ) → (has q (s .queue) ≡ true) ↔ ((0 < q) × (q < length (s .table)) × (hasParent (s .table) q ≡ false)))
+queue-holds = Q.queue-exact
+
+-- Words that a run does not cover change nothing in its text: what the inputs decide there is free.
+pub later-words : (n size c : ℕ) (f g : ℕ → Bool) → ((w : ℕ) → w < c → f w ≡ g w) → runText n size c f ≡ runText n size c g
+later-words = W.run-stable
+
+-- A walk may stop as soon as what it has released is longer than the output: what the output gets and the answer are settled.
+pub stopping : (n size c c′ : ℕ) (f g : ℕ → Bool) (out : List ℕ) → c ≤ c′ → c′ ≤ 2 ^ n → ((w : ℕ) → w < c → f w ≡ g w) → length out < length (runText n size c f)
+    → (outputAfter (runText n size c′ g) out ≡ writtenBytes (runText n size c f) out)
+    × (answerOf n c′ (runText n size c′ g) out ≡ record { written = length out; covered = c′; ending = outputFull })
+stopping = O.may-stop
+
+-- ---- The contract of a call ------------------------------------------------------------------
+
+-- What the contract of `combine` in crate combiner says of a call: its answer, the three work tables and the output afterwards. There R is a record
+-- of 6 cells and S one of 12; z and o are all zero.
+abbrev pub Called : {R S : Type 0} → R → S → ℕ → ℕ → ℕ → List ℕ → List ℕ → List ℕ → List R → List R → List S
+    → Result Answer → List R → List R → List S → List ℕ → Type 0
+Called z o n op size x y out t u v a p q w bytes =
+    record { answer = a; first = p; second = q; third = w; output = bytes } ≡ combine z o n op size x y out t u v
+
+-- DEMAND 2 of a call: the bytes that it wrote are accepted and decide the words that they cover as the operator does, taken word by word; all words,
+-- and with the point, if the ending is "whole".
+pub call-demand-2 : {R S : Type 0} (z : R) (o : S) (n op size : ℕ) (x y out : List ℕ) (t u : List R) (v : List S) (r : Answer) (p q : List R) (w : List S)
+    (after : List ℕ) → Called z o n op size x y out t u v (done r) p q w after
+    → ReadAs n (r .covered) (Operated n op x y) (take (r .written) after) × (r .ending ≡ whole → Complete n (take (r .written) after))
+call-demand-2 {R} {S} z o n op size x y out t u v r p q w after h =
+    let e = sym (ap (λ (c : Combine R S). c .answer) h) in
+    let d = demand-2 z o in
+    subst⁻¹ (λ (l : List ℕ). ReadAs n (r .covered) (Operated n op x y) (take (r .written) l) × (r .ending ≡ whole → Complete n (take (r .written) l)))
+    (ap (λ (c : Combine R S). c .output) h)
+    (d .combining-read n op size x y out t u v r e, d .combining-whole n op size x y out t u v r e)
+
+-- DEMAND 3 of two calls, whatever outputs and work tables held before.
+pub calls-demand-3 : {R S : Type 0} (z : R) (o : S) (n op size : ℕ) (x y x₊ y₊ out out′ : List ℕ) (t u t′ u′ : List R) (v v′ : List S) (r r′ : Answer)
+    (p q p′ q′ : List R) (w w′ : List S) (after after′ : List ℕ) → length out ≤ length out′ → Called z o n op size x y out t u v (done r) p q w after
+    → Called z o n op size (x ++ x₊) (y ++ y₊) out′ t′ u′ v′ (done r′) p′ q′ w′ after′
+    → Together n op x y (x ++ x₊) (y ++ y₊) r r′ (take (r .written) after) (take (r′ .written) after′)
+calls-demand-3 {R} {S} z o n op size x y x₊ y₊ out out′ t u t′ u′ v v′ r r′ p q p′ q′ w w′ after after′ l h h′ =
+    let first = combine z o n op size x y out t u v in
+    subst⁻¹ (λ (k : List ℕ). Together n op x y (x ++ x₊) (y ++ y₊) r r′ (take (r .written) k) (take (r′ .written) after′)) (ap (λ (c : Combine R S). c .output) h)
+    (subst⁻¹ (λ (k : List ℕ). Together n op x y (x ++ x₊) (y ++ y₊) r r′ (take (r .written) (first .output)) (take (r′ .written) k))
+    (ap (λ (c : Combine R S). c .output) h′)
+    (demand-3 z o .runs n op size x y x₊ y₊ out out′ t u t′ u′ v v′ r r′ l (sym (ap (λ (c : Combine R S). c .answer) h)) (sym (ap (λ (c : Combine R S). c .answer) h′))))
