@@ -13,7 +13,8 @@ use Rattle.reading.specs.Calls.{complete, cut, check, isNo, isYes, decide, fill
 use Rattle.reading.specs.Covered.{covered}
 use Rattle.writing.specs.Run.{whole, inputEnded, outputFull}
 use Rattle.writing.specs.Calls.{write, Combine, combine}
-use Rattle.claims.specs.Claims.{Together, demand-3}
+use Rattle.claims.specs.Terms.{First, AllUnmet, combineLines, Operated, ReadAs, Complete}
+use Rattle.claims.specs.Claims.{demand-1, demand-2, Together, demand-3}
 
 -- a work table of 1,024 records, which are numbers here; all held 7, and zero is 0
 abbrev table : List ℕ
@@ -57,6 +58,11 @@ faulty-both : run 14 (text "4\n((((") (text "4\n(1).") output .answer ≡ refuse
 unfolding combine text
 faulty-both = refl
 
+-- demand 1 of this call: what it is refused with is what the first line that is met returns
+faulty-first : First (combineLines 3 14 4 (text "4\n((((") (text "4\n(1).") tableLimit tableLimit tableLimit) (refusal tooDeep 1 5)
+unfolding combine text
+faulty-first = demand-1 {R = ℕ} {S = ℕ} 0 0 .combine-refused 3 14 4 (text "4\n((((") (text "4\n(1).") output table table table .exactly _ .0 refl
+
 -- an operator above 15 comes before the streams, and all is as it was
 no-operator : run 16 (text "4\n((((") second output ≡ record {
   answer = refused (refusal operatorCode 0 0);
@@ -94,6 +100,19 @@ joined-decided : map (λ w. decide 0 3 written w table .answer) (0 ∷ 1 ∷ 2 �
     ≡ map done (isNo ∷ isYes ∷ isNo ∷ isYes ∷ isNo ∷ isYes ∷ isYes ∷ isYes ∷ [])
 unfolding combine decide text
 joined-decided = refl
+
+-- demand 2 of this run, and demand 1: it meets no cause
+joined-read : ReadAs 3 8 (Operated 3 14 first second) written
+unfolding combine text
+joined-read = demand-2 {R = ℕ} {S = ℕ} 0 0 .combining-read 3 14 4 first second output table table table _ refl
+
+joined-complete : Complete 3 written
+unfolding combine text
+joined-complete = demand-2 {R = ℕ} {S = ℕ} 0 0 .combining-whole 3 14 4 first second output table table table _ refl refl
+
+joined-unmet : AllUnmet (combineLines 3 14 4 first second tableLimit tableLimit tableLimit)
+unfolding combine text
+joined-unmet = demand-1 {R = ℕ} {S = ℕ} 0 0 .combine-refused 3 14 4 first second output table table table .unless .0 (_, refl)
 
 -- an output that is too short gets the first bytes, which are accepted and cover two words
 joined-short : run 14 first second (text "...........") .answer ≡ done (record { written = 11; covered = 8; ending = outputFull })

@@ -22,7 +22,7 @@ use Rattle.reading.specs.CallLaws.{decide-decision}
 use Rattle.reading.specs.Prefix.{trace-reading}
 use Rattle.writing.specs.Run.{Input, runCovered, answerOf}
 use Rattle.writing.specs.Calls.{largeSize, writeText, writeAnswer, largeOperator, unlessFaults, inputOf, combineText, shortTables, combineAnswer}
-use Rattle.claims.specs.Terms.{Line, meets, faults, Met, Unmet, First, AllUnmet, Named, TurnedDown, checkLines, decideLines, notThreeToSixteen, fillLines, writeLines, combineLines}
+use Rattle.claims.specs.Terms.{Line, meets, faults, Met, Unmet, First, AllUnmet, Lowest, Named, TurnedDown, checkLines, decideLines, notThreeToSixteen, fillLines, writeLines, combineLines}
 
 -- ---- Answers ---------------------------------------------------------------------------------
 
@@ -140,10 +140,42 @@ first-named : (xs : List (List ℕ)) (ls : List Line) → AllFit xs ls → (f : 
 first-named xs [] h f m = absurd m
 first-named xs (l ∷ ls) h f m = ⊎-elim (met-named xs l (h .0) f) (λ k. first-named xs ls (h .1) f (k .1)) m
 
-turned-down : {A : Type 0} (xs : List (List ℕ)) (ls : List Line) (v : A) (a : Result A) → AllFit xs ls → By ls v a → TurnedDown xs ls a
-turned-down xs ls v a h b = record {
+-- ---- The order of the causes -----------------------------------------------------------------
+
+abbrev OnlyFaults : List Line → Type 0
+OnlyFaults [] = Unit {0}
+OnlyFaults (meets c P ∷ ls) = ⊥
+OnlyFaults (faults n k x ∷ ls) = OnlyFaults ls
+
+-- the causes that name the call stand in rising rank, from r on, and before the streams
+abbrev Rising : ℕ → List Line → Type 0
+Rising r [] = Unit {0}
+Rising r (meets c P ∷ ls) = (r ≤ causeRow c .rank) × Rising (causeRow c .rank) ls
+Rising r (faults n k x ∷ ls) = OnlyFaults ls
+
+faults-lowest : (r : ℕ) (ls : List Line) → OnlyFaults ls → Lowest r ls
+faults-lowest r [] h = tt
+faults-lowest r (meets c P ∷ ls) h = absurd h
+faults-lowest r (faults n k x ∷ ls) h = faults-lowest r ls h
+
+rising-lowest : (r s : ℕ) (ls : List Line) → r ≤ s → Rising s ls → Lowest r ls
+rising-lowest r s [] l h = tt
+rising-lowest r s (meets c P ∷ ls) l h = (λ _. omega (arith, l, h .0), rising-lowest r (causeRow c .rank) ls (omega (arith, l, h .0)) (h .1))
+rising-lowest r s (faults n k x ∷ ls) l h = faults-lowest r ls h
+
+first-lowest : (r : ℕ) (ls : List Line) → Rising r ls → (f : Refusal) → First ls f → Lowest (causeRow (f .cause) .rank) ls
+first-lowest r [] h f m = absurd m
+first-lowest r (meets c P ∷ ls) h f m = ⊎-elim
+    (λ k. subst⁻¹ (λ (g : Refusal). Lowest (causeRow (g .cause) .rank) (meets c P ∷ ls)) (k .1)
+    (λ _. omega arith, rising-lowest (causeRow c .rank) (causeRow c .rank) ls (omega arith) (h .1)))
+    (λ k. (λ p. absurd (k .0 p), first-lowest (causeRow c .rank) ls (h .1) f (k .1))) m
+first-lowest r (faults n k x ∷ ls) h f m = faults-lowest (causeRow (f .cause) .rank) ls h
+
+turned-down : {A : Type 0} (xs : List (List ℕ)) (ls : List Line) (v : A) (a : Result A) → AllFit xs ls → Rising 1 ls → By ls v a → TurnedDown xs ls a
+turned-down xs ls v a h i b = record {
   exactly = b .exactly;
   unless = (λ k. b .unless (k .0) .0 (k .1) .0, λ k. (v, b .unless v .1 (k, refl)));
+  lowest = λ f e. first-lowest 1 ls i f (b .exactly f .0 e);
   names = λ f e. first-named xs ls h f (b .exactly f .0 e);
 }
 
@@ -182,14 +214,14 @@ check-by n x records = tests-lines (manyOptions n ∷ shortTable records ∷ [])
     (above optionCount optionLimit n, (above workTable records tableLimit, fault-line n 1 x [] _ _ (by-none _)))
 
 pub check-lines : (n : ℕ) (x : List ℕ) (records : ℕ) → TurnedDown (x ∷ []) (checkLines n x records) (checkAnswer n x records)
-check-lines n x records = turned-down (x ∷ []) _ _ _ (refl, (refl, one-stream n x)) (check-by n x records)
+check-lines n x records = turned-down (x ∷ []) _ _ _ (refl, (refl, one-stream n x)) (omega arith, (omega arith, tt)) (check-by n x records)
 
 pub decide-lines : (n : ℕ) (x : List ℕ) (w records : ℕ) → TurnedDown (x ∷ []) (decideLines n x w records) (decideAnswer n x w records)
 unfolding decideAnswer
 decide-lines n x w records =
     let v = verdict n (trace n x) w in
     let f : trace n x .reading .fault ≡ reading n x .fault = ap (λ (r : Reading). r .fault) (trace-reading n x) in
-    turned-down (x ∷ []) _ v _ (refl, (refl, (refl, one-stream n x)))
+    turned-down (x ∷ []) _ v _ (refl, (refl, (refl, one-stream n x))) (omega arith, (omega arith, (omega arith, tt)))
     (tests-lines (manyOptions n ∷ shortTable records ∷ test wordRange (leb (2 ^ n) w) ∷ []) _ v _
     (above optionCount optionLimit n, (above workTable records tableLimit, (from wordRange (2 ^ n) w,
     subst⁻¹ (λ (o : Option Fault). By (faults n 1 x ∷ []) v (unlessFault 1 o (done v))) f (fault-line n 1 x [] v _ (by-none v))))))
@@ -211,7 +243,7 @@ fill-by n x truths records = tests-lines (notTruthTable n ∷ shortTable records
     (not-three-to-sixteen n, (above workTable records tableLimit, (wrong-length n truths, fault-line n 1 x [] _ _ (by-none _))))
 
 pub fill-lines : (n : ℕ) (x truths : List ℕ) (records : ℕ) → TurnedDown (x ∷ []) (fillLines n x truths records) (fillAnswer n x truths records)
-fill-lines n x truths records = turned-down (x ∷ []) _ _ _ (refl, (refl, (refl, one-stream n x))) (fill-by n x truths records)
+fill-lines n x truths records = turned-down (x ∷ []) _ _ _ (refl, (refl, (refl, one-stream n x))) (omega arith, (omega arith, (omega arith, tt))) (fill-by n x truths records)
 
 pub write-by : (n size : ℕ) (truths out : List ℕ) (records : ℕ)
     → By (writeLines n size truths records) (answerOf n (2 ^ n) (writeText n size truths) out) (writeAnswer n size truths out records)
@@ -220,7 +252,7 @@ write-by n size truths out records = tests-lines (notTruthTable n ∷ largeSize 
     (not-three-to-sixteen n, (above sizeToWrite tableLimit size, (above workTable records tableLimit, (wrong-length n truths, by-none _))))
 
 pub write-lines : (n size : ℕ) (truths out : List ℕ) (records : ℕ) → TurnedDown [] (writeLines n size truths records) (writeAnswer n size truths out records)
-write-lines n size truths out records = turned-down [] _ _ _ (refl, (refl, (refl, (refl, tt)))) (write-by n size truths out records)
+write-lines n size truths out records = turned-down [] _ _ _ (refl, (refl, (refl, (refl, tt)))) (omega arith, (omega arith, (omega arith, (omega arith, tt)))) (write-by n size truths out records)
 
 -- the streams of a run, and what they are as its inputs
 abbrev pub Streams : List ℕ → List ℕ → List (List ℕ)
@@ -242,4 +274,5 @@ combine-by n op size x y out a b c =
 pub combine-lines : (n op size : ℕ) (x y out : List ℕ) (a b c : ℕ)
     → TurnedDown (x ∷ y ∷ []) (combineLines n op size x y a b c) (combineAnswer n op size (x ∷ y ∷ []) out (a ∷ b ∷ c ∷ []))
 combine-lines n op size x y out a b c = turned-down (x ∷ y ∷ []) _ _ _
-    (refl, (refl, (refl, (refl, (refl, (refl, ((omega arith, omega arith, refl), ((omega arith, omega arith, refl), tt)))))))) (combine-by n op size x y out a b c)
+    (refl, (refl, (refl, (refl, (refl, (refl, ((omega arith, omega arith, refl), ((omega arith, omega arith, refl), tt))))))))
+    (omega arith, (omega arith, (omega arith, (omega arith, (omega arith, (omega arith, tt)))))) (combine-by n op size x y out a b c)

@@ -41,6 +41,12 @@ abbrev pub AllUnmet : List Line → Type 0
 AllUnmet [] = Unit {0}
 AllUnmet (l ∷ ls) = Unmet l × AllUnmet ls
 
+-- no cause of the call that is met has a rank below r
+abbrev pub Lowest : ℕ → List Line → Type 0
+Lowest r [] = Unit {0}
+Lowest r (meets c P ∷ ls) = (P → r ≤ causeRow c .rank) × Lowest r ls
+Lowest r (faults n k x ∷ ls) = Lowest r ls
+
 -- what a refusal names, xs being the streams: the call, or a stream and a byte inside it
 abbrev pub Named : List (List ℕ) → Refusal → Type 0
 Named xs f =
@@ -53,6 +59,8 @@ pub record TurnedDown {A : Type 0} (xs : List (List ℕ)) (ls : List Line) (a : 
   pub exactly : (f : Refusal) → (a ≡ refused f) ↔ First ls f
   -- it is not refused exactly if no line is met
   pub unless : ((r : A) × (a ≡ done r)) ↔ AllUnmet ls
+  -- the lowest in the paper's order counts
+  pub lowest : (f : Refusal) → a ≡ refused f → Lowest (causeRow (f .cause) .rank) ls
   -- what a refusal names
   pub names : (f : Refusal) → a ≡ refused f → Named xs f
 
