@@ -23,7 +23,8 @@ use Rattle.reading.specs.Settled as S
 use Rattle.reading.specs.CallLaws as L
 use Rattle.writing.specs.Run.{runText, whole, Answer}
 use Rattle.writing.specs.Calls.{truthAt, write, combine}
-use Rattle.claims.specs.Terms.{TurnedDown, checkLines, decideLines, fillLines, writeLines, combineLines, TableLeft, OutputLeft, Gets, Operated, ReadAs, Complete}
+use Rattle.claims.specs.Terms.{TurnedDown, checkLines, decideLines, fillLines, writeLines, combineLines}
+use Rattle.claims.specs.Terms.{TableLeft, OutputLeft, Gets, Operated, ReadAs, Complete}
 use Rattle.claims.specs.Refused as T
 use Rattle.claims.specs.LentMemory as M
 use Rattle.claims.specs.Runs as U

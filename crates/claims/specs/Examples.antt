@@ -1,13 +1,13 @@
 -- The demands on runs, by computation: their premises are met, and what they say is what document 01 says there. The run is its program's example,
 -- the OR of two rules over three options with table size 4. Assumes nothing.
 use mathlib.Core.Path.{_≡_, refl}
-use mathlib.Core.List.{List, [], _∷_, _++_, map}
+use mathlib.Core.List.{List, [], _∷_, map}
 use Prim.Native.Nat.{ℕ}
 use native.Mathlib.Omega.{arith}
-use lib.ListN.{length, take, replicate}
+use lib.ListN.{take, replicate}
 use Rattle.reading.specs.Limits.{tableLimit}
 use Rattle.reading.specs.Bytes.{text}
-use Rattle.reading.specs.Causes.{Cause, operatorCode, workTable, notInTable, tooDeep, refused, done, refusal, cleared}
+use Rattle.reading.specs.Causes.{operatorCode, notInTable, tooDeep, refused, done, refusal}
 use Rattle.reading.specs.Reading.{reading}
 use Rattle.reading.specs.Calls.{complete, cut, check, isNo, isYes, decide, fill}
 use Rattle.reading.specs.Covered.{covered}
@@ -157,7 +157,9 @@ unfolding combine reading text
 begun-covered = refl
 
 -- THE PAIR: demand 3 of this run and the run of the paper
-begun-joined : Together 3 14 first begun first second (record { written = 11; covered = 4; ending = inputEnded }) (record { written = 23; covered = 8; ending = whole })
+begun-joined : Together 3 14 first begun first second
+    (record { written = 11; covered = 4; ending = inputEnded }) (record { written = 23; covered = 8; ending = whole })
     (text "4\n(((0~0):1") (text "4\n(((0~0):1)(1~0):2):3.")
 unfolding combine text
-begun-joined = demand-3 {R = ℕ} {S = ℕ} 0 0 .runs 3 14 4 first begun [] rest (text "............") output table table table table table table _ _ (omega arith) refl refl
+begun-joined = demand-3 {R = ℕ} {S = ℕ} 0 0 .runs 3 14 4 first begun [] rest (text "............") output
+    table table table table table table _ _ (omega arith) refl refl

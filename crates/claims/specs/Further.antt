@@ -4,9 +4,9 @@
 use mathlib.Core.Path.{_≡_, sym, ap, _∙_, subst⁻¹}
 use mathlib.Core.Logic.{_↔_}
 use mathlib.Core.Bool.{Bool, true, false}
-use mathlib.Core.List.{List, [], _∷_, _++_, List·Memᴰ}
+use mathlib.Core.List.{List, _++_, List·Memᴰ}
 use mathlib.Core.Option.{none, some}
-use Prim.Native.Nat.{ℕ, suc, _≤_, _<_, _^_, min}
+use Prim.Native.Nat.{ℕ, suc, _≤_, _<_, _^_}
 use lib.ListN.{length, take}
 use Rattle.lists.specs.Lists.{has, Distinct}
 use Rattle.reading.specs.Causes.{wrongByte, Result, done}
@@ -82,7 +82,8 @@ pub later-words : (n size c : ℕ) (f g : ℕ → Bool) → ((w : ℕ) → w < c
 later-words = W.run-stable
 
 -- A walk may stop as soon as what it has released is longer than the output: what the output gets and the answer are settled.
-pub stopping : (n size c c′ : ℕ) (f g : ℕ → Bool) (out : List ℕ) → c ≤ c′ → c′ ≤ 2 ^ n → ((w : ℕ) → w < c → f w ≡ g w) → length out < length (runText n size c f)
+pub stopping : (n size c c′ : ℕ) (f g : ℕ → Bool) (out : List ℕ) → c ≤ c′ → c′ ≤ 2 ^ n
+    → ((w : ℕ) → w < c → f w ≡ g w) → length out < length (runText n size c f)
     → (outputAfter (runText n size c′ g) out ≡ writtenBytes (runText n size c f) out)
     × (answerOf n c′ (runText n size c′ g) out ≡ record { written = length out; covered = c′; ending = outputFull })
 stopping = O.may-stop
@@ -115,7 +116,8 @@ pub calls-demand-3 : {R S : Type 0} (z : R) (o : S) (n op size : ℕ) (x y x₊ 
     → Together n op x y (x ++ x₊) (y ++ y₊) r r′ (take (r .written) after) (take (r′ .written) after′)
 calls-demand-3 {R} {S} z o n op size x y x₊ y₊ out out′ t u t′ u′ v v′ r r′ p q p′ q′ w w′ after after′ l h h′ =
     let first = combine z o n op size x y out t u v in
-    subst⁻¹ (λ (k : List ℕ). Together n op x y (x ++ x₊) (y ++ y₊) r r′ (take (r .written) k) (take (r′ .written) after′)) (ap (λ (c : Combine R S). c .output) h)
-    (subst⁻¹ (λ (k : List ℕ). Together n op x y (x ++ x₊) (y ++ y₊) r r′ (take (r .written) (first .output)) (take (r′ .written) k))
-    (ap (λ (c : Combine R S). c .output) h′)
-    (demand-3 z o .runs n op size x y x₊ y₊ out out′ t u t′ u′ v v′ r r′ l (sym (ap (λ (c : Combine R S). c .answer) h)) (sym (ap (λ (c : Combine R S). c .answer) h′))))
+    let answered : Combine R S → Result Answer = λ c. c .answer in
+    let left : Combine R S → List ℕ = λ c. c .output in
+    let Both : List ℕ → List ℕ → Type 0 = λ k k′. Together n op x y (x ++ x₊) (y ++ y₊) r r′ (take (r .written) k) (take (r′ .written) k′) in
+    subst⁻¹ (λ (k : List ℕ). Both k after′) (ap left h) (subst⁻¹ (Both (first .output)) (ap left h′)
+    (demand-3 z o .runs n op size x y x₊ y₊ out out′ t u t′ u′ v v′ r r′ l (sym (ap answered h)) (sym (ap answered h′))))

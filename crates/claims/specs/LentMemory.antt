@@ -36,7 +36,8 @@ pub fill-table : {R : Type 0} (z : R) (n : ℕ) (x old : List ℕ) (t : List R) 
 unfolding fill
 fill-table z n x old t = table-left z (fillAnswer n x old (length t)) t
 
-pub write-table : {R : Type 0} (z : R) (n size : ℕ) (truths out : List ℕ) (t : List R) → let c = write z n size truths out t in TableLeft z (c .answer) t (c .table)
+pub write-table : {R : Type 0} (z : R) (n size : ℕ) (truths out : List ℕ) (t : List R)
+    → let c = write z n size truths out t in TableLeft z (c .answer) t (c .table)
 unfolding write
 write-table z n size truths out t = table-left z (writeAnswer n size truths out (length t)) t
 
@@ -61,17 +62,17 @@ beyond : (n c : ℕ) (text out : List ℕ) (a : Result Answer) (r : Answer) → 
     → let out′ = unlessRefused a out (λ _. outputAfter text out) in (drop (r .written) out′ ≡ drop (r .written) out) × (length out′ ≡ length out)
 unfolding answerOf unlessRefused
 beyond n c text out a r e h =
-    let p : unlessRefused a out (λ _. outputAfter text out) ≡ outputAfter text out = ap (λ (b : Result Answer). unlessRefused b out (λ _. outputAfter text out)) e in
-    (
-      ap (drop (r .written)) p ∙ ap (λ (q : Answer). drop (q .written) (outputAfter text out)) h ∙ output-beyond text out ∙ sym (ap (λ (q : Answer). drop (q .written) out) h),
-      ap length p ∙ output-length text out,
-    )
+    let p = ap (λ (b : Result Answer). unlessRefused b out (λ _. outputAfter text out)) e in
+    let cut : List ℕ → Answer → List ℕ = λ l q. drop (q .written) l in
+    (ap (λ (l : List ℕ). cut l r) p ∙ ap (cut (outputAfter text out)) h ∙ output-beyond text out ∙ sym (ap (cut out) h), ap length p ∙ output-length text out)
 
-pub write-output : {R : Type 0} (z : R) (n size : ℕ) (truths out : List ℕ) (t : List R) → let c = write z n size truths out t in OutputLeft (c .answer) out (c .output)
+pub write-output : {R : Type 0} (z : R) (n size : ℕ) (truths out : List ℕ) (t : List R)
+    → let c = write z n size truths out t in OutputLeft (c .answer) out (c .output)
 unfolding write
 write-output z n size truths out t = record {
   kept = write-refused z n size truths out t;
-  beyond = λ r e. beyond n (2 ^ n) (writeText n size truths) out (writeAnswer n size truths out (length t)) r e (write-by n size truths out (length t) .unless r .0 e .1);
+  beyond = λ r e. let b = write-by n size truths out (length t) .unless r .0 e in
+      beyond n (2 ^ n) (writeText n size truths) out (writeAnswer n size truths out (length t)) r e (b .1);
 }
 
 pub combine-output : {R S : Type 0} (z : R) (o : S) (n op size : ℕ) (x y out : List ℕ) (t u : List R) (v : List S)
@@ -79,8 +80,10 @@ pub combine-output : {R S : Type 0} (z : R) (o : S) (n op size : ℕ) (x y out :
 unfolding combine
 combine-output z o n op size x y out t u v = record {
   kept = combine-refused z o n op size x y out t u v;
-  beyond = λ r e. beyond n (runCovered n (inputs n x y)) (combineText n op size (Streams x y)) out
-      (combineAnswer n op size (Streams x y) out (length t ∷ length u ∷ length v ∷ [])) r e (combine-by n op size x y out (length t) (length u) (length v) .unless r .0 e .1);
+  beyond = λ r e.
+      let b = combine-by n op size x y out (length t) (length u) (length v) .unless r .0 e in
+      let a = combineAnswer n op size (Streams x y) out (length t ∷ length u ∷ length v ∷ []) in
+      beyond n (runCovered n (inputs n x y)) (combineText n op size (Streams x y)) out a r e (b .1);
 }
 
 -- ---- A truth table that is filled ------------------------------------------------------------
@@ -115,8 +118,7 @@ module _ {R : Type 0} (z : R) (n : ℕ) (x old : List ℕ) (t : List R) where
   filled c e =
       let b = fill-by n x old (length t) .unless c .0 e in
       let p = truths-after c e in
-      let l : 3 ≤ n = not-above 3 n (λ h. b .0 .0 (inl h)) in
-      (
+      let l : 3 ≤ n = not-above 3 n (λ h. b .0 .0 (inl h)) in (
         b .1,
         subst⁻¹ (All (λ b. b < 256)) p (filled-bytes (2 ^ n / 8) n (trace n x) 0),
         λ w h. ap (λ (s : List ℕ). getD s (w / 8) 0 / 2 ^ (w % 8) % 2) p ∙ filled-word (2 ^ n / 8) n x w h (byte-inside n w l h),

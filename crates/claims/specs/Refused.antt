@@ -1,41 +1,45 @@
 -- Each call is turned down by the causes that apply to it, in the paper's order, and by nothing else. A test of a call's definition stands for a
 -- line (`test-line`), a stream's fault for another (`fault-line`). Assumes nothing.
 use mathlib.Core.Path.{_≡_, refl, sym, ap, _∙_, subst, subst⁻¹}
-use mathlib.Core.Logic.{_≢_, _⊎_, inl, inr, ⊎-elim, _↔_}
+use mathlib.Core.Logic.{_≢_, inl, inr, ⊎-elim, _↔_}
 use mathlib.Core.Bool.{Bool, true, false, not, _&&_, true≢false, false≢true}
-use mathlib.Core.List.{List, [], _∷_, _++_}
+use mathlib.Core.List.{List, [], _∷_}
 use mathlib.Core.Option.{Option, none, some}
 use Prim.{tt}
 use Prim.Native.Nat.{ℕ, suc, _-_, _/_, _≤_, _<_, _^_}
 use native.Mathlib.Omega.{arith}
-use lib.Dec.{ltb, leb, eqb}
+use lib.Dec.{ltb, leb}
 use lib.ListN.{length, getD}
 use borrow.Author.Tests.{ltb-true, ltb-false, leb-true, leb-false, eqb-true, eqb-false, not-true, not-false}
 use Rattle.lists.specs.Lists.{decide-eq, decide-le}
 use Rattle.reading.specs.Limits.{optionLimit, tableLimit, truthTableLeast, truthTableMost}
-use Rattle.reading.specs.Causes.{Cause, optionCount, operatorCode, sizeToWrite, workTable, wordRange, truthTable, call, causeRow, Refusal, refusal, Result, refused, done, Test, test, gate}
+use Rattle.reading.specs.Causes.{Cause, optionCount, operatorCode, sizeToWrite, workTable, wordRange, truthTable}
+use Rattle.reading.specs.Causes.{call, causeRow, Refusal, refusal, Result, refused, done, Test, test, gate}
 use Rattle.reading.specs.Reading.{Fault, Reading, reading}
 use Rattle.reading.specs.Settled.{never-some, fault-inside, fault-place}
-use Rattle.reading.specs.Calls.{manyOptions, shortTable, notTruthTable, wrongLength, unlessFault, checkedOf, checkAnswer, Verdict, verdictOf, verdict, decideAnswer, decide, fillAnswer}
+use Rattle.reading.specs.Calls.{manyOptions, shortTable, notTruthTable, wrongLength, unlessFault}
+use Rattle.reading.specs.Calls.{checkedOf, checkAnswer, Verdict, verdictOf, verdict, decideAnswer, decide, fillAnswer}
 use Rattle.reading.specs.Deciding.{decision, trace}
 use Rattle.reading.specs.CallLaws.{decide-decision}
 use Rattle.reading.specs.Prefix.{trace-reading}
 use Rattle.writing.specs.Run.{Input, runCovered, answerOf}
 use Rattle.writing.specs.Calls.{largeSize, writeText, writeAnswer, largeOperator, unlessFaults, inputOf, combineText, shortTables, combineAnswer}
-use Rattle.claims.specs.Terms.{Line, meets, faults, Met, Unmet, First, AllUnmet, Lowest, Named, TurnedDown, checkLines, decideLines, notThreeToSixteen, fillLines, writeLines, combineLines}
+use Rattle.claims.specs.Terms.{Line, meets, faults, Met, First, AllUnmet, Lowest, Named, TurnedDown}
+use Rattle.claims.specs.Terms.{checkLines, decideLines, notThreeToSixteen, fillLines, writeLines, combineLines}
 
 -- ---- Answers ---------------------------------------------------------------------------------
 
-pub clash : {A B : Type 0} (r : Refusal) (a : A) → refused r ≡ done a → B
+clash : {A B : Type 0} (r : Refusal) (a : A) → refused r ≡ done a → B
 clash r a e = let z : _≡_ {A = ℕ} 0 1 = cc in absurd (omega arith)
 
-pub same-done : {A : Type 0} (a b : A) → done a ≡ done b → a ≡ b
+same-done : {A : Type 0} (a b : A) → done a ≡ done b → a ≡ b
 same-done a b e = cc
 
 same-refused : {A : Type 0} (f g : Refusal) → _≡_ {A = Result A} (refused f) (refused g) → f ≡ g
 same-refused f g e = cc
 
-same-fault : (g : Fault) (f : Refusal) (k : ℕ) → some g ≡ some (record { cause = f .cause; byte = f .byte }) → f .stream ≡ k → refusal (g .cause) k (g .byte) ≡ f
+same-fault : (g : Fault) (f : Refusal) (k : ℕ) → some g ≡ some (record { cause = f .cause; byte = f .byte }) → f .stream ≡ k
+    → refusal (g .cause) k (g .byte) ≡ f
 same-fault g f k e d = let h : g ≡ record { cause = f .cause; byte = f .byte } = cc in
     ap (λ (i : Fault). refusal (i .cause) k (i .byte)) h ∙ ap (λ (j : ℕ). refusal (f .cause) j (f .byte)) (sym d)
 
@@ -95,7 +99,8 @@ tests-lines (t ∷ ts) (meets c P ∷ ls) v x h =
 tests-lines (t ∷ ts) (faults n k y ∷ ls) v x h = absurd (h .0)
 
 -- the fault of a stream
-fault-line : {A : Type 0} (n k : ℕ) (x : List ℕ) (ls : List Line) (v : A) (a : Result A) → By ls v a → By (faults n k x ∷ ls) v (unlessFault k (reading n x .fault) a)
+fault-line : {A : Type 0} (n k : ℕ) (x : List ℕ) (ls : List Line) (v : A) (a : Result A) → By ls v a
+    → By (faults n k x ∷ ls) v (unlessFault k (reading n x .fault) a)
 fault-line {A} n k x ls v a h = go (reading n x .fault) refl
   where
     go : (o : Option Fault) → reading n x .fault ≡ o → By (faults n k x ∷ ls) v (unlessFault k o a)
@@ -196,8 +201,12 @@ from c least k = (refl, leb-true least k, λ e h. omega (arith, leb-false least 
 not-three-to-sixteen : (n : ℕ) → Stands (notTruthTable n) (meets optionCount (notThreeToSixteen n))
 not-three-to-sixteen n = go (leb truthTableLeast n) refl (leb n truthTableMost) refl
   where
-    go : (p : Bool) → leb truthTableLeast n ≡ p → (q : Bool) → leb n truthTableMost ≡ q → Stands (test optionCount (not (p && q))) (meets optionCount (notThreeToSixteen n))
-    go true a true b = (refl, λ e. absurd (false≢true e), λ e. ⊎-elim (λ h. omega (arith, leb-true truthTableLeast n a, h)) (λ h. omega (arith, leb-true n truthTableMost b, h)))
+    go : (p : Bool) → leb truthTableLeast n ≡ p → (q : Bool) → leb n truthTableMost ≡ q
+        → Stands (test optionCount (not (p && q))) (meets optionCount (notThreeToSixteen n))
+    go true a true b =
+        let l = leb-true truthTableLeast n a in
+        let m = leb-true n truthTableMost b in
+        (refl, λ e. absurd (false≢true e), λ e. ⊎-elim (λ h. omega (arith, l, h)) (λ h. omega (arith, m, h)))
     go true a false b = (refl, λ e. inr (leb-false n truthTableMost b), λ e. absurd (true≢false e))
     go false a q b = (refl, λ e. inl (leb-false truthTableLeast n a), λ e. absurd (true≢false e))
 
@@ -221,13 +230,14 @@ unfolding decideAnswer
 decide-lines n x w records =
     let v = verdict n (trace n x) w in
     let f : trace n x .reading .fault ≡ reading n x .fault = ap (λ (r : Reading). r .fault) (trace-reading n x) in
+    let rest = subst⁻¹ (λ (o : Option Fault). By (faults n 1 x ∷ []) v (unlessFault 1 o (done v))) f (fault-line n 1 x [] v (done v) (by-none v)) in
     turned-down (x ∷ []) _ v _ (refl, (refl, (refl, one-stream n x))) (omega arith, (omega arith, (omega arith, tt)))
     (tests-lines (manyOptions n ∷ shortTable records ∷ test wordRange (leb (2 ^ n) w) ∷ []) _ v _
-    (above optionCount optionLimit n, (above workTable records tableLimit, (from wordRange (2 ^ n) w,
-    subst⁻¹ (λ (o : Option Fault). By (faults n 1 x ∷ []) v (unlessFault 1 o (done v))) f (fault-line n 1 x [] v _ (by-none v))))))
+    (above optionCount optionLimit n, (above workTable records tableLimit, (from wordRange (2 ^ n) w, rest))))
 
 -- what it answers is what the stream decides
-pub decide-decided : {R : Type 0} (z : R) (n : ℕ) (x : List ℕ) (w : ℕ) (t : List R) (r : Verdict) → decide z n x w t .answer ≡ done r → r ≡ verdictOf (decision n x w)
+pub decide-decided : {R : Type 0} (z : R) (n : ℕ) (x : List ℕ) (w : ℕ) (t : List R) (r : Verdict) → decide z n x w t .answer ≡ done r
+    → r ≡ verdictOf (decision n x w)
 unfolding decide
 decide-decided z n x w t r e =
     let m = decide-lines n x w (length t) .unless .0 (r, e) in
@@ -243,7 +253,8 @@ fill-by n x truths records = tests-lines (notTruthTable n ∷ shortTable records
     (not-three-to-sixteen n, (above workTable records tableLimit, (wrong-length n truths, fault-line n 1 x [] _ _ (by-none _))))
 
 pub fill-lines : (n : ℕ) (x truths : List ℕ) (records : ℕ) → TurnedDown (x ∷ []) (fillLines n x truths records) (fillAnswer n x truths records)
-fill-lines n x truths records = turned-down (x ∷ []) _ _ _ (refl, (refl, (refl, one-stream n x))) (omega arith, (omega arith, (omega arith, tt))) (fill-by n x truths records)
+fill-lines n x truths records =
+    turned-down (x ∷ []) _ _ _ (refl, (refl, (refl, one-stream n x))) (omega arith, (omega arith, (omega arith, tt))) (fill-by n x truths records)
 
 pub write-by : (n size : ℕ) (truths out : List ℕ) (records : ℕ)
     → By (writeLines n size truths records) (answerOf n (2 ^ n) (writeText n size truths) out) (writeAnswer n size truths out records)
@@ -252,7 +263,8 @@ write-by n size truths out records = tests-lines (notTruthTable n ∷ largeSize 
     (not-three-to-sixteen n, (above sizeToWrite tableLimit size, (above workTable records tableLimit, (wrong-length n truths, by-none _))))
 
 pub write-lines : (n size : ℕ) (truths out : List ℕ) (records : ℕ) → TurnedDown [] (writeLines n size truths records) (writeAnswer n size truths out records)
-write-lines n size truths out records = turned-down [] _ _ _ (refl, (refl, (refl, (refl, tt)))) (omega arith, (omega arith, (omega arith, (omega arith, tt)))) (write-by n size truths out records)
+write-lines n size truths out records =
+    turned-down [] _ _ _ (refl, (refl, (refl, (refl, tt)))) (omega arith, (omega arith, (omega arith, (omega arith, tt)))) (write-by n size truths out records)
 
 -- the streams of a run, and what they are as its inputs
 abbrev pub Streams : List ℕ → List ℕ → List (List ℕ)
@@ -267,9 +279,10 @@ pub combine-by : (n op size : ℕ) (x y out : List ℕ) (a b c : ℕ)
 unfolding combineAnswer unlessFaults
 combine-by n op size x y out a b c =
     let short : (k : ℕ) → Stands (shortTable k) (meets workTable (k < tableLimit)) = λ k. above workTable k tableLimit in
-    tests-lines (manyOptions n ∷ largeOperator 2 op ∷ largeSize size ∷ shortTables (a ∷ b ∷ c ∷ [])) _ _ _
-    (above optionCount optionLimit n, (from operatorCode 16 op, (above sizeToWrite tableLimit size, (short a, (short b, (short c,
-    fault-line n 1 x (faults n 2 y ∷ []) _ _ (fault-line n 2 y [] _ _ (by-none _))))))))
+    let v = answerOf n (runCovered n (inputs n x y)) (combineText n op size (Streams x y)) out in
+    let rest = fault-line n 1 x (faults n 2 y ∷ []) v _ (fault-line n 2 y [] v (done v) (by-none v)) in
+    tests-lines (manyOptions n ∷ largeOperator 2 op ∷ largeSize size ∷ shortTables (a ∷ b ∷ c ∷ [])) _ v _
+    (above optionCount optionLimit n, (from operatorCode 16 op, (above sizeToWrite tableLimit size, (short a, (short b, (short c, rest))))))
 
 pub combine-lines : (n op size : ℕ) (x y out : List ℕ) (a b c : ℕ)
     → TurnedDown (x ∷ y ∷ []) (combineLines n op size x y a b c) (combineAnswer n op size (x ∷ y ∷ []) out (a ∷ b ∷ c ∷ []))

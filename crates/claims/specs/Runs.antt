@@ -172,7 +172,7 @@ module _ (n op size : ℕ) (x y out : List ℕ) (r : Answer) (t : List ℕ) (h :
       let g = joint (operate op) (inputs n x y) in
       let e = smaller-covered n x y in
       let s : runText n size c g ≡ runText n size c f =
-          run-stable n size c g f (λ w l. operated-same n op x y w (g w) (f w) (joint-operated n op x y w l) (k w (omega (arith, l, e)))) in
+      run-stable n size c g f (λ w l. operated-same n op x y w (g w) (f w) (joint-operated n op x y w l) (k w (omega (arith, l, e)))) in
       subst (λ (m : ℕ). Gets n m (runText n size m f) out r t) e
       (subst (λ (text : List ℕ). Gets n c text out r t) s (gets n c (runText n size c g) out r t (h .answer) (h .bytes)))
 

@@ -8,7 +8,8 @@ use mathlib.Core.Option.{none, some}
 use Prim.Native.Nat.{ℕ, _-_, _/_, _≤_, _<_, _^_, min}
 use lib.ListN.{length, take, drop, getD}
 use Rattle.reading.specs.Limits.{optionLimit, tableLimit, truthTableLeast, truthTableMost}
-use Rattle.reading.specs.Causes.{Cause, optionCount, operatorCode, sizeToWrite, workTable, wordRange, truthTable, call, place, causeRow, Refusal, refusal, Result, refused, done, cleared}
+use Rattle.reading.specs.Causes.{Cause, optionCount, operatorCode, sizeToWrite, workTable, wordRange, truthTable}
+use Rattle.reading.specs.Causes.{call, place, causeRow, Refusal, refusal, Result, refused, done, cleared}
 use Rattle.reading.specs.Element.{over}
 use Rattle.reading.specs.Reading.{reading}
 use Rattle.reading.specs.Deciding.{decided, decision}
@@ -64,15 +65,25 @@ pub record TurnedDown {A : Type 0} (xs : List (List ℕ)) (ls : List Line) (a : 
   -- what a refusal names
   pub names : (f : Refusal) → a ≡ refused f → Named xs f
 
--- ---- The causes of each call ------------------------------------------------------------------
+-- ---- The causes of each call -----------------------------------------------------------------
 
--- "Causes 1 to 6 are tested in that order where they apply, then all of stream 1, then all of stream 2". The work tables have as many records as said.
+-- "Causes 1 to 6 are tested in that order where they apply, then all of stream 1, then all of stream 2". Behind each line stand its numbers in the
+-- paper; records: how many the work table has.
 
 abbrev pub checkLines : ℕ → List ℕ → ℕ → List Line
-checkLines n x records = meets optionCount (optionLimit < n) ∷ meets workTable (records < tableLimit) ∷ faults n 1 x ∷ []
+checkLines n x records =
+    meets optionCount (optionLimit < n)  -- 1
+    ∷ meets workTable (records < tableLimit)  -- 4
+    ∷ faults n 1 x  -- 7 to 13
+    ∷ []
 
 abbrev pub decideLines : ℕ → List ℕ → ℕ → ℕ → List Line
-decideLines n x w records = meets optionCount (optionLimit < n) ∷ meets workTable (records < tableLimit) ∷ meets wordRange (2 ^ n ≤ w) ∷ faults n 1 x ∷ []
+decideLines n x w records =
+    meets optionCount (optionLimit < n)  -- 1
+    ∷ meets workTable (records < tableLimit)  -- 4
+    ∷ meets wordRange (2 ^ n ≤ w)  -- 5
+    ∷ faults n 1 x  -- 7 to 13
+    ∷ []
 
 -- "truth table n not 3 to 16"
 abbrev pub notThreeToSixteen : ℕ → Type 0
@@ -80,22 +91,30 @@ notThreeToSixteen n = (n < truthTableLeast) ⊎ (truthTableMost < n)
 
 abbrev pub fillLines : ℕ → List ℕ → List ℕ → ℕ → List Line
 fillLines n x truths records =
-    meets optionCount (notThreeToSixteen n) ∷ meets workTable (records < tableLimit) ∷ meets truthTable (length truths ≢ 2 ^ n / 8) ∷ faults n 1 x ∷ []
+    meets optionCount (notThreeToSixteen n)  -- 1
+    ∷ meets workTable (records < tableLimit)  -- 4
+    ∷ meets truthTable (length truths ≢ 2 ^ n / 8)  -- 6
+    ∷ faults n 1 x  -- 7 to 13
+    ∷ []
 
 abbrev pub writeLines : ℕ → ℕ → List ℕ → ℕ → List Line
 writeLines n size truths records =
-    meets optionCount (notThreeToSixteen n) ∷ meets sizeToWrite (tableLimit < size) ∷ meets workTable (records < tableLimit) ∷ meets truthTable (length truths ≢ 2 ^ n / 8) ∷ []
+    meets optionCount (notThreeToSixteen n)  -- 1
+    ∷ meets sizeToWrite (tableLimit < size)  -- 3
+    ∷ meets workTable (records < tableLimit)  -- 4
+    ∷ meets truthTable (length truths ≢ 2 ^ n / 8)  -- 6
+    ∷ []
 
 abbrev pub combineLines : ℕ → ℕ → ℕ → List ℕ → List ℕ → ℕ → ℕ → ℕ → List Line
 combineLines n op size x y records records′ records″ =
-    meets optionCount (optionLimit < n)
-    ∷ meets operatorCode (15 < op)
-    ∷ meets sizeToWrite (tableLimit < size)
-    ∷ meets workTable (records < tableLimit)
-    ∷ meets workTable (records′ < tableLimit)
-    ∷ meets workTable (records″ < tableLimit)
-    ∷ faults n 1 x
-    ∷ faults n 2 y
+    meets optionCount (optionLimit < n)  -- 1
+    ∷ meets operatorCode (15 < op)  -- 2
+    ∷ meets sizeToWrite (tableLimit < size)  -- 3
+    ∷ meets workTable (records < tableLimit)  -- 4
+    ∷ meets workTable (records′ < tableLimit)  -- 4
+    ∷ meets workTable (records″ < tableLimit)  -- 4
+    ∷ faults n 1 x  -- 7 to 13
+    ∷ faults n 2 y  -- 7 to 13
     ∷ []
 
 -- ---- Lent memory -----------------------------------------------------------------------------
