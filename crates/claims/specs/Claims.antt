@@ -77,38 +77,50 @@ pub record Demand2 {R S : Type 0} (z : R) (o : S) : Type 0 where
   -- Deciding answers yes, no or not yet as the diagram decides the word.
   pub deciding : (n : ℕ) (x : List ℕ) (w : ℕ) (t : List R) (r : Verdict) → decide z n x w t .answer ≡ done r → r ≡ verdictOf (decision n x w)
   -- Filling answers the covered count; word w is binary digit w mod 8 of byte w / 8, and 0 from the covered count on.
-  pub filling : (n : ℕ) (x truths : List ℕ) (t : List R) (r : ℕ) → fill z n x truths t .answer ≡ done r
-      → let after = fill z n x truths t .truths in
-      (r ≡ covered n x) × All (λ b. b < 256) after × ((w : ℕ) → w < 2 ^ n → getD after (w / 8) 0 / 2 ^ (w % 8) % 2 ≡ digitOf (verdictOf (decision n x w)))
+  pub filling : (n : ℕ) (x truths : List ℕ) (t : List R) (r : ℕ)
+      → let c = fill z n x truths t in
+      c .answer ≡ done r
+      → (r ≡ covered n x) × All (λ b. b < 256) (c .truths)
+      × ((w : ℕ) → w < 2 ^ n → getD (c .truths) (w / 8) 0 / 2 ^ (w % 8) % 2 ≡ digitOf (verdictOf (decision n x w)))
   -- WRITING a truth table. The output gets the first bytes of the table's stream, as many as fit.
-  pub writing-stream : (n size : ℕ) (truths out : List ℕ) (v : List S) (r : Answer) → write o n size truths out v .answer ≡ done r
-      → Gets n (2 ^ n) (runText n size (2 ^ n) (truthAt truths)) out r (write o n size truths out v .output)
+  pub writing-stream : (n size : ℕ) (truths out : List ℕ) (v : List S) (r : Answer)
+      → let c = write o n size truths out v in
+      c .answer ≡ done r → Gets n (2 ^ n) (runText n size (2 ^ n) (truthAt truths)) out r (c .output)
   -- The written bytes, all or not, are accepted and decide the words that they cover as the table does.
-  pub writing-read : (n size : ℕ) (truths out : List ℕ) (v : List S) (r : Answer) → write o n size truths out v .answer ≡ done r
-      → ReadAs n (r .covered) (λ w d. d ≡ truthAt truths w) (take (r .written) (write o n size truths out v .output))
+  pub writing-read : (n size : ℕ) (truths out : List ℕ) (v : List S) (r : Answer)
+      → let c = write o n size truths out v in
+      c .answer ≡ done r → ReadAs n (r .covered) (λ w d. d ≡ truthAt truths w) (take (r .written) (c .output))
   -- If the ending is "whole" they are complete, and cover every word.
-  pub writing-whole : (n size : ℕ) (truths out : List ℕ) (v : List S) (r : Answer) → write o n size truths out v .answer ≡ done r → r .ending ≡ whole
-      → Complete n (take (r .written) (write o n size truths out v .output))
+  pub writing-whole : (n size : ℕ) (truths out : List ℕ) (v : List S) (r : Answer)
+      → let c = write o n size truths out v in
+      c .answer ≡ done r → r .ending ≡ whole → Complete n (take (r .written) (c .output))
   -- "reading that stream gives the same decisions": deciding a word that the written bytes cover answers what the table has there.
-  pub writing-decided : (n size : ℕ) (truths out : List ℕ) (v : List S) (r : Answer) → write o n size truths out v .answer ≡ done r
-      → let bytes = take (r .written) (write o n size truths out v .output) in
-      (w : ℕ) (t : List R) → w < covered n bytes → tableLimit ≤ length t → decide z n bytes w t .answer ≡ done (verdictOf (decided (truthAt truths w)))
+  pub writing-decided : (n size : ℕ) (truths out : List ℕ) (v : List S) (r : Answer)
+      → let c = write o n size truths out v in
+      let bytes = take (r .written) (c .output) in
+      c .answer ≡ done r
+      → (w : ℕ) (t : List R) → w < covered n bytes → tableLimit ≤ length t → decide z n bytes w t .answer ≡ done (verdictOf (decided (truthAt truths w)))
   -- COMBINING. On the words that both streams cover the operator decides; their number is the run's covered count.
   pub combining-words : (n op : ℕ) (x y : List ℕ) (w : ℕ) → w < min (covered n x) (covered n y) → (d : Bool) × Operated n op x y w d
   -- Whatever f decides these words as the operator does, the output gets the first bytes of its stream for that covered count, as many as fit.
-  pub combining-stream : (n op size : ℕ) (x y out : List ℕ) (t u : List R) (v : List S) (r : Answer) → combine z o n op size x y out t u v .answer ≡ done r
-      → let c = min (covered n x) (covered n y) in
-      (f : ℕ → Bool) → ((w : ℕ) → w < c → Operated n op x y w (f w)) → Gets n c (runText n size c f) out r (combine z o n op size x y out t u v .output)
+  pub combining-stream : (n op size : ℕ) (x y out : List ℕ) (t u : List R) (v : List S) (r : Answer)
+      → let c = combine z o n op size x y out t u v in
+      let k = min (covered n x) (covered n y) in
+      c .answer ≡ done r → (f : ℕ → Bool) → ((w : ℕ) → w < k → Operated n op x y w (f w)) → Gets n k (runText n size k f) out r (c .output)
   -- The written bytes, whatever the ending, are accepted and decide the words that they cover as the operator does.
-  pub combining-read : (n op size : ℕ) (x y out : List ℕ) (t u : List R) (v : List S) (r : Answer) → combine z o n op size x y out t u v .answer ≡ done r
-      → ReadAs n (r .covered) (Operated n op x y) (take (r .written) (combine z o n op size x y out t u v .output))
+  pub combining-read : (n op size : ℕ) (x y out : List ℕ) (t u : List R) (v : List S) (r : Answer)
+      → let c = combine z o n op size x y out t u v in
+      c .answer ≡ done r → ReadAs n (r .covered) (Operated n op x y) (take (r .written) (c .output))
   -- If the ending is "whole" they are complete, and cover every word.
-  pub combining-whole : (n op size : ℕ) (x y out : List ℕ) (t u : List R) (v : List S) (r : Answer) → combine z o n op size x y out t u v .answer ≡ done r
-      → r .ending ≡ whole → Complete n (take (r .written) (combine z o n op size x y out t u v .output))
+  pub combining-whole : (n op size : ℕ) (x y out : List ℕ) (t u : List R) (v : List S) (r : Answer)
+      → let c = combine z o n op size x y out t u v in
+      c .answer ≡ done r → r .ending ≡ whole → Complete n (take (r .written) (c .output))
   -- "reading that stream gives the same decisions": deciding a word that the written bytes cover answers what the operator decides there.
-  pub combining-decided : (n op size : ℕ) (x y out : List ℕ) (t u : List R) (v : List S) (r : Answer) → combine z o n op size x y out t u v .answer ≡ done r
-      → let bytes = take (r .written) (combine z o n op size x y out t u v .output) in
-      (w : ℕ) (p : List R) → w < covered n bytes → tableLimit ≤ length p
+  pub combining-decided : (n op size : ℕ) (x y out : List ℕ) (t u : List R) (v : List S) (r : Answer)
+      → let c = combine z o n op size x y out t u v in
+      let bytes = take (r .written) (c .output) in
+      c .answer ≡ done r
+      → (w : ℕ) (p : List R) → w < covered n bytes → tableLimit ≤ length p
       → (d : Bool) × Operated n op x y w d × (decide z n bytes w p .answer ≡ done (verdictOf (decided d)))
 
 -- ---- Demand 3 --------------------------------------------------------------------------------
