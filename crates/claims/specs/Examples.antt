@@ -7,7 +7,7 @@ use native.Mathlib.Omega.{arith}
 use lib.ListN.{take, replicate}
 use Rattle.reading.specs.Limits.{tableLimit}
 use Rattle.reading.specs.Bytes.{text}
-use Rattle.reading.specs.Causes.{operatorCode, notInTable, tooDeep, refused, done, refusal}
+use Rattle.reading.specs.Causes.{optionCount, operatorCode, sizeToWrite, wordRange, truthTable, notInTable, tooDeep, refused, done, refusal}
 use Rattle.reading.specs.Reading.{reading}
 use Rattle.reading.specs.Calls.{complete, cut, check, isNo, isYes, decide, fill}
 use Rattle.reading.specs.Covered.{covered}
@@ -73,6 +73,23 @@ no-operator : run 16 (text "4\n((((") second output ≡ record {
 }
 unfolding combine text
 no-operator = refl
+
+-- the other calls: 33 options, word 8 of 8, a truth table of two bytes for three options, table size 1,025
+many-options : check 0 33 first table ≡ record { answer = refused (refusal optionCount 0 0); table = table }
+unfolding check
+many-options = refl
+
+word-eight : decide 0 3 first 8 table ≡ record { answer = refused (refusal wordRange 0 0); table = table }
+unfolding decide text
+word-eight = refl
+
+two-bytes : fill 0 3 first (1 ∷ 2 ∷ []) table ≡ record { answer = refused (refusal truthTable 0 0); table = table; truths = 1 ∷ 2 ∷ [] }
+unfolding fill text
+two-bytes = refl
+
+large-size : write 0 3 1025 (232 ∷ []) output table ≡ record { answer = refused (refusal sizeToWrite 0 0); table = table; output = output }
+unfolding write text
+large-size = refl
 
 -- ---- Demand 2 --------------------------------------------------------------------------------
 
