@@ -3,7 +3,7 @@ ghost use mathlib.Core.Path.{_≡_};
 ghost use mathlib.Core.Bool.{cond};
 ghost use mathlib.Core.List.{[]};
 ghost use Rattle.reading.specs.Causes.{refusal};
-ghost use Rattle.reading.specs.Calls.{complete, cut, extent, check};
+ghost use Rattle.reading.specs.Calls.{complete, cut, extent, Checks};
 ghost use Rattle.work_table.specs.Table.{noRecord};
 ghost use Rattle.reader.specs.Cite.{markOf, causeOf};
 ghost use Rattle.reader.specs.Lent.{reachedIn};
@@ -90,7 +90,7 @@ pub fn checked_at(r: Reached) -> Checking
 
 // CHECKING a stream: causes 1 and 4, then those of the stream.
 pub fn check(n: u32, s: &[u8], t: &mut [[u32; 6]]) -> Checking
-    ensures { λ r. ⌜ record { answer = checkingOf r; table = now (t .exit) } ≡ check noRecord n (now (s .entry)) (now (t .entry)) ⌝ }
+    ensures { λ r. ⌜ Checks noRecord n (now (s .entry)) (now (t .entry)) (record { answer = checkingOf r; table = now (t .exit) }) ⌝ }
 {
     if 32 < n {
         return Checking::Refused(early(Cause::OptionCount));

@@ -1,9 +1,9 @@
--- WHAT IS CLAIMED of the definitions that document 01 gives for each call: `check`, `decide` and `fill` in reading's Calls, `write` and `combine`
--- in writing's Calls. The contract of each call in code says that answer and lent memory are what its definition gives. Three records have the three
+-- WHAT IS CLAIMED of each call. A statement's premise is the contract of the call, as the code's `ensures` has it: `Checks`, `Decides` and `Fills` of
+-- reading's Calls, `Writes` and `Combines` of writing's: c, the answer with all lent memory, is what document 01's definition gives. Three records have the three
 -- demands, each statement under a line of plain words; their values at the end prove them by citation. Terms has the terms, Examples a run of each,
 -- Further what else is proved. R: a record of a work table to read with, S: one of a table to write with; z, o: those that are zero.
 -- x, y: input streams; t, u, v: work tables; out: what the output held. Assumes nothing.
-use mathlib.Core.Path.{_≡_, ap, _∙_}
+use mathlib.Core.Path.{_≡_, sym, ap, _∙_, subst⁻¹}
 use mathlib.Core.Bool.{Bool}
 use mathlib.Core.List.{List, [], _∷_, _++_}
 use mathlib.Core.Option.{none, some}
@@ -16,13 +16,13 @@ use Rattle.reading.specs.Causes.{Refusal, refused, done}
 use Rattle.reading.specs.Element.{over}
 use Rattle.reading.specs.Reading.{Fault, reading}
 use Rattle.reading.specs.Deciding.{decided, undecided, decision}
-use Rattle.reading.specs.Calls.{Checked, extent, check, Verdict, verdictOf, decide, digitOf, fill}
+use Rattle.reading.specs.Calls.{Checked, extent, Read, check, Checks, Verdict, verdictOf, decide, Decides, digitOf, Fill, fill, Fills}
 use Rattle.reading.specs.Covered as C
 use Rattle.reading.specs.Covered.{covered}
-use Rattle.reading.specs.Settled as S
+use Rattle.reading.specs.Settled as F
 use Rattle.reading.specs.CallLaws as L
 use Rattle.writing.specs.Run.{runText, whole, Answer}
-use Rattle.writing.specs.Calls.{truthAt, write, combine}
+use Rattle.writing.specs.Calls.{truthAt, Write, write, Writes, Combine, combine, Combines}
 use Rattle.claims.specs.Terms.{TurnedDown, checkLines, decideLines, fillLines, writeLines, combineLines}
 use Rattle.claims.specs.Terms.{TableLeft, OutputLeft, Gets, Operated, ReadAs, Complete}
 use Rattle.claims.specs.Refused as T
@@ -37,29 +37,36 @@ use Rattle.claims.specs.Runs as U
 pub record Demand1 {R S : Type 0} (z : R) (o : S) : Type 0 where
   -- Each call is refused exactly if it meets one of its causes; the first in the paper's order is named, with stream 0 and byte 0, or with the
   -- stream, stream 1 before stream 2, and a byte inside it.
-  pub check-refused : (n : ℕ) (x : List ℕ) (t : List R) → TurnedDown (x ∷ []) (checkLines n x (length t)) (check z n x t .answer)
-  pub decide-refused : (n : ℕ) (x : List ℕ) (w : ℕ) (t : List R) → TurnedDown (x ∷ []) (decideLines n x w (length t)) (decide z n x w t .answer)
-  pub fill-refused : (n : ℕ) (x truths : List ℕ) (t : List R) → TurnedDown (x ∷ []) (fillLines n x truths (length t)) (fill z n x truths t .answer)
-  pub write-refused : (n size : ℕ) (truths out : List ℕ) (v : List S)
-      → TurnedDown [] (writeLines n size truths (length v)) (write o n size truths out v .answer)
-  pub combine-refused : (n op size : ℕ) (x y out : List ℕ) (t u : List R) (v : List S)
-      → TurnedDown (x ∷ y ∷ []) (combineLines n op size x y (length t) (length u) (length v)) (combine z o n op size x y out t u v .answer)
+  pub check-refused : (n : ℕ) (x : List ℕ) (t : List R) (c : Read Checked R) → Checks z n x t c
+      → TurnedDown (x ∷ []) (checkLines n x (length t)) (c .answer)
+  pub decide-refused : (n : ℕ) (x : List ℕ) (w : ℕ) (t : List R) (c : Read Verdict R) → Decides z n x w t c
+      → TurnedDown (x ∷ []) (decideLines n x w (length t)) (c .answer)
+  pub fill-refused : (n : ℕ) (x truths : List ℕ) (t : List R) (c : Fill R) → Fills z n x truths t c
+      → TurnedDown (x ∷ []) (fillLines n x truths (length t)) (c .answer)
+  pub write-refused : (n size : ℕ) (truths out : List ℕ) (v : List S) (c : Write S) → Writes o n size truths out v c
+      → TurnedDown [] (writeLines n size truths (length v)) (c .answer)
+  pub combine-refused : (n op size : ℕ) (x y out : List ℕ) (t u : List R) (v : List S) (c : Combine R S) → Combines z o n op size x y out t u v c
+      → TurnedDown (x ∷ y ∷ []) (combineLines n op size x y (length t) (length u) (length v)) (c .answer)
   -- "In a stream the lowest fault place counts": the bytes before it are without fault.
   pub lowest-fault : (n : ℕ) (x : List ℕ) (f : Fault) → reading n x .fault ≡ some f → (f .byte < length x) × (reading n (take (f .byte) x) .fault ≡ none)
   -- A work table is as it was after a refusal that names the call, and zero in every record after any other return.
-  pub check-table : (n : ℕ) (x : List ℕ) (t : List R) → let c = check z n x t in TableLeft z (c .answer) t (c .table)
-  pub decide-table : (n : ℕ) (x : List ℕ) (w : ℕ) (t : List R) → let c = decide z n x w t in TableLeft z (c .answer) t (c .table)
-  pub fill-table : (n : ℕ) (x truths : List ℕ) (t : List R) → let c = fill z n x truths t in TableLeft z (c .answer) t (c .table)
-  pub write-table : (n size : ℕ) (truths out : List ℕ) (v : List S) → let c = write o n size truths out v in TableLeft o (c .answer) v (c .table)
-  pub combine-tables : (n op size : ℕ) (x y out : List ℕ) (t u : List R) (v : List S)
-      → let c = combine z o n op size x y out t u v in
-      TableLeft z (c .answer) t (c .first) × TableLeft z (c .answer) u (c .second) × TableLeft o (c .answer) v (c .third)
+  pub check-table : (n : ℕ) (x : List ℕ) (t : List R) (c : Read Checked R) → Checks z n x t c
+      → TableLeft z (c .answer) t (c .table)
+  pub decide-table : (n : ℕ) (x : List ℕ) (w : ℕ) (t : List R) (c : Read Verdict R) → Decides z n x w t c
+      → TableLeft z (c .answer) t (c .table)
+  pub fill-table : (n : ℕ) (x truths : List ℕ) (t : List R) (c : Fill R) → Fills z n x truths t c
+      → TableLeft z (c .answer) t (c .table)
+  pub write-table : (n size : ℕ) (truths out : List ℕ) (v : List S) (c : Write S) → Writes o n size truths out v c
+      → TableLeft o (c .answer) v (c .table)
+  pub combine-tables : (n op size : ℕ) (x y out : List ℕ) (t u : List R) (v : List S) (c : Combine R S) → Combines z o n op size x y out t u v c
+      → TableLeft z (c .answer) t (c .first) × TableLeft z (c .answer) u (c .second) × TableLeft o (c .answer) v (c .third)
   -- A refused call leaves truth table and output as they were; another keeps their length and, in the output, the bytes beyond those written.
-  pub fill-truths : (n : ℕ) (x truths : List ℕ) (t : List R)
-      → let c = fill z n x truths t in ((f : Refusal) → c .answer ≡ refused f → c .truths ≡ truths) × (length (c .truths) ≡ length truths)
-  pub write-output : (n size : ℕ) (truths out : List ℕ) (v : List S) → let c = write o n size truths out v in OutputLeft (c .answer) out (c .output)
-  pub combine-output : (n op size : ℕ) (x y out : List ℕ) (t u : List R) (v : List S)
-      → let c = combine z o n op size x y out t u v in OutputLeft (c .answer) out (c .output)
+  pub fill-truths : (n : ℕ) (x truths : List ℕ) (t : List R) (c : Fill R) → Fills z n x truths t c
+      → ((f : Refusal) → c .answer ≡ refused f → c .truths ≡ truths) × (length (c .truths) ≡ length truths)
+  pub write-output : (n size : ℕ) (truths out : List ℕ) (v : List S) (c : Write S) → Writes o n size truths out v c
+      → OutputLeft (c .answer) out (c .output)
+  pub combine-output : (n op size : ℕ) (x y out : List ℕ) (t u : List R) (v : List S) (c : Combine R S) → Combines z o n op size x y out t u v c
+      → OutputLeft (c .answer) out (c .output)
 
 -- ---- Demand 2 --------------------------------------------------------------------------------
 
@@ -72,56 +79,50 @@ pub record Demand2 {R S : Type 0} (z : R) (o : S) : Type 0 where
   -- A complete stream covers every word.
   pub complete-covers : (n : ℕ) (x : List ℕ) → reading n x .state .place .mark ≡ over → covered n x ≡ 2 ^ n
   -- Checking answers the declared size, the covered count, and complete or cut.
-  pub checking : (n : ℕ) (x : List ℕ) (t : List R) (r : Checked) → check z n x t .answer ≡ done r
+  pub checking : (n : ℕ) (x : List ℕ) (t : List R) (r : Checked) (c : Read Checked R) → Checks z n x t c
+      → c .answer ≡ done r
       → let s = reading n x .state in r ≡ record { size = s .size; covered = covered n x; extent = extent (s .place .mark) }
   -- Deciding answers yes, no or not yet as the diagram decides the word.
-  pub deciding : (n : ℕ) (x : List ℕ) (w : ℕ) (t : List R) (r : Verdict) → decide z n x w t .answer ≡ done r → r ≡ verdictOf (decision n x w)
+  pub deciding : (n : ℕ) (x : List ℕ) (w : ℕ) (t : List R) (r : Verdict) (c : Read Verdict R) → Decides z n x w t c
+      → c .answer ≡ done r → r ≡ verdictOf (decision n x w)
   -- Filling answers the covered count; word w is binary digit w mod 8 of byte w / 8, and 0 from the covered count on.
-  pub filling : (n : ℕ) (x truths : List ℕ) (t : List R) (r : ℕ)
-      → let c = fill z n x truths t in
-      c .answer ≡ done r
+  pub filling : (n : ℕ) (x truths : List ℕ) (t : List R) (r : ℕ) (c : Fill R) → Fills z n x truths t c
+      → c .answer ≡ done r
       → (r ≡ covered n x) × All (λ b. b < 256) (c .truths)
       × ((w : ℕ) → w < 2 ^ n → getD (c .truths) (w / 8) 0 / 2 ^ (w % 8) % 2 ≡ digitOf (verdictOf (decision n x w)))
   -- WRITING a truth table. The output gets the first bytes of the table's stream, as many as fit.
-  pub writing-stream : (n size : ℕ) (truths out : List ℕ) (v : List S) (r : Answer)
-      → let c = write o n size truths out v in
-      c .answer ≡ done r → Gets n (2 ^ n) (runText n size (2 ^ n) (truthAt truths)) out r (c .output)
+  pub writing-stream : (n size : ℕ) (truths out : List ℕ) (v : List S) (r : Answer) (c : Write S) → Writes o n size truths out v c
+      → c .answer ≡ done r → Gets n (2 ^ n) (runText n size (2 ^ n) (truthAt truths)) out r (c .output)
   -- The written bytes, all or not, are accepted and decide the words that they cover as the table does.
-  pub writing-read : (n size : ℕ) (truths out : List ℕ) (v : List S) (r : Answer)
-      → let c = write o n size truths out v in
-      c .answer ≡ done r → ReadAs n (r .covered) (λ w d. d ≡ truthAt truths w) (take (r .written) (c .output))
+  pub writing-read : (n size : ℕ) (truths out : List ℕ) (v : List S) (r : Answer) (c : Write S) → Writes o n size truths out v c
+      → c .answer ≡ done r → ReadAs n (r .covered) (λ w d. d ≡ truthAt truths w) (take (r .written) (c .output))
   -- If the ending is "whole" they are complete, and cover every word.
-  pub writing-whole : (n size : ℕ) (truths out : List ℕ) (v : List S) (r : Answer)
-      → let c = write o n size truths out v in
-      c .answer ≡ done r → r .ending ≡ whole → Complete n (take (r .written) (c .output))
+  pub writing-whole : (n size : ℕ) (truths out : List ℕ) (v : List S) (r : Answer) (c : Write S) → Writes o n size truths out v c
+      → c .answer ≡ done r → r .ending ≡ whole → Complete n (take (r .written) (c .output))
   -- "reading that stream gives the same decisions": deciding a word that the written bytes cover answers what the table has there.
-  pub writing-decided : (n size : ℕ) (truths out : List ℕ) (v : List S) (r : Answer)
-      → let c = write o n size truths out v in
-      let bytes = take (r .written) (c .output) in
+  pub writing-decided : (n size : ℕ) (truths out : List ℕ) (v : List S) (r : Answer) (c : Write S) → Writes o n size truths out v c
+      → let bytes = take (r .written) (c .output) in
       c .answer ≡ done r
-      → (w : ℕ) (t : List R) → w < covered n bytes → tableLimit ≤ length t → decide z n bytes w t .answer ≡ done (verdictOf (decided (truthAt truths w)))
+      → (w : ℕ) (t : List R) (k : Read Verdict R) → Decides z n bytes w t k → w < covered n bytes → tableLimit ≤ length t
+      → k .answer ≡ done (verdictOf (decided (truthAt truths w)))
   -- COMBINING. On the words that both streams cover the operator decides; their number is the run's covered count.
   pub combining-words : (n op : ℕ) (x y : List ℕ) (w : ℕ) → w < min (covered n x) (covered n y) → (d : Bool) × Operated n op x y w d
   -- Whatever f decides these words as the operator does, the output gets the first bytes of its stream for that covered count, as many as fit.
-  pub combining-stream : (n op size : ℕ) (x y out : List ℕ) (t u : List R) (v : List S) (r : Answer)
-      → let c = combine z o n op size x y out t u v in
-      let k = min (covered n x) (covered n y) in
+  pub combining-stream : (n op size : ℕ) (x y out : List ℕ) (t u : List R) (v : List S) (r : Answer) (c : Combine R S) → Combines z o n op size x y out t u v c
+      → let k = min (covered n x) (covered n y) in
       c .answer ≡ done r → (f : ℕ → Bool) → ((w : ℕ) → w < k → Operated n op x y w (f w)) → Gets n k (runText n size k f) out r (c .output)
   -- The written bytes, whatever the ending, are accepted and decide the words that they cover as the operator does.
-  pub combining-read : (n op size : ℕ) (x y out : List ℕ) (t u : List R) (v : List S) (r : Answer)
-      → let c = combine z o n op size x y out t u v in
-      c .answer ≡ done r → ReadAs n (r .covered) (Operated n op x y) (take (r .written) (c .output))
+  pub combining-read : (n op size : ℕ) (x y out : List ℕ) (t u : List R) (v : List S) (r : Answer) (c : Combine R S) → Combines z o n op size x y out t u v c
+      → c .answer ≡ done r → ReadAs n (r .covered) (Operated n op x y) (take (r .written) (c .output))
   -- If the ending is "whole" they are complete, and cover every word.
-  pub combining-whole : (n op size : ℕ) (x y out : List ℕ) (t u : List R) (v : List S) (r : Answer)
-      → let c = combine z o n op size x y out t u v in
-      c .answer ≡ done r → r .ending ≡ whole → Complete n (take (r .written) (c .output))
+  pub combining-whole : (n op size : ℕ) (x y out : List ℕ) (t u : List R) (v : List S) (r : Answer) (c : Combine R S) → Combines z o n op size x y out t u v c
+      → c .answer ≡ done r → r .ending ≡ whole → Complete n (take (r .written) (c .output))
   -- "reading that stream gives the same decisions": deciding a word that the written bytes cover answers what the operator decides there.
-  pub combining-decided : (n op size : ℕ) (x y out : List ℕ) (t u : List R) (v : List S) (r : Answer)
-      → let c = combine z o n op size x y out t u v in
-      let bytes = take (r .written) (c .output) in
+  pub combining-decided : (n op size : ℕ) (x y out : List ℕ) (t u : List R) (v : List S) (r : Answer) (c : Combine R S) → Combines z o n op size x y out t u v c
+      → let bytes = take (r .written) (c .output) in
       c .answer ≡ done r
-      → (w : ℕ) (p : List R) → w < covered n bytes → tableLimit ≤ length p
-      → (d : Bool) × Operated n op x y w d × (decide z n bytes w p .answer ≡ done (verdictOf (decided d)))
+      → (w : ℕ) (p : List R) (k : Read Verdict R) → Decides z n bytes w p k → w < covered n bytes → tableLimit ≤ length p
+      → (d : Bool) × Operated n op x y w d × (k .answer ≡ done (verdictOf (decided d)))
 
 -- ---- Demand 3 --------------------------------------------------------------------------------
 
@@ -141,66 +142,103 @@ pub record Together (n op : ℕ) (x y x′ y′ : List ℕ) (r r′ : Answer) (b
 pub record Demand3 {R S : Type 0} (z : R) (o : S) : Type 0 where
   -- "Take any two runs, neither refused, alike in operator, option count and table size, where each input stream of the second is the first's with
   -- any bytes after it or none, and the second's output is at least as long, whatever outputs and work tables held before. Then together:"
-  pub runs : (n op size : ℕ) (x y x₊ y₊ out out′ : List ℕ) (t u t′ u′ : List R) (v v′ : List S) (r r′ : Answer) → length out ≤ length out′
-      → let run = combine z o n op size x y out t u v in
-      let run′ = combine z o n op size (x ++ x₊) (y ++ y₊) out′ t′ u′ v′ in
-      run .answer ≡ done r → run′ .answer ≡ done r′
+  pub runs : (n op size : ℕ) (x y x₊ y₊ out out′ : List ℕ) (t u t′ u′ : List R) (v v′ : List S) (r r′ : Answer) (run run′ : Combine R S)
+      → Combines z o n op size x y out t u v run → Combines z o n op size (x ++ x₊) (y ++ y₊) out′ t′ u′ v′ run′ → length out ≤ length out′
+      → run .answer ≡ done r → run′ .answer ≡ done r′
       → Together n op x y (x ++ x₊) (y ++ y₊) r r′ (take (r .written) (run .output)) (take (r′ .written) (run′ .output))
 
 -- ---- The proofs ------------------------------------------------------------------------------
 
 pub demand-1 : {R S : Type 0} (z : R) (o : S) → Demand1 z o
 unfolding check decide fill write combine
-demand-1 z o = record {
-  check-refused = λ n x t. T.check-lines n x (length t);
-  decide-refused = λ n x w t. T.decide-lines n x w (length t);
-  fill-refused = λ n x truths t. T.fill-lines n x truths (length t);
-  write-refused = λ n size truths out v. T.write-lines n size truths out (length v);
-  combine-refused = λ n op size x y out t u v. T.combine-lines n op size x y out (length t) (length u) (length v);
-  lowest-fault = λ n x f e. (S.fault-inside n x f e, S.fault-lowest n x f e);
-  check-table = M.check-table z;
-  decide-table = M.decide-table z;
-  fill-table = M.fill-table z;
-  write-table = M.write-table o;
-  combine-tables = M.combine-tables z o;
-  fill-truths = λ n x truths t. (L.fill-refused z n x truths t, M.fill-length z n x truths t);
-  write-output = M.write-output o;
-  combine-output = M.combine-output z o;
+demand-1 {R} {S} z o = record {
+  check-refused = λ n x t c e. subst⁻¹ (λ (c : Read Checked R). TurnedDown (x ∷ []) (checkLines n x (length t)) (c .answer)) e (T.check-lines n x (length t));
+  decide-refused = λ n x w t c e.
+      subst⁻¹ (λ (c : Read Verdict R). TurnedDown (x ∷ []) (decideLines n x w (length t)) (c .answer)) e (T.decide-lines n x w (length t));
+  fill-refused = λ n x truths t c e.
+      subst⁻¹ (λ (c : Fill R). TurnedDown (x ∷ []) (fillLines n x truths (length t)) (c .answer)) e (T.fill-lines n x truths (length t));
+  write-refused = λ n size truths out v c e.
+      subst⁻¹ (λ (c : Write S). TurnedDown [] (writeLines n size truths (length v)) (c .answer)) e (T.write-lines n size truths out (length v));
+  combine-refused = λ n op size x y out t u v c e.
+      subst⁻¹ (λ (c : Combine R S). TurnedDown (x ∷ y ∷ []) (combineLines n op size x y (length t) (length u) (length v)) (c .answer)) e
+      (T.combine-lines n op size x y out (length t) (length u) (length v));
+  lowest-fault = λ n x f e. (F.fault-inside n x f e, F.fault-lowest n x f e);
+  check-table = λ n x t c e. subst⁻¹ (λ (c : Read Checked R). TableLeft z (c .answer) t (c .table)) e (M.check-table z n x t);
+  decide-table = λ n x w t c e. subst⁻¹ (λ (c : Read Verdict R). TableLeft z (c .answer) t (c .table)) e (M.decide-table z n x w t);
+  fill-table = λ n x truths t c e. subst⁻¹ (λ (c : Fill R). TableLeft z (c .answer) t (c .table)) e (M.fill-table z n x truths t);
+  write-table = λ n size truths out v c e. subst⁻¹ (λ (c : Write S). TableLeft o (c .answer) v (c .table)) e (M.write-table o n size truths out v);
+  combine-tables = λ n op size x y out t u v c e.
+      subst⁻¹ (λ (c : Combine R S). TableLeft z (c .answer) t (c .first) × TableLeft z (c .answer) u (c .second) × TableLeft o (c .answer) v (c .third)) e
+      (M.combine-tables z o n op size x y out t u v);
+  fill-truths = λ n x truths t c e.
+      subst⁻¹ (λ (c : Fill R). ((f : Refusal) → c .answer ≡ refused f → c .truths ≡ truths) × (length (c .truths) ≡ length truths)) e
+      (L.fill-refused z n x truths t, M.fill-length z n x truths t);
+  write-output = λ n size truths out v c e. subst⁻¹ (λ (c : Write S). OutputLeft (c .answer) out (c .output)) e (M.write-output o n size truths out v);
+  combine-output = λ n op size x y out t u v c e.
+      subst⁻¹ (λ (c : Combine R S). OutputLeft (c .answer) out (c .output)) e (M.combine-output z o n op size x y out t u v);
 }
 
 pub demand-2 : {R S : Type 0} (z : R) (o : S) → Demand2 z o
 unfolding check
-demand-2 z o = record {
+demand-2 {R} {S} z o = record {
   covered-words = λ n x w h. (λ k. (_, C.covered-decided n x w h k), C.uncovered-undecided n x w h);
   complete-covers = C.complete-covers;
-  checking = λ n x t r e. T.check-by n x (length t) .unless r .0 e .1;
-  deciding = T.decide-decided z;
-  filling = M.filled z;
-  writing-stream = λ n size truths out v r e. U.wrote-gets n size truths out r _ (U.wrote o n size truths out v r e);
-  writing-read = λ n size truths out v r e. U.wrote-read-as n size truths out r _ (U.wrote o n size truths out v r e);
-  writing-whole = λ n size truths out v r e. U.wrote-complete n size truths out r _ (U.wrote o n size truths out v r e);
-  writing-decided = λ n size truths out v r e w t h l.
-      let s = U.wrote o n size truths out v r e in
+  checking = λ n x t r c e a. T.check-by n x (length t) .unless r .0 (sym (ap (λ (c : Read Checked R). c .answer) e) ∙ a) .1;
+  deciding = λ n x w t r c e a. T.decide-decided z n x w t r (sym (ap (λ (c : Read Verdict R). c .answer) e) ∙ a);
+  filling = λ n x truths t r c e.
+      subst⁻¹ (λ (c : Fill R). c .answer ≡ done r → (r ≡ covered n x) × All (λ b. b < 256) (c .truths)
+      × ((w : ℕ) → w < 2 ^ n → getD (c .truths) (w / 8) 0 / 2 ^ (w % 8) % 2 ≡ digitOf (verdictOf (decision n x w)))) e (M.filled z n x truths t r);
+  writing-stream = λ n size truths out v r c e.
+      subst⁻¹ (λ (c : Write S). c .answer ≡ done r → Gets n (2 ^ n) (runText n size (2 ^ n) (truthAt truths)) out r (c .output)) e
+      (λ a. U.wrote-gets n size truths out r _ (U.wrote o n size truths out v r a));
+  writing-read = λ n size truths out v r c e.
+      subst⁻¹ (λ (c : Write S). c .answer ≡ done r → ReadAs n (r .covered) (λ w d. d ≡ truthAt truths w) (take (r .written) (c .output))) e
+      (λ a. U.wrote-read-as n size truths out r _ (U.wrote o n size truths out v r a));
+  writing-whole = λ n size truths out v r c e.
+      subst⁻¹ (λ (c : Write S). c .answer ≡ done r → r .ending ≡ whole → Complete n (take (r .written) (c .output))) e
+      (λ a. U.wrote-complete n size truths out r _ (U.wrote o n size truths out v r a));
+  writing-decided = λ n size truths out v r c e.
+      subst⁻¹ (λ (c : Write S). let bytes = take (r .written) (c .output) in
+      c .answer ≡ done r → (w : ℕ) (t : List R) (k : Read Verdict R) → Decides z n bytes w t k → w < covered n bytes → tableLimit ≤ length t
+      → k .answer ≡ done (verdictOf (decided (truthAt truths w)))) e
+      (λ a w t k f h l.
+      let s = U.wrote o n size truths out v r a in
       let q = U.read-decided z n _ _ _ (s .options) (U.wrote-read-as n size truths out r _ s) w t h l in
-      q .2 ∙ ap (λ (d : Bool). done (verdictOf (decided d))) (q .1);
+      ap (λ (c : Read Verdict R). c .answer) f ∙ q .2 ∙ ap (λ (d : Bool). done (verdictOf (decided d))) (q .1));
   combining-words = U.operated-covered;
-  combining-stream = λ n op size x y out t u v r e. U.run-gets n op size x y out r _ (U.ran z o n op size x y out t u v r e);
-  combining-read = λ n op size x y out t u v r e. U.run-read-as n op size x y out r _ (U.ran z o n op size x y out t u v r e);
-  combining-whole = λ n op size x y out t u v r e. U.run-complete n op size x y out r _ (U.ran z o n op size x y out t u v r e);
-  combining-decided = λ n op size x y out t u v r e.
-      let s = U.ran z o n op size x y out t u v r e in
-      U.read-decided z n _ _ _ (s .options) (U.run-read-as n op size x y out r _ s);
+  combining-stream = λ n op size x y out t u v r c e.
+      subst⁻¹ (λ (c : Combine R S). let k = min (covered n x) (covered n y) in
+      c .answer ≡ done r → (f : ℕ → Bool) → ((w : ℕ) → w < k → Operated n op x y w (f w)) → Gets n k (runText n size k f) out r (c .output)) e
+      (λ a. U.run-gets n op size x y out r _ (U.ran z o n op size x y out t u v r a));
+  combining-read = λ n op size x y out t u v r c e.
+      subst⁻¹ (λ (c : Combine R S). c .answer ≡ done r → ReadAs n (r .covered) (Operated n op x y) (take (r .written) (c .output))) e
+      (λ a. U.run-read-as n op size x y out r _ (U.ran z o n op size x y out t u v r a));
+  combining-whole = λ n op size x y out t u v r c e.
+      subst⁻¹ (λ (c : Combine R S). c .answer ≡ done r → r .ending ≡ whole → Complete n (take (r .written) (c .output))) e
+      (λ a. U.run-complete n op size x y out r _ (U.ran z o n op size x y out t u v r a));
+  combining-decided = λ n op size x y out t u v r c e.
+      subst⁻¹ (λ (c : Combine R S). let bytes = take (r .written) (c .output) in
+      c .answer ≡ done r → (w : ℕ) (p : List R) (k : Read Verdict R) → Decides z n bytes w p k → w < covered n bytes → tableLimit ≤ length p
+      → (d : Bool) × Operated n op x y w d × (k .answer ≡ done (verdictOf (decided d)))) e
+      (λ a w p k f h l.
+      let s = U.ran z o n op size x y out t u v r a in
+      let q = U.read-decided z n _ _ _ (s .options) (U.run-read-as n op size x y out r _ s) w p h l in
+      (q .0, q .1, ap (λ (c : Read Verdict R). c .answer) f ∙ q .2));
 }
 
 pub demand-3 : {R S : Type 0} (z : R) (o : S) → Demand3 z o
-demand-3 z o = record {
-  runs = λ n op size x y x₊ y₊ out out′ t u t′ u′ v v′ r r′ l e e′.
-      let s = U.ran z o n op size x y out t u v r e in
-      let s′ = U.ran z o n op size (x ++ x₊) (y ++ y₊) out′ t′ u′ v′ r′ e′ in
+demand-3 {R} {S} z o = record {
+  runs = λ n op size x y x₊ y₊ out out′ t u t′ u′ v v′ r r′ run run′ e e′ l.
+      let Both : Combine R S → Combine R S → Type 0 = λ c d. c .answer ≡ done r → d .answer ≡ done r′
+      → Together n op x y (x ++ x₊) (y ++ y₊) r r′ (take (r .written) (c .output)) (take (r′ .written) (d .output)) in
+      subst⁻¹ (λ (c : Combine R S). Both c run′) e (subst⁻¹ (Both (combine z o n op size x y out t u v)) e′
+      (λ a a′.
+      let s = U.ran z o n op size x y out t u v r a in
+      let s′ = U.ran z o n op size (x ++ x₊) (y ++ y₊) out′ t′ u′ v′ r′ a′ in
       record {
         begins = U.runs-begin n op size x y x₊ y₊ out out′ r r′ _ _ s s′ l;
         covers = U.runs-covered n op size x y x₊ y₊ out out′ r r′ _ _ s s′ l;
         accepted = (U.run-read n op size x y out r _ s .accepted, U.run-read n op size (x ++ x₊) (y ++ y₊) out′ r′ _ s′ .accepted);
         decides = U.runs-decide n op size x y x₊ y₊ out out′ r r′ _ _ s s′ l;
-      };
+      }));
 }

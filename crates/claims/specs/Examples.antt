@@ -61,7 +61,7 @@ faulty-both = refl
 -- demand 1 of this call: what it is refused with is what the first line that is met returns
 faulty-first : First (combineLines 3 14 4 (text "4\n((((") (text "4\n(1).") tableLimit tableLimit tableLimit) (refusal tooDeep 1 5)
 unfolding combine text
-faulty-first = demand-1 {R = ℕ} {S = ℕ} 0 0 .combine-refused 3 14 4 (text "4\n((((") (text "4\n(1).") output table table table .exactly _ .0 refl
+faulty-first = demand-1 {R = ℕ} {S = ℕ} 0 0 .combine-refused 3 14 4 (text "4\n((((") (text "4\n(1).") output table table table _ refl .exactly _ .0 refl
 
 -- an operator above 15 comes before the streams, and all is as it was
 no-operator : run 16 (text "4\n((((") second output ≡ record {
@@ -121,15 +121,15 @@ joined-decided = refl
 -- demand 2 of this run, and demand 1: it meets no cause
 joined-read : ReadAs 3 8 (Operated 3 14 first second) written
 unfolding combine text
-joined-read = demand-2 {R = ℕ} {S = ℕ} 0 0 .combining-read 3 14 4 first second output table table table _ refl
+joined-read = demand-2 {R = ℕ} {S = ℕ} 0 0 .combining-read 3 14 4 first second output table table table _ _ refl refl
 
 joined-complete : Complete 3 written
 unfolding combine text
-joined-complete = demand-2 {R = ℕ} {S = ℕ} 0 0 .combining-whole 3 14 4 first second output table table table _ refl refl
+joined-complete = demand-2 {R = ℕ} {S = ℕ} 0 0 .combining-whole 3 14 4 first second output table table table _ _ refl refl refl
 
 joined-unmet : AllUnmet (combineLines 3 14 4 first second tableLimit tableLimit tableLimit)
 unfolding combine text
-joined-unmet = demand-1 {R = ℕ} {S = ℕ} 0 0 .combine-refused 3 14 4 first second output table table table .unless .0 (_, refl)
+joined-unmet = demand-1 {R = ℕ} {S = ℕ} 0 0 .combine-refused 3 14 4 first second output table table table _ refl .unless .0 (_, refl)
 
 -- an output that is too short gets the first bytes, which are accepted and cover two words
 joined-short : run 14 first second (text "...........") .answer ≡ done (record { written = 11; covered = 8; ending = outputFull })
@@ -179,4 +179,4 @@ begun-joined : Together 3 14 first begun first second
     (text "4\n(((0~0):1") (text "4\n(((0~0):1)(1~0):2):3.")
 unfolding combine text
 begun-joined = demand-3 {R = ℕ} {S = ℕ} 0 0 .runs 3 14 4 first begun [] rest (text "............") output
-    table table table table table table _ _ (omega arith) refl refl
+    table table table table table table _ _ _ _ refl refl (omega arith) refl refl

@@ -1,7 +1,7 @@
 -- WHAT ELSE IS PROVED of the definitions, beside the three demands (Claims): the examples marked P, cause 7 and the grammar, longer streams, the
--- queue, words that are not covered; and demands 2 and 3 as they follow from the contract of a call. Each statement stands under a line of plain
+-- queue, words that are not covered. Each statement stands under a line of plain
 -- words and is proved by a citation. Assumes nothing.
-use mathlib.Core.Path.{_≡_, sym, ap, _∙_, subst⁻¹}
+use mathlib.Core.Path.{_≡_, ap, _∙_}
 use mathlib.Core.Logic.{_↔_}
 use mathlib.Core.Bool.{Bool, true, false}
 use mathlib.Core.List.{List, _++_, List·Memᴰ}
@@ -9,7 +9,7 @@ use mathlib.Core.Option.{none, some}
 use Prim.Native.Nat.{ℕ, suc, _≤_, _<_, _^_}
 use lib.ListN.{length, take}
 use Rattle.lists.specs.Lists.{has, Distinct}
-use Rattle.reading.specs.Causes.{wrongByte, Result, done}
+use Rattle.reading.specs.Causes.{wrongByte}
 use Rattle.reading.specs.Grammar.{IsStream, Viable}
 use Rattle.reading.specs.Nodes.{hasParent}
 use Rattle.reading.specs.Element.{over, fault, ranOut}
@@ -21,15 +21,12 @@ use Rattle.reading.specs.Prefix as P
 use Rattle.reading.specs.CauseSeven as G
 use Rattle.writing.specs.UniqueTable.{start}
 use Rattle.writing.specs.Rules.{part}
-use Rattle.writing.specs.Run.{runText, writtenBytes, outputAfter, whole, outputFull, Answer, answerOf}
-use Rattle.writing.specs.Calls.{Combine, combine}
+use Rattle.writing.specs.Run.{runText, writtenBytes, outputAfter, outputFull, answerOf}
 use Rattle.writing.specs.Queue as Q
 use Rattle.writing.specs.Grows as W
 use Rattle.writing.specs.Output as O
 use Rattle.claims.specs.PaperRows as R
 use Rattle.claims.specs.PaperRows.{Row, rows, Holds}
-use Rattle.claims.specs.Terms.{Operated, ReadAs, Complete}
-use Rattle.claims.specs.Claims.{Together, demand-2, demand-3}
 
 -- ---- The examples marked P -------------------------------------------------------------------
 
@@ -87,37 +84,3 @@ pub stopping : (n size c c′ : ℕ) (f g : ℕ → Bool) (out : List ℕ) → c
     → (outputAfter (runText n size c′ g) out ≡ writtenBytes (runText n size c f) out)
     × (answerOf n c′ (runText n size c′ g) out ≡ record { written = length out; covered = c′; ending = outputFull })
 stopping = O.may-stop
-
--- ---- The contract of a call ------------------------------------------------------------------
-
--- What the contract of `combine` in crate combiner says of a call: its answer, the three work tables and the output afterwards. There R is a record
--- of 6 cells and S one of 12; z and o are all zero.
-abbrev pub Called : {R S : Type 0} → R → S → ℕ → ℕ → ℕ → List ℕ → List ℕ → List ℕ → List R → List R → List S
-    → Result Answer → List R → List R → List S → List ℕ → Type 0
-Called z o n op size x y out t u v a p q w bytes =
-    record { answer = a; first = p; second = q; third = w; output = bytes } ≡ combine z o n op size x y out t u v
-
--- DEMAND 2 of a call: the bytes that it wrote are accepted and decide the words that they cover as the operator does, taken word by word; all words,
--- and with the point, if the ending is "whole".
-pub call-demand-2 : {R S : Type 0} (z : R) (o : S) (n op size : ℕ) (x y out : List ℕ) (t u : List R) (v : List S) (r : Answer) (p q : List R) (w : List S)
-    (after : List ℕ) → Called z o n op size x y out t u v (done r) p q w after
-    → ReadAs n (r .covered) (Operated n op x y) (take (r .written) after) × (r .ending ≡ whole → Complete n (take (r .written) after))
-call-demand-2 {R} {S} z o n op size x y out t u v r p q w after h =
-    let e = sym (ap (λ (c : Combine R S). c .answer) h) in
-    let d = demand-2 z o in
-    subst⁻¹ (λ (l : List ℕ). ReadAs n (r .covered) (Operated n op x y) (take (r .written) l) × (r .ending ≡ whole → Complete n (take (r .written) l)))
-    (ap (λ (c : Combine R S). c .output) h)
-    (d .combining-read n op size x y out t u v r e, d .combining-whole n op size x y out t u v r e)
-
--- DEMAND 3 of two calls, whatever outputs and work tables held before.
-pub calls-demand-3 : {R S : Type 0} (z : R) (o : S) (n op size : ℕ) (x y x₊ y₊ out out′ : List ℕ) (t u t′ u′ : List R) (v v′ : List S) (r r′ : Answer)
-    (p q p′ q′ : List R) (w w′ : List S) (after after′ : List ℕ) → length out ≤ length out′ → Called z o n op size x y out t u v (done r) p q w after
-    → Called z o n op size (x ++ x₊) (y ++ y₊) out′ t′ u′ v′ (done r′) p′ q′ w′ after′
-    → Together n op x y (x ++ x₊) (y ++ y₊) r r′ (take (r .written) after) (take (r′ .written) after′)
-calls-demand-3 {R} {S} z o n op size x y x₊ y₊ out out′ t u t′ u′ v v′ r r′ p q p′ q′ w w′ after after′ l h h′ =
-    let first = combine z o n op size x y out t u v in
-    let answered : Combine R S → Result Answer = λ c. c .answer in
-    let left : Combine R S → List ℕ = λ c. c .output in
-    let Both : List ℕ → List ℕ → Type 0 = λ k k′. Together n op x y (x ++ x₊) (y ++ y₊) r r′ (take (r .written) k) (take (r′ .written) k′) in
-    subst⁻¹ (λ (k : List ℕ). Both k after′) (ap left h) (subst⁻¹ (Both (first .output)) (ap left h′)
-    (demand-3 z o .runs n op size x y x₊ y₊ out out′ t u t′ u′ v v′ r r′ l (sym (ap answered h)) (sym (ap answered h′))))

@@ -8,7 +8,7 @@ ghost use Rattle.reading.specs.Causes.{refusal, refused, done};
 ghost use Rattle.reader.specs.Cite.{causeOf};
 ghost use Rattle.checker.specs.Answers.{refusalOf, checkingOf};
 ghost use Rattle.writing.specs.Run.{whole, inputEnded, outputFull};
-ghost use Rattle.writing.specs.Calls.{combine};
+ghost use Rattle.writing.specs.Calls.{Combines};
 ghost use Rattle.combining.specs.CombineMade.{afterFirst, bothIn};
 ghost use Rattle.combining.specs.Entering.{ignoresFirst, ignoresSecond, entered};
 ghost use Rattle.blocks.specs.Blocks.{blockIn};
@@ -191,7 +191,7 @@ pub fn combine(
     t2: &mut [[u32; 6]],
     t: &mut [[u32; 12]],
 ) -> Writing
-    ensures { λ r. ⌜ record { answer = writingOf r; first = now (t1 .exit); second = now (t2 .exit); third = now (t .exit); output = now (out .exit) } ≡ combine (replicate 6 0) (replicate 12 0) n op size (now (x .entry)) (now (y .entry)) (now (out .entry)) (now (t1 .entry)) (now (t2 .entry)) (now (t .entry)) ⌝ }
+    ensures { λ r. ⌜ Combines (replicate 6 0) (replicate 12 0) n op size (now (x .entry)) (now (y .entry)) (now (out .entry)) (now (t1 .entry)) (now (t2 .entry)) (now (t .entry)) (record { answer = writingOf r; first = now (t1 .exit); second = now (t2 .exit); third = now (t .exit); output = now (out .exit) }) ⌝ }
 {
     if 32 < n {
         return Writing::Refused(early(Cause::OptionCount));

@@ -3,7 +3,7 @@ ghost use mathlib.Core.Path.{_≡_};
 ghost use mathlib.Core.List.{[]};
 ghost use Prim.Native.Nat.{_+_, _≤_};
 ghost use Rattle.reading.specs.Deciding.{decided, complemented, options};
-ghost use Rattle.reading.specs.Calls.{verdictOf, decide};
+ghost use Rattle.reading.specs.Calls.{verdictOf, Decides};
 ghost use Rattle.reading.specs.TableWalk.{rowWalk};
 ghost use Rattle.work_table.specs.Table.{noRecord};
 ghost use Rattle.work_table.specs.TableLaws.{tableOf};
@@ -87,7 +87,7 @@ fn word_at(t: &[[u32; 6]], o: &[[u32; 4]; 32], n: u32, r: Reached, w: u64) -> Ve
 
 // DECIDING a word: causes 1, 4 and 5, then those of the stream.
 pub fn decide(n: u32, s: &[u8], w: u64, t: &mut [[u32; 6]]) -> Deciding
-    ensures { λ r. ⌜ record { answer = decidingOf r; table = now (t .exit) } ≡ decide noRecord n (now (s .entry)) w (now (t .entry)) ⌝ }
+    ensures { λ r. ⌜ Decides noRecord n (now (s .entry)) w (now (t .entry)) (record { answer = decidingOf r; table = now (t .exit) }) ⌝ }
 {
     if 32 < n {
         return Deciding::Refused(early(Cause::OptionCount));

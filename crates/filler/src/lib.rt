@@ -7,7 +7,7 @@ ghost use Prim.Native.Nat.{_+_, _≤_, _/_, _^_};
 ghost use lib.ListN.{length, replicate};
 ghost use Rattle.reading.specs.Reading.{reading};
 ghost use Rattle.reading.specs.Deciding.{trace};
-ghost use Rattle.reading.specs.Calls.{bytesFrom, fill};
+ghost use Rattle.reading.specs.Calls.{bytesFrom, Fills};
 ghost use Rattle.work_table.specs.Table.{noRecord};
 ghost use Rattle.work_table.specs.TableLaws.{tableOf};
 ghost use Rattle.checker.specs.CheckMade.{AsLong};
@@ -124,7 +124,7 @@ fn fill_words(n: u32, s: &[u8], v: &mut [u8], t: &mut [[u32; 6]])
 
 // FILLING a truth table: causes 1, 4 and 6, then those of the stream, which is read once more to fill.
 pub fn fill(n: u32, s: &[u8], v: &mut [u8], t: &mut [[u32; 6]]) -> Filling
-    ensures { λ r. ⌜ record { answer = fillingOf r; table = now (t .exit); truths = now (v .exit) } ≡ fill noRecord n (now (s .entry)) (now (v .entry)) (now (t .entry)) ⌝ }
+    ensures { λ r. ⌜ Fills noRecord n (now (s .entry)) (now (v .entry)) (now (t .entry)) (record { answer = fillingOf r; table = now (t .exit); truths = now (v .exit) }) ⌝ }
 {
     if n < 3 {
         return Filling::Refused(early(Cause::OptionCount));

@@ -1,5 +1,6 @@
 -- The calls that read (document 01, "The written stream", last paragraphs; "Turned down"): for every input the answer, and what each lent
 -- slice holds afterwards. Assumes nothing.
+use mathlib.Core.Path.{_≡_}
 use mathlib.Core.Bool.{true, false, not, cond, _&&_}
 use mathlib.Core.List.{List, [], _∷_}
 use mathlib.Core.Option.{Option, none, some}
@@ -75,6 +76,10 @@ check z n bytes table =
     let a = checkAnswer n bytes (length table) in
     record { answer = a; table = tableAfter z a table }
 
+-- the contract of a call that checks: c, its answer and its work table afterwards, is what the definition gives
+abbrev pub Checks : {R : Type 0} → R → ℕ → List ℕ → List R → Read Checked R → Type 0
+Checks z n bytes table c = c ≡ check z n bytes table
+
 -- ---- Deciding --------------------------------------------------------------------------------
 
 -- "Deciding gives yes, no or not yet (word at or past the covered count)."
@@ -102,6 +107,10 @@ unfolding decideAnswer tableAfter
 decide z n bytes w table =
     let a = decideAnswer n bytes w (length table) in
     record { answer = a; table = tableAfter z a table }
+
+-- the contract of a call that decides
+abbrev pub Decides : {R : Type 0} → R → ℕ → List ℕ → ℕ → List R → Read Verdict R → Type 0
+Decides z n bytes w table c = c ≡ decide z n bytes w table
 
 -- ---- Filling a truth table -------------------------------------------------------------------
 
@@ -141,3 +150,7 @@ unfolding fillAnswer tableAfter unlessRefused trace bytesFrom
 fill z n bytes old table =
     let a = fillAnswer n bytes old (length table) in
     record { answer = a; table = tableAfter z a table; truths = unlessRefused a old (λ (c : ℕ). bytesFrom (2 ^ n / 8) n (trace n bytes) 0) }
+
+-- the contract of a call that fills
+abbrev pub Fills : {R : Type 0} → R → ℕ → List ℕ → List ℕ → List R → Fill R → Type 0
+Fills z n bytes old table c = c ≡ fill z n bytes old table

@@ -5,7 +5,7 @@ ghost use lib.Dec.{eqb};
 ghost use lib.ListN.{getD, replicate};
 ghost use Prim.Native.Nat.{_+_, _≤_, _^_};
 ghost use Rattle.writing.specs.Run.{whole, inputEnded, outputFull};
-ghost use Rattle.writing.specs.Calls.{truthAt, write};
+ghost use Rattle.writing.specs.Calls.{truthAt, Writes};
 ghost use Rattle.engine.specs.Engine.{sameBytes, allBytes, alikeBytes, againHalf, walkIn, bodyIn, streamIn};
 ghost use Rattle.meeting.specs.Cite.{halfOf, penOf, walkedOf, writtenOf, writingOf};
 use checker::early;
@@ -220,7 +220,7 @@ fn answer(n: u32, covered: u64, x: Sent) -> Written
 
 // WRITING the stream of a truth table: causes 1, 3, 4 and 6.
 pub fn write(n: u32, size: u32, v: &[u8], out: &mut [u8], t: &mut [[u32; 12]]) -> Writing
-    ensures { λ r. ⌜ record { answer = writingOf r; table = now (t .exit); output = now (out .exit) } ≡ write (replicate 12 0) n size (now (v .entry)) (now (out .entry)) (now (t .entry)) ⌝ }
+    ensures { λ r. ⌜ Writes (replicate 12 0) n size (now (v .entry)) (now (out .entry)) (now (t .entry)) (record { answer = writingOf r; table = now (t .exit); output = now (out .exit) }) ⌝ }
 {
     if n < 3 {
         return Writing::Refused(early(Cause::OptionCount));

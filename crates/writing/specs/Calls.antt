@@ -1,5 +1,6 @@
 -- The calls that write (document 01, "The written stream"; "Turned down"): for every input the answer, and what each lent slice holds
 -- afterwards. Assumes nothing.
+use mathlib.Core.Path.{_≡_}
 use mathlib.Core.Bool.{Bool, false}
 use mathlib.Core.List.{List, [], _∷_, map}
 use Prim.Native.Nat.{ℕ, suc, _/_, _%_, _^_}
@@ -44,6 +45,10 @@ unfolding writeAnswer tableAfter unlessRefused outputAfter
 write z n size truths out table =
     let a = writeAnswer n size truths out (length table) in
     record { answer = a; table = tableAfter z a table; output = unlessRefused a out (λ (x : Answer). outputAfter (writeText n size truths) out) }
+
+-- the contract of a call that writes: c, its answer, its work table and its output afterwards, is what the definition gives
+abbrev pub Writes : {R : Type 0} → R → ℕ → ℕ → List ℕ → List ℕ → List R → Write R → Type 0
+Writes z n size truths out table c = c ≡ write z n size truths out table
 
 -- ---- Combining -------------------------------------------------------------------------------
 
@@ -105,3 +110,7 @@ combine z o n op size x y out t u v =
       third = tableAfter o a v;
       output = unlessRefused a out (λ (r : Answer). outputAfter (combineText n op size (x ∷ y ∷ [])) out);
     }
+
+-- the contract of a call that combines
+abbrev pub Combines : {R S : Type 0} → R → S → ℕ → ℕ → ℕ → List ℕ → List ℕ → List ℕ → List R → List R → List S → Combine R S → Type 0
+Combines z o n op size x y out t u v c = c ≡ combine z o n op size x y out t u v
