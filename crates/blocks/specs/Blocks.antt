@@ -17,14 +17,14 @@ use Rattle.reading.specs.TableWalk.{rowWalk}
 use Rattle.reading.specs.Reaching.{At, decided-passed}
 use Rattle.work_table.specs.TableLaws.{tableOf}
 use Rattle.work_table.specs.declared.Edge.{Edge}
-use Rattle.reader.specs.Cite.{refOf, openOf, insideOpen, opensOf, deepOf, openList}
-use Rattle.reader.specs.PlaceLaws.{deep-self}
+use Rattle.scanner.specs.Cite.{refOf, openOf, insideOpen, opensOf, deepOf, openList}
+use Rattle.scanner.specs.PlaceLaws.{deep-self}
 use Rattle.reader.specs.Simulation.{child-of}
 use Rattle.reader.specs.Advance.{stateAt}
 use Rattle.reader.specs.Lent.{ReadReached, ReadCursor, cursorIn}
 use Rattle.reader.specs.Loop.{Ends, ReachedBy}
 use Rattle.reader.specs.ReadOn.{ReadTo, readFrom}
-use Rattle.reader.specs.declared.Open.{Open}
+use Rattle.scanner.specs.declared.Open.{Open}
 use Rattle.blocks.specs.declared.Block.{Block}
 
 -- ---- Definitions -----------------------------------------------------------------------------

@@ -11,7 +11,7 @@ use borrow.Author.Tests.{lt-ltb, le-ltb}
 use Rattle.reading.specs.Causes as C
 use Rattle.reading.specs.Calls as R
 use Rattle.reading.specs.Deciding.{ended}
-use Rattle.reader.specs.Cite.{markOf}
+use Rattle.scanner.specs.Cite.{markOf}
 use Rattle.work_table.specs.Table.{getIn}
 use Rattle.reader.specs.Lent.{ReadReached, cursorIn}
 use Rattle.reader.specs.Loop.{firstRun, firstOpens, stands-first}
@@ -20,7 +20,7 @@ use Rattle.checker.specs.CheckMade.{checkedBy}
 use Rattle.reader.specs.ReadOn.{ReadTo, readOn, readAll, firstCursor, startCursor, readFrom, read-within}
 use Rattle.blocks.specs.Blocks.{ReadBlock, blockOf}
 use Rattle.blocks.specs.declared.Loaded.{Loaded}
-use Rattle.reader.specs.declared.Ref.{Ref}
+use Rattle.scanner.specs.declared.Ref.{Ref}
 use Rattle.reader.specs.declared.Cursor.{Cursor}
 
 -- ---- Definitions -----------------------------------------------------------------------------

@@ -20,8 +20,8 @@ use Rattle.reading.specs.Covered.{parity, covered}
 use Rattle.reading.specs.TableWalk.{rowWalk}
 use Rattle.reading.specs.Lasting.{Ordered}
 use Rattle.reading.specs.Rooted.{Rooted, reading-ordered, rooted-decides, rooted-deep, rooted-covers}
-use Rattle.reader.specs.Cite.{markOf, refOf, openList}
-use Rattle.reader.specs.OpenLaws.{open-none}
+use Rattle.scanner.specs.Cite.{markOf, refOf, openList}
+use Rattle.scanner.specs.OpenLaws.{open-none}
 use Rattle.work_table.specs.Table.{noRecord}
 use Rattle.work_table.specs.TableLaws.{tableOf}
 use Rattle.reader.specs.Simulation.{child-of}

@@ -2,7 +2,7 @@
 use mathlib.Core.Bool.{cond}
 use Rattle.reading.specs.Causes as C
 use Rattle.reading.specs.Calls as R
-use Rattle.reader.specs.Cite.{causeOf}
+use Rattle.scanner.specs.Cite.{causeOf}
 use Rattle.checker.specs.declared.Refusal.{Refusal}
 use Rattle.checker.specs.declared.Checked.{Checked}
 use Rattle.checker.specs.declared.Checking.{Checking}

@@ -14,7 +14,7 @@ use Rattle.reading.specs.Settled.{fault-place}
 use Rattle.reading.specs.CallLaws.{zeroes-table, zeroes-done}
 use Rattle.reading.specs.Reaching.{At, at-fault, at-end, at-covered}
 use Rattle.work_table.specs.Table.{noRecord, clearTo}
-use Rattle.reader.specs.Cite.{markOf, causeOf}
+use Rattle.scanner.specs.Cite.{markOf, causeOf}
 use Rattle.reader.specs.Advance.{stateAt, HaltsAt}
 use Rattle.reader.specs.Lent.{ReadReached}
 use Rattle.reader.specs.Loop.{Ends, ReachedBy}

@@ -5,15 +5,15 @@ ghost use mathlib.Core.List.{[]};
 ghost use Rattle.reading.specs.Causes.{refusal};
 ghost use Rattle.reading.specs.Calls.{complete, cut, extent, Checks};
 ghost use Rattle.work_table.specs.Table.{noRecord};
-ghost use Rattle.reader.specs.Cite.{markOf, causeOf};
+ghost use Rattle.scanner.specs.Cite.{markOf, causeOf};
 ghost use Rattle.reader.specs.Lent.{reachedIn};
 ghost use Rattle.checker.specs.Answers.{refusalOf, checkingOf};
 ghost use Rattle.checker.specs.CheckMade.{checkedBy};
-use reader::Cause;
-use reader::Mark;
 use reader::Reached;
 use reader::first_cursor;
 use reader::read_on;
+use scanner::Cause;
+use scanner::Mark;
 use work_table::clear;
 
 // Why a call is turned down: the cause, the stream (0: none) and the byte.

@@ -15,7 +15,7 @@ use Rattle.writing.specs.Run.{Input}
 use Rattle.writing.specs.Calls.{orNo, inputOf}
 use Rattle.engine.specs.ApplyLaws.{Shows, sourceWalk}
 use Rattle.engine.specs.Sitting.{Sits}
-use Rattle.reader.specs.Cite.{markOf}
+use Rattle.scanner.specs.Cite.{markOf}
 use Rattle.reader.specs.ReadOn.{firstCursor}
 use Rattle.blocks.specs.Blocks.{Next, nextBlock}
 use Rattle.blocks.specs.BlockLaws.{StandsAt, first-stands, stands-read, next-stands}

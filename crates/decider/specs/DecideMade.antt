@@ -15,7 +15,7 @@ use Rattle.reading.specs.Calls as R
 use Rattle.reading.specs.Prefix.{trace-reading}
 use Rattle.reading.specs.Reaching.{decided-not}
 use Rattle.work_table.specs.Table.{noRecord}
-use Rattle.reader.specs.Cite.{causeOf}
+use Rattle.scanner.specs.Cite.{causeOf}
 use Rattle.reader.specs.Advance.{stateAt}
 use Rattle.reader.specs.Lent.{ReadReached}
 use Rattle.reader.specs.Loop.{Ends, ReachedBy}

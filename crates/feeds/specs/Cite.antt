@@ -10,7 +10,7 @@ use Rattle.reader.specs.ReadOn.{startCursor}
 use Rattle.blocks.specs.Blocks.{ReadBlock, blockIn}
 use Rattle.reader.specs.Lent.{cursorIn}
 use Rattle.blocks.specs.declared.Block.{Block}
-use Rattle.reader.specs.declared.Opens.{Opens}
+use Rattle.scanner.specs.declared.Opens.{Opens}
 use Rattle.feeds.specs.declared.Feed.{Feed}
 use Rattle.feeds.specs.declared.Begun.{Begun}
 

@@ -11,7 +11,7 @@ use Rattle.combining.specs.EdgeMade.{first-edge}
 use Rattle.reader.specs.ReadOn.{startCursor, cursor-first}
 use Rattle.blocks.specs.Blocks.{Next, nextBlock, ReadBlock}
 use Rattle.blocks.specs.declared.Block.{Block}
-use Rattle.reader.specs.declared.Opens.{Opens}
+use Rattle.scanner.specs.declared.Opens.{Opens}
 use Rattle.reader.specs.Lent.{ReadCursor, cursorIn}
 use Rattle.reader.specs.declared.Cursor.{Cursor}
 use Rattle.edges.specs.Cite.{edgeIn}

@@ -6,7 +6,7 @@ ghost use Prim.Native.Nat.{ℕ, _+_};
 ghost use Rattle.engine.specs.Taping.{settle, firstFeed, secondFeed};
 ghost use Rattle.combining.specs.Tapes.{deepOf, sourceOf, nextTape};
 ghost use Rattle.blocks.specs.Blocks.{blockIn};
-ghost use Rattle.reader.specs.declared.Opens.{Opens};
+ghost use Rattle.scanner.specs.declared.Opens.{Opens};
 ghost use Rattle.feeds.specs.Cite.{feedOn, feedOf, begunIn, readBy, arrived, begunFrom};
 use blocks::Block;
 use blocks::next_block;

@@ -21,7 +21,7 @@ use Rattle.reading.specs.Settled.{never-some}
 use Rattle.reading.specs.Passing.{startTrace}
 use Rattle.reading.specs.Filling.{putNode}
 use Rattle.reading.specs.Reaching.{At, at-fault, at-end, at-end-trace, at-within, at-most, filled-first, filled-alike, filled-on}
-use Rattle.reader.specs.Cite.{refOf, causeOf, openList}
+use Rattle.scanner.specs.Cite.{refOf, causeOf, openList}
 use Rattle.work_table.specs.Table.{noRecord}
 use Rattle.work_table.specs.TableLaws.{tableOf}
 use Rattle.reader.specs.Simulation.{child-of}
@@ -35,7 +35,7 @@ use Rattle.reader.specs.ReadOn.{startCursor, readFrom, read-called}
 use Rattle.blocks.specs.BlockLaws.{passed-from, passed-covers}
 use Rattle.work_table.specs.declared.Edge.{Edge}
 use Rattle.reader.specs.declared.Cursor.{Cursor}
-use Rattle.reader.specs.declared.Opens.{Opens}
+use Rattle.scanner.specs.declared.Opens.{Opens}
 use Rattle.reader.specs.declared.Run.{Run}
 use Rattle.reader.specs.Lent.{ReadReached, opensIn}
 

@@ -3,7 +3,7 @@ ghost use mathlib.Core.Path.{_≡_};
 ghost use Prim.Native.Nat.{ℕ};
 ghost use Rattle.lists.specs.Lists.{bit};
 ghost use Rattle.reading.specs.Causes.{causeRow};
-ghost use Rattle.reader.specs.Cite.{causeOf};
+ghost use Rattle.scanner.specs.Cite.{causeOf};
 ghost use Rattle.checker.specs.Answers.{checkingOf};
 ghost use Rattle.decider.specs.Answers.{verdictsOf, decidingOf};
 ghost use Rattle.filler.specs.Answers.{fillingOf};
@@ -12,7 +12,7 @@ use checker::Checking;
 use decider::Deciding;
 use decider::Verdict;
 use filler::Filling;
-use reader::Cause;
+use scanner::Cause;
 
 #[repr(C)]
 pub struct RuleChecked {

@@ -13,29 +13,30 @@ use Rattle.reading.specs.Bytes.{colon}
 use Rattle.reading.specs.Nodes.{Node, noNode, node, stamp, terminal, entry, temporary, bars}
 use Rattle.reading.specs.Causes.{notStorable}
 use Rattle.reading.specs.Element as T
-use Rattle.reader.specs.Glance as G
+use Rattle.scanner.specs.Kinds.{kindTable}
+use Rattle.scanner.specs.Glance as G
 use Rattle.reading.specs.Reading.{State, Reading, goes, fails, isStart, isTwo, barredColon, firstDigit, withElement, after, advance}
 use Rattle.reading.specs.Deciding.{drawing, Trace}
 use Rattle.reading.specs.Prefix.{chosen, byteAt, advance-chosen, trace-past}
 use Rattle.lists.specs.Looks.{look-inside}
 use Rattle.reading.specs.StepLaws.{AheadBy, digitPlace, step-ahead}
 use Rattle.reading.specs.ParentCounts.{parents}
-use Rattle.reader.specs.Capped.{capOutcome, capStep}
-use Rattle.reader.specs.Cite.{markOf, refOf, elementOf, causeOf, outcomeOf, outcomeIn, numberOf, openOf, insideOpen, opensOf, deepOf, openList, sideOf, lowAt, highAt, lookAt, lookOf, Looked}
-use Rattle.reader.specs.OpenLaws.{open-length, low-suc, Begun, Firm, glance-firm}
-use Rattle.reader.specs.PlaceLaws.{deep-self, look-depth, place-step}
-use Rattle.reader.specs.declared.Cause.{Cause}
-use Rattle.reader.specs.declared.Cause.the-variants.{WrongByte, NotStorable, BadNumber}
-use Rattle.reader.specs.declared.Element.{Element}
-use Rattle.reader.specs.declared.Element.the-variants as E
-use Rattle.reader.specs.declared.Look.{Look}
-use Rattle.reader.specs.declared.Mark.{Mark}
-use Rattle.reader.specs.declared.Open.{Open}
-use Rattle.reader.specs.declared.Opens.{Opens}
-use Rattle.reader.specs.declared.Outcome.{Outcome}
-use Rattle.reader.specs.declared.Outcome.the-variants.{Got, Fault, RanOut}
-use Rattle.reader.specs.declared.Place.{Place}
-use Rattle.reader.specs.declared.Ref.{Ref}
+use Rattle.scanner.specs.Capped.{capOutcome, capStep}
+use Rattle.scanner.specs.Cite.{markOf, refOf, elementOf, causeOf, outcomeOf, outcomeIn, numberOf, openOf, insideOpen, opensOf, deepOf, openList, sideOf, lowAt, highAt, lookAt, lookOf, Looked}
+use Rattle.scanner.specs.OpenLaws.{open-length, low-suc, Begun, Firm, glance-firm}
+use Rattle.scanner.specs.PlaceLaws.{deep-self, look-depth, place-step}
+use Rattle.scanner.specs.declared.Cause.{Cause}
+use Rattle.scanner.specs.declared.Cause.the-variants.{WrongByte, NotStorable, BadNumber}
+use Rattle.scanner.specs.declared.Element.{Element}
+use Rattle.scanner.specs.declared.Element.the-variants as E
+use Rattle.scanner.specs.declared.Look.{Look}
+use Rattle.scanner.specs.declared.Mark.{Mark}
+use Rattle.scanner.specs.declared.Open.{Open}
+use Rattle.scanner.specs.declared.Opens.{Opens}
+use Rattle.scanner.specs.declared.Outcome.{Outcome}
+use Rattle.scanner.specs.declared.Outcome.the-variants.{Got, Fault, RanOut}
+use Rattle.scanner.specs.declared.Place.{Place}
+use Rattle.scanner.specs.declared.Ref.{Ref}
 use Rattle.reader.specs.declared.Run.{Run}
 use Rattle.work_table.specs.declared.Row.{Row}
 use Rattle.reader.specs.declared.Taken.{Taken}
@@ -424,21 +425,21 @@ for-length zero low = refl
 for-length (suc d) low = ap suc (length-replicate d T.inFirst)
 
 -- An element ends behind its place.
-pub look-ahead : (bytes : List ℕ) (r : Run) (d : ℕ) (low : Open) (x : Look) → lookOf x ≡ lookAt bytes (r .at) (markOf (r .mark)) (r .last) d low → (e : Element) → outcomeIn x ≡ Got e → r .at < length bytes → r .at < x .at
+pub look-ahead : (bytes : List ℕ) (r : Run) (d : ℕ) (low : Open) (x : Look) → lookOf x ≡ lookAt kindTable bytes (r .at) (markOf (r .mark)) (r .last) d low → (e : Element) → outcomeIn x ≡ Got e → r .at < length bytes → r .at < x .at
 look-ahead bytes r d low x s e got l =
     let k = deepOf d in
     let b = getD bytes (r .at) 0 in
     let p = T.place (r .at) (markOf (r .mark)) (opensFor k low) (refOf (r .last)) in
     let A : T.Outcome → ℕ → Type 0 = λ (o : T.Outcome) (q : ℕ). AheadBy (r .at) (digitPlace (r .at) b) (length bytes) o q in
-    let y = G.glance bytes (r .at) (markOf (r .mark)) (sideOf k low) k in
+    let y = G.glance kindTable bytes (r .at) (markOf (r .mark)) (sideOf k low) k in
     let g : T.step p bytes ≡ G.applied p y
-    = G.step-glance p bytes ∙ ap₂ (λ (u : G.Top) (i : ℕ). G.applied p (G.glance bytes (r .at) (markOf (r .mark)) u i)) (for-top k low) (for-length k low) in
+    = G.step-glance p bytes ∙ ap₂ (λ (u : G.Top) (i : ℕ). G.applied p (G.glance kindTable bytes (r .at) (markOf (r .mark)) u i)) (for-top k low) (for-length k low) in
     let a = cap-ahead (r .at) (digitPlace (r .at) b) (length bytes) (y .outcome) (y .at) (subst (λ (z : T.Step). A (z .outcome) (z .place .at)) g (step-ahead p bytes b (look-inside bytes (r .at) 0 l))) in
     subst (λ (o : Outcome). A (outcomeOf o) (x .at)) got (subst (λ (z : Looked). A (z .outcome) (z .at)) (sym s) a) .0
 
 -- x is the look that code has at a place
 module _ (n : ℕ) (bytes : List ℕ) (r : Run) (o : Opens) (t : List (List ℕ)) (kept : Kept r o t)
-    (x : Look) (seen : lookOf x ≡ lookAt bytes (r .at) (markOf (r .mark)) (r .last) (o .depth) (lowOf o)) where
+    (x : Look) (seen : lookOf x ≡ lookAt kindTable bytes (r .at) (markOf (r .mark)) (r .last) (o .depth) (lowOf o)) where
   abbrev s : State
   s = stateAt r o t
 
@@ -457,7 +458,7 @@ module _ (n : ℕ) (bytes : List ℕ) (r : Run) (o : Opens) (t : List (List ℕ)
   advance-look : barredColon s b ≡ false → advance n bytes s ≡ after n s (firstDigit s b) (outcomeOf (outcomeIn x)) onto
   advance-look free =
       let p : Place = record { at = r .at; mark = r .mark; opens = o; last = r .last } in
-      let e = place-step bytes p (kept .nodes) (lowAt (o .depth)) (highAt (o .depth)) refl refl x seen in
+      let e = place-step bytes p (kept .nodes) kindTable refl (lowAt (o .depth)) (highAt (o .depth)) refl refl x seen in
       advance-seen n bytes s (kept .small) (table-short r t (kept .held .room))
       ∙ ap (λ (u : Bool). chosen n s b u (capStep (T.step (s .place) bytes) .outcome) (capStep (T.step (s .place) bytes) .place)) free
       ∙ ap (λ (y : T.Step). after n s (firstDigit s b) (y .outcome) (y .place)) (sym e)
@@ -506,7 +507,7 @@ module _ (n : ℕ) (bytes : List ℕ) (r : Run) (o : Opens) (t : List (List ℕ)
     firm =
         let d = deepOf (o .depth) in
         subst (λ (u : Outcome). Firm (markOf (r .mark)) (outcomeOf u) (markOf (x .mark))) got
-        (subst (λ (u : Looked). Firm (markOf (r .mark)) (u .outcome) (u .mark)) (sym seen) (glance-firm bytes (r .at) (markOf (r .mark)) (sideOf d (lowOf o)) d))
+        (subst (λ (u : Looked). Firm (markOf (r .mark)) (u .outcome) (u .mark)) (sym seen) (glance-firm kindTable bytes (r .at) (markOf (r .mark)) (sideOf d (lowOf o)) d))
 
     -- the reading by what is taken, c: it is a fault
     abbrev readBy : Bool → Reading
@@ -572,7 +573,7 @@ module _ (n : ℕ) (bytes : List ℕ) (r : Run) (o : Opens) (t : List (List ℕ)
         small = subst (λ (z : ℕ). z ≤ 1024) (sym (made-well .1 .0)) (size-small r e y (kept .small) (made-well .1 .1));
         held = subst (Held lent) (sym (made-well .1 .0)) (subst (λ (u : List (List ℕ)). Held u (sizeTo r e)) (sym lent-here) (held-next r o (o .depth) e y t kept f (made-well .1 .1)));
         nodes = length-set (set (o .nodes) (highAt (o .depth)) insideOpen) (lowAt (o .depth)) (x .low) ∙ length-set (o .nodes) (highAt (o .depth)) insideOpen ∙ kept .nodes;
-        deep = subst (λ (u : Looked). u .depth ≤ 32) (sym seen) (look-depth bytes (r .at) (markOf (r .mark)) (r .last) (o .depth) (lowOf o));
+        deep = subst (λ (u : Looked). u .depth ≤ 32) (sym seen) (look-depth kindTable bytes (r .at) (markOf (r .mark)) (r .last) (o .depth) (lowOf o));
         begin = λ q. absurd (false≢true (sym later-element ∙ q));
       }
 
@@ -594,11 +595,11 @@ wentBy y x = record { run = y .run; depth = x .depth; low = x .low; went = not (
 pub data TurnMade (n : ℕ) (bytes : List ℕ) (r : Run) (d : ℕ) (low : Open) (t : List (List ℕ)) (y : Turn) (u : List (List ℕ)) : Type 0 where
   past : length bytes ≤ r .at → y ≡ stayed r d low false WrongByte 0 → u ≡ t → TurnMade n bytes r d low t y u
   barred : barredBy t r (getD bytes (r .at) 0) ≡ true → y ≡ stayed r d low true NotStorable (r .at) → u ≡ t → TurnMade n bytes r d low t y u
-  out : barredBy t r (getD bytes (r .at) 0) ≡ false → (x : Look) → lookOf x ≡ lookAt bytes (r .at) (markOf (r .mark)) (r .last) d low
+  out : barredBy t r (getD bytes (r .at) 0) ≡ false → (x : Look) → lookOf x ≡ lookAt kindTable bytes (r .at) (markOf (r .mark)) (r .last) d low
       → outcomeIn x ≡ RanOut → y ≡ stayed r d low false WrongByte 0 → u ≡ t → TurnMade n bytes r d low t y u
-  fault : barredBy t r (getD bytes (r .at) 0) ≡ false → (x : Look) → lookOf x ≡ lookAt bytes (r .at) (markOf (r .mark)) (r .last) d low
+  fault : barredBy t r (getD bytes (r .at) 0) ≡ false → (x : Look) → lookOf x ≡ lookAt kindTable bytes (r .at) (markOf (r .mark)) (r .last) d low
       → (c : Cause) (i : ℕ) → outcomeIn x ≡ Fault c i → y ≡ stayed r d low true c i → u ≡ t → TurnMade n bytes r d low t y u
-  took : r .at < length bytes → barredBy t r (getD bytes (r .at) 0) ≡ false → (x : Look) → lookOf x ≡ lookAt bytes (r .at) (markOf (r .mark)) (r .last) d low
+  took : r .at < length bytes → barredBy t r (getD bytes (r .at) 0) ≡ false → (x : Look) → lookOf x ≡ lookAt kindTable bytes (r .at) (markOf (r .mark)) (r .last) d low
       → (e : Element) → outcomeIn x ≡ Got e → y ≡ wentBy (takenAt n bytes r d low t x e) x → u ≡ lentAt n bytes r d low t x e → TurnMade n bytes r d low t y u
 
 -- reading halts at s: at a fault, or since the bytes ran out
@@ -619,7 +620,7 @@ module _ (n : ℕ) (bytes : List ℕ) (r : Run) (o : Opens) (t : List (List ℕ)
   free : barredBy t r (getD bytes (r .at) 0) ≡ false → barredColon (stateAt r o t) (byteAt bytes (stateAt r o t)) ≡ false
   free h = barred-rows r o t (byteAt bytes (stateAt r o t)) ∙ h
 
-  comes-took : (x : Look) → lookOf x ≡ lookAt bytes (r .at) (markOf (r .mark)) (r .last) (o .depth) (lowOf o) → (e : Element) → outcomeIn x ≡ Got e
+  comes-took : (x : Look) → lookOf x ≡ lookAt kindTable bytes (r .at) (markOf (r .mark)) (r .last) (o .depth) (lowOf o) → (e : Element) → outcomeIn x ≡ Got e
       → r .at < length bytes → barredBy t r (getD bytes (r .at) 0) ≡ false → ComesBy (wentBy (takenAt n bytes r (o .depth) (lowOf o) t x e) x) (lentAt n bytes r (o .depth) (lowOf o) t x e)
   comes-took x seen e got l h = go (takenAt n bytes r (o .depth) (lowOf o) t x e .faulty) refl
     where

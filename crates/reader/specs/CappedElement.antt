@@ -14,7 +14,7 @@ use Rattle.reading.specs.Causes.{declaredSize, notInTable, badNumber}
 use Rattle.reading.specs.Element.{Element, opening, number, constant, turn, closing, storing, end, Place, Outcome, got, fault, ranOut, step}
 use Rattle.reading.specs.Reading.{State, Reading, goes, fails, isStart, sized, found, isBad, stored, withElement, barredColon, after, advance}
 use Rattle.reading.specs.Prefix.{chosen, byteAt, advance-chosen}
-use Rattle.reader.specs.Capped.{numberMost, cap, capElement, capOutcome}
+use Rattle.scanner.specs.Capped.{numberMost, cap, capElement, capOutcome}
 
 -- a number that code holds is as it was
 cap-self : (v : ℕ) → v ≤ numberMost → cap v ≡ v

@@ -6,12 +6,12 @@ use mathlib.Core.List.{List, [], _∷_, map}
 use Prim.Native.Nat.{ℕ, zero, suc}
 use lib.Dec.{eqb}
 use lib.ListN.{getD, set, replicate, List·getD-map}
-use Rattle.reader.specs.Cite.{insideOpen, lowAt, highAt}
+use Rattle.scanner.specs.Cite.{insideOpen, lowAt, highAt}
 use Rattle.reader.specs.Advance.{nodesTo}
-use Rattle.reader.specs.declared.Cause.{Cause}
+use Rattle.scanner.specs.declared.Cause.{Cause}
 use Rattle.reader.specs.declared.Cursor.{Cursor}
-use Rattle.reader.specs.declared.Open.{Open}
-use Rattle.reader.specs.declared.Opens.{Opens}
+use Rattle.scanner.specs.declared.Open.{Open}
+use Rattle.scanner.specs.declared.Opens.{Opens}
 use Rattle.reader.specs.declared.Reached.{Reached}
 use Rattle.reader.specs.declared.Run.{Run}
 

@@ -1,10 +1,4 @@
-pub mod Glance
-pub mod Capped
-pub mod GlanceLaws
-pub mod Cite
-pub mod OpenLaws
-pub mod PlaceLaws
-pub mod SeenLaws
+pub mod Sights
 pub mod Taking
 pub mod Simulation
 pub mod CappedElement

@@ -8,12 +8,12 @@ use native.Mathlib.Omega.{arith}
 use lib.ListN.{length, replicate, length-replicate}
 use Rattle.reading.specs.Reading.{State, isStart}
 use Rattle.reading.specs.Reaching.{At, at-start, at-next, at-covered, at-stamp}
-use Rattle.reader.specs.Cite.{markOf, insideOpen, terminalRef, temporaryRef, opensOf}
-use Rattle.reader.specs.declared.Cause.the-variants.{WrongByte}
-use Rattle.reader.specs.declared.Open.{Open}
-use Rattle.reader.specs.declared.Opens.{Opens}
-use Rattle.reader.specs.declared.Mark.{Mark}
-use Rattle.reader.specs.declared.Mark.the-variants.{Start}
+use Rattle.scanner.specs.Cite.{markOf, insideOpen, terminalRef, temporaryRef, opensOf}
+use Rattle.scanner.specs.declared.Cause.the-variants.{WrongByte}
+use Rattle.scanner.specs.declared.Open.{Open}
+use Rattle.scanner.specs.declared.Opens.{Opens}
+use Rattle.scanner.specs.declared.Mark.{Mark}
+use Rattle.scanner.specs.declared.Mark.the-variants.{Start}
 use Rattle.reader.specs.declared.Run.{Run}
 use Rattle.reader.specs.declared.Turn.{Turn}
 use Rattle.work_table.specs.Table.{getIn}

@@ -10,11 +10,11 @@ use lib.Dec.{ltb}
 use lib.ListN.{length, replicate}
 use borrow.Author.Tests.{lt-ltb, le-ltb, ltb-false}
 use Rattle.lists.specs.Lists.{decide-le}
-use Rattle.reader.specs.declared.Cause.{Cause}
-use Rattle.reader.specs.declared.Cause.the-variants.{WrongByte}
+use Rattle.scanner.specs.declared.Cause.{Cause}
+use Rattle.scanner.specs.declared.Cause.the-variants.{WrongByte}
 use Rattle.reader.specs.declared.Cursor.{Cursor}
-use Rattle.reader.specs.declared.Open.{Open}
-use Rattle.reader.specs.declared.Opens.{Opens}
+use Rattle.scanner.specs.declared.Open.{Open}
+use Rattle.scanner.specs.declared.Opens.{Opens}
 use Rattle.reader.specs.declared.Run.{Run}
 use Rattle.reader.specs.declared.Turn.{Turn}
 use Rattle.reader.specs.Advance.{lowOf, nodesTo, opensTo, TurnMade}

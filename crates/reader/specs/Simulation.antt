@@ -15,13 +15,13 @@ use Rattle.reading.specs.Element as T
 use Rattle.reading.specs.Causes.{tooDeep, notStorable, badNumber}
 use Rattle.reading.specs.Reading.{Children, children, State, state, Fault, Reading, goes, fails, wordsAt, ending, isStart, sized, found, closed, isBad, stored, withElement}
 use Rattle.reading.specs.ParentCounts.{parents, parents-none}
-use Rattle.reader.specs.Cite.{markOf, refOf, entryRef, elementOf, causeOf, openOf}
-use Rattle.reader.specs.declared.Cause.the-variants.{WrongByte, TooDeep, NotStorable, BadNumber}
-use Rattle.reader.specs.declared.Element.{Element}
-use Rattle.reader.specs.declared.Element.the-variants.{Opening, Number, Constant, Turn, Closing, Storing, End}
-use Rattle.reader.specs.declared.Mark.{Mark}
-use Rattle.reader.specs.declared.Open.{Open}
-use Rattle.reader.specs.declared.Ref.{Ref}
+use Rattle.scanner.specs.Cite.{markOf, refOf, entryRef, elementOf, causeOf, openOf}
+use Rattle.scanner.specs.declared.Cause.the-variants.{WrongByte, TooDeep, NotStorable, BadNumber}
+use Rattle.scanner.specs.declared.Element.{Element}
+use Rattle.scanner.specs.declared.Element.the-variants.{Opening, Number, Constant, Turn, Closing, Storing, End}
+use Rattle.scanner.specs.declared.Mark.{Mark}
+use Rattle.scanner.specs.declared.Open.{Open}
+use Rattle.scanner.specs.declared.Ref.{Ref}
 use Rattle.reader.specs.declared.Pair.{Pair}
 use Rattle.reader.specs.declared.Run.{Run}
 use Rattle.work_table.specs.declared.Row.{Row}

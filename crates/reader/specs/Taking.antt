@@ -3,14 +3,14 @@ use mathlib.Core.Bool.{Bool, true, false, cond, _||_, not}
 use Prim.Native.Nat.{ℕ, _+_, _-_, _^_}
 use lib.Dec.{ltb, eqb}
 use Rattle.reading.specs.Reading.{isStart, isLead}
-use Rattle.reader.specs.Cite.{markOf, terminalRef, temporaryRef, entryRef}
-use Rattle.reader.specs.declared.Cause.{Cause}
-use Rattle.reader.specs.declared.Cause.the-variants.{WrongByte, DeclaredSize, TooDeep, NotInTable, OtherLevel, NotStorable, BadNumber}
-use Rattle.reader.specs.declared.Element.{Element}
-use Rattle.reader.specs.declared.Element.the-variants.{Opening, Number, Constant, Turn, Closing, Storing, End}
-use Rattle.reader.specs.declared.Mark.{Mark}
-use Rattle.reader.specs.declared.Open.{Open}
-use Rattle.reader.specs.declared.Ref.{Ref}
+use Rattle.scanner.specs.Cite.{markOf, terminalRef, temporaryRef, entryRef}
+use Rattle.scanner.specs.declared.Cause.{Cause}
+use Rattle.scanner.specs.declared.Cause.the-variants.{WrongByte, DeclaredSize, TooDeep, NotInTable, OtherLevel, NotStorable, BadNumber}
+use Rattle.scanner.specs.declared.Element.{Element}
+use Rattle.scanner.specs.declared.Element.the-variants.{Opening, Number, Constant, Turn, Closing, Storing, End}
+use Rattle.scanner.specs.declared.Mark.{Mark}
+use Rattle.scanner.specs.declared.Open.{Open}
+use Rattle.scanner.specs.declared.Ref.{Ref}
 use Rattle.reader.specs.declared.Run.{Run}
 use Rattle.work_table.specs.declared.Row.{Row}
 use Rattle.reader.specs.declared.Taken.{Taken}

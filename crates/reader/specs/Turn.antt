@@ -9,11 +9,12 @@ use lib.ListN.{getD}
 use Rattle.reading.specs.Bytes.{colon}
 use Rattle.reading.specs.Reading.{isTwo}
 use Rattle.reading.specs.StepLaws.{digitPlace}
-use Rattle.reader.specs.Cite.{markOf}
-use Rattle.reader.specs.declared.Element.{Element}
-use Rattle.reader.specs.declared.Look.{Look}
-use Rattle.reader.specs.declared.Open.{Open}
-use Rattle.reader.specs.declared.Ref.{Ref}
+use Rattle.scanner.specs.Kinds.{kindTable}
+use Rattle.scanner.specs.Cite.{markOf, lookAt, lookOf}
+use Rattle.scanner.specs.declared.Element.{Element}
+use Rattle.scanner.specs.declared.Look.{Look}
+use Rattle.scanner.specs.declared.Open.{Open}
+use Rattle.scanner.specs.declared.Ref.{Ref}
 use Rattle.reader.specs.declared.Run.{Run}
 use Rattle.work_table.specs.declared.Row.{Row}
 use Rattle.reader.specs.declared.Taken.{Taken}
@@ -42,6 +43,11 @@ module _ (t : List (List ℕ)) (r : Run) (b : ℕ) where
 -- what a call of `get` tells of a child
 pub bars-got : (t : List (List ℕ)) (z : ℕ) (x : Row) (a : Ref) → x ≡ getIn t z (a .number) → not (eqb (x .stamp) (a .stamp)) ≡ barsBy t z a
 bars-got t z x a e = ap (λ (w : Row). not (eqb (w .stamp) (a .stamp))) e
+
+-- what a look comes to by a lent table, which is that of the kinds
+pub look-kinds : (k bytes : List ℕ) (r : Run) (d : ℕ) (low : Open) (x : Look) → k ≡ kindTable
+    → lookOf x ≡ lookAt k bytes (r .at) (markOf (r .mark)) (r .last) d low → lookOf x ≡ lookAt kindTable bytes (r .at) (markOf (r .mark)) (r .last) d low
+look-kinds k bytes r d low x e s = s ∙ ap (λ (l : List ℕ). lookAt l bytes (r .at) (markOf (r .mark)) (r .last) d low) e
 
 -- a storing puts its record
 pub lent-stored : (t : List (List ℕ)) (r : Run) (d k : ℕ) (x w : Row) (y : Taken) → y .stores ≡ true → w ≡ rowTo r d x → storeAt t (r .size) k w ≡ lentTo r d k x y t

@@ -14,23 +14,24 @@ use Rattle.lists.specs.Looks.{look-past}
 use Rattle.reading.specs.Causes as C
 use Rattle.reading.specs.Element as T
 use Rattle.reading.specs.StepLaws.{digitPlace}
-use Rattle.reader.specs.Glance as G
-use Rattle.reader.specs.Capped.{capOutcome}
-use Rattle.reader.specs.Cite.{markOf, causeOf, elementOf, outcomeOf, outcomeIn, numberOf, sighted, deepOf, sideOf, lookAt, lookOf, Looked}
-use Rattle.reader.specs.PlaceLaws.{look-depth}
-use Rattle.reader.specs.declared.Cause.{Cause}
-use Rattle.reader.specs.declared.Cause.the-variants.{OptionCount, OperatorCode, SizeToWrite, WorkTable, WordRange, TruthTable, WrongByte, DeclaredSize, TooDeep, NotInTable, OtherLevel, NotStorable, BadNumber}
-use Rattle.reader.specs.declared.Element.{Element}
-use Rattle.reader.specs.declared.Element.the-variants as E
-use Rattle.reader.specs.declared.Look.{Look}
-use Rattle.reader.specs.declared.Mark.{Mark}
-use Rattle.reader.specs.declared.Mark.the-variants as M
-use Rattle.reader.specs.declared.Open.{Open}
-use Rattle.reader.specs.declared.Outcome.{Outcome}
-use Rattle.reader.specs.declared.Outcome.the-variants.{Got, Fault, RanOut}
+use Rattle.scanner.specs.Kinds.{kindTable}
+use Rattle.scanner.specs.Glance as G
+use Rattle.scanner.specs.Capped.{capOutcome}
+use Rattle.scanner.specs.Cite.{markOf, causeOf, elementOf, outcomeOf, outcomeIn, numberOf, sighted, deepOf, sideOf, lookAt, lookOf, Looked}
+use Rattle.scanner.specs.PlaceLaws.{look-depth}
+use Rattle.scanner.specs.declared.Cause.{Cause}
+use Rattle.scanner.specs.declared.Cause.the-variants.{OptionCount, OperatorCode, SizeToWrite, WorkTable, WordRange, TruthTable, WrongByte, DeclaredSize, TooDeep, NotInTable, OtherLevel, NotStorable, BadNumber}
+use Rattle.scanner.specs.declared.Element.{Element}
+use Rattle.scanner.specs.declared.Element.the-variants as E
+use Rattle.scanner.specs.declared.Look.{Look}
+use Rattle.scanner.specs.declared.Mark.{Mark}
+use Rattle.scanner.specs.declared.Mark.the-variants as M
+use Rattle.scanner.specs.declared.Open.{Open}
+use Rattle.scanner.specs.declared.Outcome.{Outcome}
+use Rattle.scanner.specs.declared.Outcome.the-variants.{Got, Fault, RanOut}
 use Rattle.reader.specs.declared.Run.{Run}
-use Rattle.reader.specs.declared.Sight.{Sight}
-use Rattle.reader.specs.declared.Sight.the-variants as S
+use Rattle.scanner.specs.declared.Sight.{Sight}
+use Rattle.scanner.specs.declared.Sight.the-variants as S
 use Rattle.reader.specs.declared.Taken.{Taken}
 use Rattle.reader.specs.declared.Turn.{Turn}
 use Rattle.reader.specs.Taking.{takenOf}
@@ -194,7 +195,7 @@ pub record Turned : Type 0 where
 module _ (n : ℕ) (bytes : List ℕ) (r : Run) (d : ℕ) (low : Open) (t : List (List ℕ)) where
   -- the theory's look, and the byte at the place
   abbrev seen : Looked
-  seen = lookAt bytes (r .at) (markOf (r .mark)) (r .last) d low
+  seen = lookAt kindTable bytes (r .at) (markOf (r .mark)) (r .last) d low
 
   abbrev byte : ℕ
   byte = getD bytes (r .at) 0
@@ -237,7 +238,7 @@ module _ (n : ℕ) (bytes : List ℕ) (r : Run) (d : ℕ) (low : Open) (t : List
 
   past-out : length bytes ≤ r .at → seen .outcome ≡ T.ranOut
   unfolding G.glance
-  past-out h = ap (λ (x : Option ℕ). capOutcome (G.glanceOn bytes (r .at) (markOf (r .mark)) (sideOf (deepOf d) low) (deepOf d) x .outcome)) (look-past bytes (r .at) h)
+  past-out h = ap (λ (x : Option ℕ). capOutcome (G.glanceOn kindTable bytes (r .at) (markOf (r .mark)) (sideOf (deepOf d) low) (deepOf d) x .outcome)) (look-past bytes (r .at) h)
 
   turn-past : length bytes ≤ r .at → turnIn ≡ stays false WrongByte 0
   turn-past h = turn-free (past-free h) T.ranOut (past-out h)
@@ -302,6 +303,6 @@ turn-ahead n bytes r d low t y u (took l h x s a i e k) w =
       l,
       (
         subst (λ (q : ℕ). r .at < q) (sym (ap (λ (z : Turn). z .run .at) e ∙ j)) (look-ahead bytes r d low x s a i l),
-        subst (λ (q : ℕ). q ≤ 32) (sym (ap (λ (z : Turn). z .depth) e ∙ ap (λ (z : Looked). z .depth) s)) (look-depth bytes (r .at) (markOf (r .mark)) (r .last) d low),
+        subst (λ (q : ℕ). q ≤ 32) (sym (ap (λ (z : Turn). z .depth) e ∙ ap (λ (z : Looked). z .depth) s)) (look-depth kindTable bytes (r .at) (markOf (r .mark)) (r .last) d low),
       ),
     )

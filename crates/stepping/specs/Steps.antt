@@ -4,7 +4,7 @@ use Prim.Native.Nat.{ℕ}
 use lib.Dec.{eqb}
 use Rattle.reading.specs.Causes.{causeRow}
 use Rattle.reading.specs.Element as T
-use Rattle.reader.specs.Cite.{openList, refOf}
+use Rattle.scanner.specs.Cite.{openList, refOf}
 use Rattle.stepping.specs.declared.RulePlace.{RulePlace}
 use Rattle.stepping.specs.declared.RuleStepped.{RuleStepped}
 

@@ -1,16 +1,16 @@
 // The reader that steps, for C, as `include/rule.h` declares it.
 ghost use mathlib.Core.Path.{_≡_};
 ghost use Rattle.reading.specs.Element.{begin, step};
-ghost use Rattle.reader.specs.Capped.{capStep};
-ghost use Rattle.reader.specs.Cite.{markOf, elementOf, outcomeOf, placeOf};
+ghost use Rattle.scanner.specs.Capped.{capStep};
+ghost use Rattle.scanner.specs.Cite.{markOf, elementOf, outcomeOf, placeOf};
 ghost use Rattle.stepping.specs.Steps.{markFrom, placeFrom, gotNumbers, outcomeNumbers, stepNumbers, stepGiven};
 use firmware::cause_number;
-use reader::Element;
-use reader::Mark;
-use reader::Opens;
-use reader::Outcome;
-use reader::Place;
-use reader::Ref;
+use scanner::Element;
+use scanner::Mark;
+use scanner::Opens;
+use scanner::Outcome;
+use scanner::Place;
+use scanner::Ref;
 
 #[repr(C)]
 pub struct RulePlace {

@@ -29,7 +29,7 @@ use pending_text::push_number;
 use pending_text::push_turn;
 use pending_text::send;
 use pending_text::wait;
-use reader::Cause;
+use scanner::Cause;
 use unique_table::clear;
 use work_table::differs;
 

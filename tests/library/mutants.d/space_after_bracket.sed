@@ -1,2 +1,2 @@
-# crates/reader/src/lib.rt
+# crates/scanner/src/lib.rt
 s/^    if digital {/    if !digital {/

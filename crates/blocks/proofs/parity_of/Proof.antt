@@ -9,10 +9,10 @@ use lib.ListN.{getD}
 use borrow.Author.Tests.{eq-eqb, ne-eqb}
 use Rattle.lists.specs.Lists.{differ}
 use Rattle.reading.specs.Covered.{parity}
-use Rattle.reader.specs.Cite.{insideOpen, opensOf}
+use Rattle.scanner.specs.Cite.{insideOpen, opensOf}
 use Rattle.reader.specs.Lent.{nodesIn, node-at}
 use Rattle.blocks.specs.Blocks.{deep-past, deep-all, parity-none, parity-more}
-use Rattle.reader.specs.declared.Open.{Open}
+use Rattle.scanner.specs.declared.Open.{Open}
 use borrow.Author.Needs.{needs}
 use Rattle.blocks.proofs.parity_of.Statement.{statement}
 use Rattle.blocks.proofs.parity_of.Tie as tie

@@ -3,9 +3,10 @@
 use mathlib.Core.Path.{ap, _∙_}
 use native.Mathlib.Omega.{arith}
 use lib.ListN.{getD}
-use Rattle.reader.specs.Cite.{insideOpen}
+use Rattle.scanner.specs.Cite.{insideOpen}
+use Rattle.scanner.specs.PlaceLaws.{spots-low}
 use Rattle.reader.specs.Lent.{nodesIn, node-at}
-use Rattle.reader.specs.declared.Spots.{Spots}
+use Rattle.scanner.specs.declared.Spots.{Spots}
 use borrow.Author.Needs.{needs}
 use Rattle.reader.proofs.open_at.Statement.{statement}
 use Rattle.reader.proofs.open_at.Tie as tie
@@ -14,10 +15,12 @@ spots-of-requires : tie.Need-spots-of-requires
 spots-of-requires c κs = search needs
 
 mul-a : tie.Need-mul-a
-mul-a c = search needs
+mul-a c =
+    let l = spots-low (c .before .args .d) (c .spots-of .result) (c .spots-of .ensures) in search (needs, l)
 
 element-copy-out-a : tie.Need-element-copy-out-a
-element-copy-out-a c = omega (arith, c .spots-of .ensures .1 .0)
+element-copy-out-a c =
+    let l = spots-low (c .before .args .d) (c .spots-of .result) (c .spots-of .ensures) in omega (arith, l)
 
 array-read-t13 : tie.Need-array-read-t13
 array-read-t13 c = search needs
@@ -32,7 +35,7 @@ array-read-t16-2 : tie.Need-array-read-t16-2
 array-read-t16-2 c = search needs
 
 returns : tie.Need-returns
-returns c = node-at (c .before .before .args .o .now) (c .before .spots-of .result .low) ∙ ap (λ (p : Spots). getD (nodesIn (c .before .before .args .o .now)) (p .low) insideOpen) (c .before .spots-of .ensures .0)
+returns c = node-at (c .before .before .args .o .now) (c .before .spots-of .result .low) ∙ ap (λ (p : Spots). getD (nodesIn (c .before .before .args .o .now)) (p .low) insideOpen) (c .before .spots-of .ensures)
 
 pub open-at-spec : {M : Type 1} → statement M
 open-at-spec =

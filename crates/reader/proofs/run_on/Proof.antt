@@ -8,7 +8,7 @@ use borrow.Author.Tests.{not-true, not-false}
 use Rattle.reader.specs.Lent.{opensIn}
 use Rattle.reader.specs.Loop.{turn-length}
 use Rattle.reader.specs.ReadOn.{readAll, Leads, leads-first, leads-past, leads-halts, leads-moves, leads-goes}
-use Rattle.reader.specs.Cite.{kindTable}
+use Rattle.scanner.specs.Kinds.{kindTable}
 use borrow.Author.Needs.{needs}
 use Rattle.reader.proofs.run_on.Statement.{statement}
 use Rattle.reader.proofs.run_on.Tie as tie

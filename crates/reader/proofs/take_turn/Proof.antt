@@ -3,11 +3,11 @@
 use mathlib.Core.Path.{refl, sym, ap, _∙_}
 use native.Mathlib.Omega.{arith}
 use lib.ListN.{length}
-use Rattle.reader.specs.declared.Outcome.the-variants.{Got}
+use Rattle.scanner.specs.declared.Outcome.the-variants.{Got}
 use Rattle.reader.specs.declared.Taken.{Taken}
 use Rattle.reader.specs.Advance.{wentBy, past, barred, out, fault, took, length-lent}
-use Rattle.reader.specs.SeenLaws.{sight-fault, sight-out, sight-got}
-use Rattle.reader.specs.Turn.{turn-taken, turn-lent}
+use Rattle.reader.specs.Sights.{sight-fault, sight-out, sight-got}
+use Rattle.reader.specs.Turn.{look-kinds, turn-taken, turn-lent}
 use borrow.Author.Needs.{needs}
 use Rattle.reader.proofs.take_turn.Statement.{statement}
 use Rattle.reader.proofs.take_turn.Tie as tie
@@ -50,8 +50,10 @@ returns-3 c =
     let lookat = c .before .before .before .look-at in
     let barred = c .before .before .before .before .before .before .barred in
     let if2 = c .before .before .before .before .before .if2 in
+    let a = c .before .before .before .before .before .before .before .before .before .before .before .args in
     let x = lookat .result in
-    fault (sym (barred .ensures) ∙ if2 .left) x (lookat .ensures) (x .cause) (x .byte) (sight-fault (x .number) (x .cause) (x .byte) (x .sight) (sym (c .before .before .is-fault .ensures) ∙ c .before .if3 .taken)) (c .halted3 .ensures) refl
+    let seen = look-kinds (a .k .now) (a .s .now) (a .r) (a .d) (a .low) x (c .before .before .before .before .before .before .before .before .before .before .before .pre .0) (lookat .ensures) in
+    fault (sym (barred .ensures) ∙ if2 .left) x seen (x .cause) (x .byte) (sight-fault (x .number) (x .cause) (x .byte) (x .sight) (sym (c .before .before .is-fault .ensures) ∙ c .before .if3 .taken)) (c .halted3 .ensures) refl
 
 is-out-requires : tie.Need-is-out-requires
 is-out-requires c κs = search needs
@@ -69,8 +71,10 @@ returns-4 c =
     let if2 = c .before .before .before .before .before .before .before .if2 in
     let isfault = c .before .before .before .before .is-fault in
     let if3 = c .before .before .before .if3 in
+    let a = c .before .before .before .before .before .before .before .before .before .before .before .before .before .args in
     let x = lookat .result in
-    out (sym (barred .ensures) ∙ if2 .left) x (lookat .ensures) (sight-out (x .number) (x .cause) (x .byte) (x .sight) (sym (isfault .ensures) ∙ if3 .left) (sym (c .before .before .is-out .ensures) ∙ c .before .if4 .taken)) (c .halted4 .ensures) refl
+    let seen = look-kinds (a .k .now) (a .s .now) (a .r) (a .d) (a .low) x (c .before .before .before .before .before .before .before .before .before .before .before .before .before .pre .0) (lookat .ensures) in
+    out (sym (barred .ensures) ∙ if2 .left) x seen (sight-out (x .number) (x .cause) (x .byte) (x .sight) (sym (isfault .ensures) ∙ if3 .left) (sym (c .before .before .is-out .ensures) ∙ c .before .if4 .taken)) (c .halted4 .ensures) refl
 
 element-of-requires : tie.Need-element-of-requires
 element-of-requires c κs = search needs
@@ -134,11 +138,12 @@ returns-5 c =
     let if2 = c .before .before .before .before .before .before .before .before .before .before .before .before .before .before .before .if2 in
     let n = a .n in let s = a .s .now in let r = a .r in let d = a .d in let low = a .low in let t = a .t .now in
     let x = lookat .result in
+    let seen = look-kinds (a .k .now) (a .s .now) (a .r) (a .d) (a .low) x (c .before .before .before .before .before .before .before .before .before .before .before .before .before .before .before .before .before .before .before .before .before .pre .0) (lookat .ensures) in
     let e = elementof .result in
     let taken = turn-taken n s r d low t x e (digitplace .result) (digitplace .ensures) (get .result) (get .ensures) (takeelement .result) (takeelement .ensures) in
     let lent = turn-lent n s r d low t x e (digitplace .result) (digitplace .ensures) (get .result) (get .ensures) (takeelement .result) (takeelement .ensures) _ (c .before .before .lend .ensures) in
     let got = sight-got (x .number) (x .cause) (x .byte) (x .sight) (sym (isfault .ensures) ∙ if3 .left) (sym (isout .ensures) ∙ if4 .left) ∙ ap Got (sym (elementof .ensures)) in
-    took (omega (arith, if1 .left)) (sym (barred .ensures) ∙ if2 .left) x (lookat .ensures) e got (c .went-on .ensures ∙ ap (λ (y : Taken). wentBy y x) taken) lent
+    took (omega (arith, if1 .left)) (sym (barred .ensures) ∙ if2 .left) x seen e got (c .went-on .ensures ∙ ap (λ (y : Taken). wentBy y x) taken) lent
 
 pub take-turn-spec : {M : Type 1} → statement M
 take-turn-spec =

@@ -1,7 +1,7 @@
 -- Only the mark is held otherwise. Assumes nothing.
 use mathlib.Core.Path.{ap}
 use Rattle.reading.specs.Element as T
-use Rattle.reader.specs.Cite.{openList, refOf}
+use Rattle.scanner.specs.Cite.{openList, refOf}
 use borrow.Author.Needs.{needs}
 use Rattle.stepping.proofs.place_numbers.Statement.{statement}
 use Rattle.stepping.proofs.place_numbers.Tie as tie

@@ -1,8 +1,8 @@
 -- A step of the place that the numbers stand for, and back. Assumes nothing.
 use mathlib.Core.Path.{ap, _∙_}
 use Rattle.reading.specs.Element as T
-use Rattle.reader.specs.Capped.{capStep}
-use Rattle.reader.specs.Cite.{outcomeOf, openList, refOf}
+use Rattle.scanner.specs.Capped.{capStep}
+use Rattle.scanner.specs.Cite.{outcomeOf, openList, refOf}
 use Rattle.stepping.specs.Steps.{outcomeNumbers, stepNumbers}
 use borrow.Author.Needs.{needs}
 use Rattle.stepping.proofs.rule_step.Statement.{statement}

@@ -1,0 +1,59 @@
+-- A number to store, stands after the byte at the place, or the bytes end, or the next is wrong.
+-- Assumes nothing.
+use mathlib.Core.Path.{sym, ap, _∙_}
+use native.Mathlib.Omega.{arith}
+use borrow.Author.Tests.{not-true, not-false}
+use Rattle.scanner.specs.Cite.{markOf, seenOf, plain}
+use Rattle.scanner.specs.GlanceLaws as G
+use borrow.Author.Needs.{needs}
+use Rattle.scanner.proofs.colon_seen.Statement.{statement}
+use Rattle.scanner.proofs.colon_seen.Tie as tie
+
+add-i : tie.Need-add-i
+add-i c = search needs
+
+waited-requires : tie.Need-waited-requires
+waited-requires c κs = search needs
+
+returns : tie.Need-returns
+returns c =
+    let a = c .before .before .before .args in
+    ap seenOf (c .waited .ensures) ∙ ap (plain (a .d)) (G.colon-past (a .k .now) (a .s .now) (a .at) (markOf (a .m)) (c .before .if1 .taken))
+
+shared-slice-read-b : tie.Need-shared-slice-read-b
+shared-slice-read-b c = search needs
+
+is-digit-requires : tie.Need-is-digit-requires
+is-digit-requires c κs = search needs
+
+failed-requires : tie.Need-failed-requires
+failed-requires c κs = search needs
+
+returns-2 : tie.Need-returns-2
+returns-2 c =
+    let a = c .before .before .before .before .before .before .args in
+    ap seenOf (c .failed .ensures)
+    ∙ ap (plain (a .d)) (G.colon-wrong (a .k .now) (a .s .now) (a .at) (markOf (a .m)) (omega arith) (sym (c .before .before .is-digit .ensures) ∙ not-true _ (c .before .if2 .taken)))
+
+storing-seen-requires : tie.Need-storing-seen-requires
+storing-seen-requires c κs = search needs
+
+returns-3 : tie.Need-returns-3
+returns-3 c =
+    let a = c .before .before .before .before .before .before .args in
+    c .storing-seen .ensures
+    ∙ ap (plain (a .d)) (G.colon-number (a .k .now) (a .s .now) (a .at) (markOf (a .m)) (omega arith) (sym (c .before .before .is-digit .ensures) ∙ not-false _ (c .before .if2 .left)))
+
+pub colon-seen-spec : {M : Type 1} → statement M
+colon-seen-spec =
+    tie.close
+    (tie.spec
+    add-i
+    waited-requires
+    returns
+    shared-slice-read-b
+    is-digit-requires
+    failed-requires
+    returns-2
+    storing-seen-requires
+    returns-3)

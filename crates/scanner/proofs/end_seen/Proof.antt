@@ -1,0 +1,133 @@
+-- Each way is that of a node that has ended, by the innermost open node and the byte at the place.
+-- Assumes nothing.
+use mathlib.Core.Path.{sym, ap, _∙_}
+use mathlib.Core.Bool.{false}
+use Prim.Native.Nat.{ℕ, _+_}
+use lib.Dec.{eqb}
+use lib.ListN.{getD}
+use borrow.Author.Tests.{eq-eqb, ne-eqb}
+use Rattle.reading.specs.Bytes.{closer, dot}
+use Rattle.reading.specs.Element.{end, closing, over, afterTwo}
+use Rattle.scanner.specs.Glance.{same, pop, gave, wrongAt, endSeen}
+use Rattle.scanner.specs.Capped.{capGlance}
+use Rattle.scanner.specs.Cite.{markOf, topsOf, seenOf, plain, gaveBy}
+use Rattle.scanner.specs.declared.Sight.the-variants.{Closing}
+use Rattle.scanner.specs.declared.Mark.the-variants.{AfterTwo}
+use Rattle.scanner.specs.declared.Top.{Top}
+use Rattle.scanner.specs.GlanceLaws as G
+use borrow.Author.Needs.{needs}
+use Rattle.scanner.proofs.end_seen.Statement.{statement}
+use Rattle.scanner.proofs.end_seen.Tie as tie
+
+shared-slice-read-b : tie.Need-shared-slice-read-b
+shared-slice-read-b c = search needs
+
+enum-told : tie.Need-enum-told
+enum-told c = search needs
+
+add-gave : tie.Need-add-gave
+add-gave c = search needs
+
+gave-requires : tie.Need-gave-requires
+gave-requires c κs = search needs
+
+returns : tie.Need-returns
+returns c =
+    let a = c .before .before .before .before .before .before .args in
+    let k = a .k .now in
+    let s = a .s .now in
+    let m = markOf (a .m) in
+    let b = getD s (a .at) 0 in
+    ap seenOf (c .gave .ensures)
+    ∙ ap (plain (a .d)) (G.way-taken (eqb b dot) (gave end (a .at + 1) over same) (wrongAt (a .at) m) (eq-eqb b dot (c .before .if1 .taken)))
+    ∙ ap (λ (t : Top). plain (a .d) (capGlance (endSeen k s (a .at) m (topsOf t) (a .d) (a .digital) b))) (sym (c .before .before .enum-told .given .1))
+
+failed-requires : tie.Need-failed-requires
+failed-requires c κs = search needs
+
+enum-told-2 : tie.Need-enum-told-2
+enum-told-2 c = search needs
+
+inner-seen-requires : tie.Need-inner-seen-requires
+inner-seen-requires c κs = search needs
+
+enum-told-3 : tie.Need-enum-told-3
+enum-told-3 c = search needs
+
+add-gave-2 : tie.Need-add-gave-2
+add-gave-2 c = search needs
+
+less-requires : tie.Need-less-requires
+less-requires c κs = search needs
+
+gave-requires-2 : tie.Need-gave-requires-2
+gave-requires-2 c κs = search needs
+
+returns-2 : tie.Need-returns-2
+returns-2 c =
+    let a = c .before .before .before .before .before .before .before .args in
+    let k = a .k .now in
+    let s = a .s .now in
+    let m = markOf (a .m) in
+    let b = getD s (a .at) 0 in
+    ap seenOf (c .gave2 .ensures)
+    ∙ ap (λ (n : ℕ). seenOf (gaveBy Closing 0 (a .at + 1) AfterTwo n false false)) (c .before .less .ensures)
+    ∙ ap (plain (a .d)) (G.way-taken (eqb b closer) (gave closing (a .at + 1) afterTwo pop) (wrongAt (a .at) m) (eq-eqb b closer (c .before .before .if2 .taken)))
+    ∙ ap (λ (t : Top). plain (a .d) (capGlance (endSeen k s (a .at) m (topsOf t) (a .d) (a .digital) b))) (sym (c .before .before .before .enum-told3 .given .1))
+
+failed-requires-2 : tie.Need-failed-requires-2
+failed-requires-2 c κs = search needs
+
+returns-3 : tie.Need-returns-3
+returns-3 c =
+    let a = c .before .before .before .before .before .before .args in
+    let k = a .k .now in
+    let s = a .s .now in
+    let m = markOf (a .m) in
+    let b = getD s (a .at) 0 in
+    ap seenOf (c .failed .ensures)
+    ∙ ap (plain (a .d)) (G.way-left (eqb b dot) (gave end (a .at + 1) over same) (wrongAt (a .at) m) (ne-eqb b dot (c .before .if1 .left)))
+    ∙ ap (λ (t : Top). plain (a .d) (capGlance (endSeen k s (a .at) m (topsOf t) (a .d) (a .digital) b))) (sym (c .before .before .enum-told .given .1))
+
+returns-4 : tie.Need-returns-4
+returns-4 c =
+    let a = c .before .before .before .before .before .args in
+    let k = a .k .now in
+    let s = a .s .now in
+    let m = markOf (a .m) in
+    let b = getD s (a .at) 0 in
+    c .inner-seen .ensures
+    ∙ ap (λ (t : Top). plain (a .d) (capGlance (endSeen k s (a .at) m (topsOf t) (a .d) (a .digital) b))) (sym (c .before .enum-told2 .given .1))
+
+returns-5 : tie.Need-returns-5
+returns-5 c =
+    let a = c .before .before .before .before .before .before .args in
+    let k = a .k .now in
+    let s = a .s .now in
+    let m = markOf (a .m) in
+    let b = getD s (a .at) 0 in
+    ap seenOf (c .failed2 .ensures)
+    ∙ ap (plain (a .d)) (G.way-left (eqb b closer) (gave closing (a .at + 1) afterTwo pop) (wrongAt (a .at) m) (ne-eqb b closer (c .before .if2 .left)))
+    ∙ ap (λ (t : Top). plain (a .d) (capGlance (endSeen k s (a .at) m (topsOf t) (a .d) (a .digital) b))) (sym (c .before .before .enum-told3 .given .1))
+
+pub end-seen-spec : {M : Type 1} → statement M
+end-seen-spec =
+    tie.close
+    (tie.spec
+    shared-slice-read-b
+    enum-told
+    add-gave
+    gave-requires
+    returns
+    failed-requires
+    enum-told-2
+    inner-seen-requires
+    enum-told-3
+    add-gave-2
+    less-requires
+    gave-requires-2
+    returns-2
+    failed-requires-2
+    returns-3
+    returns-4
+    returns-5)

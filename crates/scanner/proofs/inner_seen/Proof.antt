@@ -1,0 +1,118 @@
+-- Each way is that of a first child that has ended, by the byte at the place.
+-- Assumes nothing.
+use mathlib.Core.Path.{sym, ap, _∙_}
+use mathlib.Core.Bool.{false}
+use mathlib.Core.Logic.{⊎-elim}
+use Prim.Native.Nat.{ℕ, _+_}
+use lib.ListN.{getD}
+use Rattle.scanner.specs.Cite.{markOf, seenOf, plain, gaveBy}
+use Rattle.scanner.specs.declared.Sight.the-variants.{Closing}
+use Rattle.scanner.specs.declared.Mark.the-variants.{AfterOne}
+use Rattle.scanner.specs.GlanceLaws as G
+use borrow.Author.Needs.{needs}
+use Rattle.scanner.proofs.inner_seen.Statement.{statement}
+use Rattle.scanner.proofs.inner_seen.Tie as tie
+
+shared-slice-read-b : tie.Need-shared-slice-read-b
+shared-slice-read-b c = search needs
+
+add-gave : tie.Need-add-gave
+add-gave c = search needs
+
+gave-requires : tie.Need-gave-requires
+gave-requires c κs = search needs
+
+returns : tie.Need-returns
+returns c =
+    let a = c .before .before .before .before .args in
+    let k = a .k .now in
+    let s = a .s .now in
+    ap seenOf (c .gave .ensures)
+    ∙ ap (plain (a .d)) (G.inner-turn k s (a .at) (markOf (a .m)) (a .d) (getD s (a .at) 0) (a .digital)
+    (c .before .if1 .taken))
+
+add-gave-2 : tie.Need-add-gave-2
+add-gave-2 c = search needs
+
+less-requires : tie.Need-less-requires
+less-requires c κs = search needs
+
+gave-requires-2 : tie.Need-gave-requires-2
+gave-requires-2 c κs = search needs
+
+returns-2 : tie.Need-returns-2
+returns-2 c =
+    let a = c .before .before .before .before .before .before .args in
+    let k = a .k .now in
+    let s = a .s .now in
+    ap seenOf (c .gave2 .ensures)
+    ∙ ap (λ (n : ℕ). seenOf (gaveBy Closing 0 (a .at + 1) AfterOne n false false)) (c .before .less .ensures)
+    ∙ ap (plain (a .d)) (G.inner-close k s (a .at) (markOf (a .m)) (a .d) (getD s (a .at) 0) (a .digital)
+    (c .before .before .before .if1 .left) (c .before .before .if2 .taken))
+
+space-seen-requires : tie.Need-space-seen-requires
+space-seen-requires c κs = search needs
+
+returns-3 : tie.Need-returns-3
+returns-3 c =
+    let a = c .before .before .before .before .before .before .before .args in
+    let k = a .k .now in
+    let s = a .s .now in
+    c .space-seen .ensures
+    ∙ ap (plain (a .d)) (G.inner-space k s (a .at) (markOf (a .m)) (a .d) (getD s (a .at) 0) (a .digital)
+    (c .before .before .before .before .if1 .left) (c .before .before .before .if2 .left) (c .before .before .if3 .taken) (c .before .if4 .taken))
+
+is-digit-requires : tie.Need-is-digit-requires
+is-digit-requires c κs = search needs
+
+failed-requires : tie.Need-failed-requires
+failed-requires c κs = search needs
+
+returns-4 : tie.Need-returns-4
+returns-4 c =
+    let before = c .before .before .before .before in
+    let if4 = c .before .before .before .if4 in
+    let w = before in
+    let a = w .before .before .before .before .before .args in
+    let k = a .k .now in
+    let s = a .s .now in
+    ap seenOf (c .failed .ensures)
+    ∙ ap (plain (a .d)) (G.inner-digit k s (a .at) (markOf (a .m)) (a .d) (getD s (a .at) 0) (a .digital)
+    (w .before .before .if1 .left) (w .before .if2 .left) (w .if3 .taken) (if4 .left) (sym (c .before .before .is-digit .ensures) ∙ c .before .if5 .taken))
+
+node-seen-requires : tie.Need-node-seen-requires
+node-seen-requires c κs = search needs
+
+returns-5 : tie.Need-returns-5
+returns-5 c =
+    let a = c .before .before .before .before .before .before .args in
+    let k = a .k .now in
+    let s = a .s .now in
+    let b = getD s (a .at) 0 in
+    c .node-seen .ensures
+    ∙ ap (plain (a .d)) (⊎-elim
+    (λ w. G.inner-after k s (a .at) (markOf (a .m)) (a .d) b (a .digital)
+    (c .before .before .before .if1 .left) (c .before .before .if2 .left) (w .0 .taken) (w .1 .left) (sym (w .2 .ensures) ∙ w .3 .left))
+    (λ w. G.inner-node k s (a .at) (markOf (a .m)) (a .d) b (a .digital)
+    (c .before .before .before .if1 .left) (c .before .before .if2 .left) (w .left))
+    (c .before .if3 .came))
+
+pub inner-seen-spec : {M : Type 1} → statement M
+inner-seen-spec =
+    tie.close
+    (tie.spec
+    shared-slice-read-b
+    add-gave
+    gave-requires
+    returns
+    add-gave-2
+    less-requires
+    gave-requires-2
+    returns-2
+    space-seen-requires
+    returns-3
+    is-digit-requires
+    failed-requires
+    returns-4
+    node-seen-requires
+    returns-5)

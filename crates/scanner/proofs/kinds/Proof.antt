@@ -1,0 +1,14 @@
+-- The table is that of the kinds, entry by entry, as computing both shows.
+-- Assumes nothing.
+use mathlib.Core.Path.{refl}
+use Rattle.reading.specs.Bytes.{kindOf}
+use Rattle.scanner.specs.Kinds.{kindsFrom}
+use Rattle.scanner.proofs.kinds.Statement.{statement}
+use Rattle.scanner.proofs.kinds.Tie as tie
+
+returns : tie.Need-returns
+unfolding kindsFrom kindOf
+returns c = refl
+
+pub kinds-spec : {M : Type 1} → statement M
+kinds-spec = tie.close (tie.spec returns)

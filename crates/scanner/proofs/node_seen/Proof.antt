@@ -1,0 +1,91 @@
+-- Each way is that of a node that begins with the byte at the place.
+-- Assumes nothing.
+use mathlib.Core.Path.{sym, ap, _∙_}
+use Prim.Native.Nat.{_+_}
+use native.Mathlib.Omega.{arith}
+use lib.ListN.{getD}
+use borrow.Author.Tests.{not-true, not-false}
+use Rattle.scanner.specs.SeenLaws.{seen-push}
+use Rattle.scanner.specs.Cite.{markOf, seenOf, plain}
+use Rattle.scanner.specs.GlanceLaws as G
+use borrow.Author.Needs.{needs}
+use Rattle.scanner.proofs.node_seen.Statement.{statement}
+use Rattle.scanner.proofs.node_seen.Tie as tie
+
+shared-slice-read-b : tie.Need-shared-slice-read-b
+shared-slice-read-b c = search needs
+
+failed-requires : tie.Need-failed-requires
+failed-requires c κs = search needs
+
+returns : tie.Need-returns
+returns c =
+    let a = c .before .before .before .before .before .args in
+    let k = a .k .now in
+    let s = a .s .now in
+    ap seenOf (c .failed .ensures)
+    ∙ ap (plain (a .d)) (G.node-deep k s (a .at) (markOf (a .m)) (a .d) (getD s (a .at) 0) (a .two) (c .before .before .if1 .taken) (c .before .if2 .taken))
+
+add-gave : tie.Need-add-gave
+add-gave c = search needs
+
+add-gave-2 : tie.Need-add-gave-2
+add-gave-2 c = search needs
+
+gave-requires : tie.Need-gave-requires
+gave-requires c κs = search needs
+
+returns-2 : tie.Need-returns-2
+returns-2 c =
+    let a = c .before .before .before .before .before .args in
+    let k = a .k .now in
+    let s = a .s .now in
+    ap seenOf (c .gave .ensures)
+    ∙ seen-push (a .at + 1) (a .d) (a .two)
+    ∙ ap (plain (a .d)) (G.node-push k s (a .at) (markOf (a .m)) (a .d) (getD s (a .at) 0) (a .two) (c .before .before .if1 .taken) (omega arith))
+
+is-digit-requires : tie.Need-is-digit-requires
+is-digit-requires c κs = search needs
+
+failed-requires-2 : tie.Need-failed-requires-2
+failed-requires-2 c κs = search needs
+
+returns-3 : tie.Need-returns-3
+returns-3 c =
+    let a2 = c .before .before .before .before .before .before .args in
+    let if1 = c .before .before .before .if1 in
+    let a = a2 in
+    let k = a .k .now in
+    let s = a .s .now in
+    ap seenOf (c .failed2 .ensures)
+    ∙ ap (plain (a .d)) (G.node-wrong k s (a .at) (markOf (a .m)) (a .d) (getD s (a .at) 0) (a .two) (if1 .left) (sym (c .before .before .is-digit .ensures) ∙ not-true _ (c .before .if3 .taken)))
+
+number-seen-requires : tie.Need-number-seen-requires
+number-seen-requires c κs = search needs
+
+returns-4 : tie.Need-returns-4
+returns-4 c =
+    let a2 = c .before .before .before .before .before .before .args in
+    let if1 = c .before .before .before .if1 in
+    let a = a2 in
+    let k = a .k .now in
+    let s = a .s .now in
+    c .number-seen .ensures
+    ∙ ap (plain (a .d)) (G.node-number k s (a .at) (markOf (a .m)) (a .d) (getD s (a .at) 0) (a .two) (if1 .left) (sym (c .before .before .is-digit .ensures) ∙ not-false _ (c .before .if3 .left)))
+
+pub node-seen-spec : {M : Type 1} → statement M
+node-seen-spec =
+    tie.close
+    (tie.spec
+    shared-slice-read-b
+    failed-requires
+    returns
+    add-gave
+    add-gave-2
+    gave-requires
+    returns-2
+    is-digit-requires
+    failed-requires-2
+    returns-3
+    number-seen-requires
+    returns-4)

@@ -1,0 +1,257 @@
+-- How code holds what the theory speaks of: the declared enums and structs as the theory's types. Each enum's cases stand with document 01's
+-- names; `causeOf` gives the causes their numbers. Assumes nothing.
+use mathlib.Core.Bool.{Bool, true, false, cond}
+use mathlib.Core.List.{List, [], _∷_}
+use Prim.Native.Nat.{ℕ, zero, suc, _+_, _-_}
+use lib.Dec.{ltb, eqb}
+use lib.ListN.{getD}
+use Rattle.reading.specs.Nodes as N
+use Rattle.reading.specs.Causes as C
+use Rattle.reading.specs.Element as T
+use Rattle.scanner.specs.Glance as G
+use Rattle.scanner.specs.Capped.{capGlance}
+use Rattle.scanner.specs.declared.Element.{Element}
+use Rattle.scanner.specs.declared.Element.the-variants.{Opening, Number, Constant, Turn, Closing, Storing, End}
+use Rattle.scanner.specs.declared.Mark.{Mark}
+use Rattle.scanner.specs.declared.Mark.the-variants.{Start, Lead, Begins, AfterDigit, AfterTwo, AfterOne, Over}
+use Rattle.scanner.specs.declared.Ref.{Ref}
+use Rattle.scanner.specs.declared.Cause.{Cause}
+use Rattle.scanner.specs.declared.Cause.the-variants.{OptionCount, OperatorCode, SizeToWrite, WorkTable, WordRange, TruthTable, WrongByte, DeclaredSize, TooDeep, NotInTable, OtherLevel, NotStorable, BadNumber}
+use Rattle.scanner.specs.declared.Outcome.{Outcome}
+use Rattle.scanner.specs.declared.Outcome.the-variants.{Got, Fault, RanOut}
+use Rattle.scanner.specs.declared.Top.{Top}
+use Rattle.scanner.specs.declared.Top.the-variants.{Empty, Inner, Outer}
+use Rattle.scanner.specs.declared.Stage.{Stage}
+use Rattle.scanner.specs.declared.Stage.the-variants.{First, Node, Ended, Past}
+use Rattle.scanner.specs.declared.Sight.{Sight}
+use Rattle.scanner.specs.declared.Sight.the-variants as S
+use Rattle.scanner.specs.declared.Glance.{Glance}
+use Rattle.scanner.specs.declared.Num.{Num}
+use Rattle.scanner.specs.declared.Open.{Open}
+use Rattle.scanner.specs.declared.Opens.{Opens}
+use Rattle.scanner.specs.declared.Spots.{Spots}
+use Rattle.scanner.specs.declared.Look.{Look}
+use Rattle.scanner.specs.declared.Place.{Place}
+use Rattle.scanner.specs.declared.Stepped.{Stepped}
+
+abbrev pub elementOf : Element → T.Element
+elementOf Opening = T.opening
+elementOf (Number v) = T.number v
+elementOf Constant = T.constant
+elementOf Turn = T.turn
+elementOf Closing = T.closing
+elementOf (Storing v) = T.storing v
+elementOf End = T.end
+
+abbrev pub markOf : Mark → T.Mark
+markOf Start = T.start
+markOf Lead = T.lead
+markOf Begins = T.begins
+markOf AfterDigit = T.afterDigit
+markOf AfterTwo = T.afterTwo
+markOf AfterOne = T.afterOne
+markOf Over = T.over
+
+abbrev pub terminalRef : Ref
+terminalRef = record { number = 0; stamp = 0 }
+
+abbrev pub temporaryRef : Ref
+temporaryRef = record { number = 0; stamp = 1 }
+
+abbrev pub entryRef : ℕ → ℕ → Ref
+entryRef k g = record { number = k; stamp = g }
+
+abbrev pub refOf : Ref → N.Ref
+refOf r = cond (eqb (r .number) 0) (cond (eqb (r .stamp) 0) N.terminal N.temporary) (N.entry (r .number) (r .stamp))
+
+abbrev pub causeOf : Cause → C.Cause
+causeOf OptionCount = C.optionCount
+causeOf OperatorCode = C.operatorCode
+causeOf SizeToWrite = C.sizeToWrite
+causeOf WorkTable = C.workTable
+causeOf WordRange = C.wordRange
+causeOf TruthTable = C.truthTable
+causeOf WrongByte = C.wrongByte
+causeOf DeclaredSize = C.declaredSize
+causeOf TooDeep = C.tooDeep
+causeOf NotInTable = C.notInTable
+causeOf OtherLevel = C.otherLevel
+causeOf NotStorable = C.notStorable
+causeOf BadNumber = C.badNumber
+
+abbrev pub outcomeOf : Outcome → T.Outcome
+outcomeOf (Got e) = T.got (elementOf e)
+outcomeOf (Fault c b) = T.fault (causeOf c) b
+outcomeOf RanOut = T.ranOut
+
+abbrev pub topsOf : Top → G.Top
+topsOf Empty = G.empty
+topsOf Inner = G.inner
+topsOf Outer = G.outer
+
+-- the stage of a mark
+abbrev pub stageOf : Mark → Stage
+stageOf Start = First
+stageOf Lead = Node
+stageOf Begins = Node
+stageOf AfterDigit = Ended
+stageOf AfterTwo = Ended
+stageOf AfterOne = Ended
+stageOf Over = Past
+
+-- the node that has ended ends in a digit
+abbrev pub isAfter : Mark → Bool
+isAfter Start = false
+isAfter Lead = false
+isAfter Begins = false
+isAfter AfterDigit = true
+isAfter AfterTwo = false
+isAfter AfterOne = false
+isAfter Over = false
+
+-- ---- A glance --------------------------------------------------------------------------------
+
+-- the number of an element, 0 if there is none
+abbrev pub numberOf : T.Outcome → ℕ
+numberOf (T.got T.opening) = 0
+numberOf (T.got (T.number v)) = v
+numberOf (T.got T.constant) = 0
+numberOf (T.got T.turn) = 0
+numberOf (T.got T.closing) = 0
+numberOf (T.got (T.storing v)) = v
+numberOf (T.got T.end) = 0
+numberOf (T.fault c b) = 0
+numberOf T.ranOut = 0
+
+-- how many nodes are open after a change of d
+abbrev pub depthBy : G.Change → ℕ → ℕ
+depthBy G.same d = d
+depthBy G.push d = d + 1
+depthBy G.pop d = d - 1
+depthBy G.secondPush d = d + 1
+depthBy (G.second t) d = d
+
+-- the second child of the innermost begins, after a `~`
+abbrev pub secondBy : G.Change → Bool
+secondBy G.same = false
+secondBy G.push = false
+secondBy G.pop = false
+secondBy G.secondPush = true
+secondBy (G.second t) = true
+
+abbrev pub turnedBy : G.Change → Bool
+turnedBy G.same = false
+turnedBy G.push = false
+turnedBy G.pop = false
+turnedBy G.secondPush = false
+turnedBy (G.second t) = t
+
+-- what a step comes to, with the element's number v or the fault
+abbrev pub sighted : Sight → ℕ → Cause → ℕ → Outcome
+sighted S.Opening v c b = Got Opening
+sighted S.Number v c b = Got (Number v)
+sighted S.Constant v c b = Got Constant
+sighted S.Turn v c b = Got Turn
+sighted S.Closing v c b = Got Closing
+sighted S.Storing v c b = Got (Storing v)
+sighted S.End v c b = Got End
+sighted S.Fault v c b = Fault c b
+sighted S.Out v c b = RanOut
+
+-- a glance as code holds it, the change as numbers
+pub record Seen : Type 0 where
+  pub outcome : T.Outcome
+  pub number : ℕ
+  pub at : ℕ
+  pub mark : T.Mark
+  pub depth : ℕ
+  pub second : Bool
+  pub turned : Bool
+
+abbrev pub plain : ℕ → G.Glance → Seen
+plain d g = record { outcome = g .outcome; number = numberOf (g .outcome); at = g .at; mark = g .mark; depth = depthBy (g .change) d; second = secondBy (g .change); turned = turnedBy (g .change) }
+
+abbrev pub seenOf : Glance → Seen
+seenOf g = record { outcome = outcomeOf (sighted (g .sight) (g .number) (g .cause) (g .byte)); number = g .number; at = g .at; mark = markOf (g .mark); depth = g .depth; second = g .second; turned = g .turned }
+
+abbrev pub gaveBy : Sight → ℕ → ℕ → Mark → ℕ → Bool → Bool → Glance
+gaveBy e v at m d two t = record { sight = e; cause = WrongByte; byte = 0; number = v; at = at; mark = m; depth = d; second = two; turned = t }
+
+abbrev pub failedBy : ℕ → Mark → ℕ → Cause → ℕ → Glance
+failedBy at m d c b = record { sight = S.Fault; cause = c; byte = b; number = 0; at = at; mark = m; depth = d; second = false; turned = false }
+
+abbrev pub waitedBy : ℕ → Mark → ℕ → Glance
+waitedBy at m d = record { sight = S.Out; cause = WrongByte; byte = 0; number = 0; at = at; mark = m; depth = d; second = false; turned = false }
+
+-- a number or a bracket as a second child, or not
+abbrev pub numbered : Bool → G.Change
+numbered two = cond two (G.second false) G.same
+
+abbrev pub scanOf : Num → T.Scan
+scanOf x = cond (x .done) (T.read (x .value) (x .next)) T.unread
+
+-- ---- Open nodes ------------------------------------------------------------------------------
+
+abbrev pub openOf : Open → T.Open
+openOf e = cond (e .second) (T.inSecond (refOf (e .first)) (e .turned)) T.inFirst
+
+abbrev pub insideOpen : Open
+insideOpen = record { second = false; turned = false; first = terminalRef }
+
+abbrev pub begunOpen : Ref → Bool → Open
+begunOpen r t = record { second = true; turned = t; first = r }
+
+-- the first d entries, the last first
+unfoldable pub opensOf : List Open → ℕ → List T.Open
+opensOf ns zero = []
+opensOf ns (suc d) = openOf (getD ns d insideOpen) ∷ opensOf ns d
+
+-- a depth above 32 is read as 32
+abbrev pub deepOf : ℕ → ℕ
+deepOf d = cond (ltb 32 d) 32 d
+
+abbrev pub openList : Opens → List T.Open
+openList o = opensOf (o .nodes) (deepOf (o .depth))
+
+-- the innermost of d open nodes, which is e
+abbrev pub sideOf : ℕ → Open → G.Top
+sideOf d e = cond (eqb d 0) G.empty (cond (e .second) G.outer G.inner)
+
+-- the place of its entry, and of the one after it
+abbrev pub lowAt : ℕ → ℕ
+lowAt d = cond (eqb d 0) 31 (cond (ltb d 32) (d - 1) 31)
+
+abbrev pub highAt : ℕ → ℕ
+highAt d = cond (ltb d 32) d 31
+
+abbrev pub spotsOf : ℕ → Spots
+spotsOf d = record { low = lowAt d; high = highAt d }
+
+-- a look: the step by little, with the entry of the innermost open node
+pub record Looked : Type 0 where
+  pub outcome : T.Outcome
+  pub number : ℕ
+  pub at : ℕ
+  pub mark : T.Mark
+  pub depth : ℕ
+  pub low : Open
+
+abbrev pub lookBy : Seen → Ref → Open → Looked
+lookBy g last low = record { outcome = g .outcome; number = g .number; at = g .at; mark = g .mark; depth = g .depth; low = cond (g .second) (begunOpen last (g .turned)) low }
+
+-- by a table k of kinds
+abbrev pub lookAt : List ℕ → List ℕ → ℕ → T.Mark → Ref → ℕ → Open → Looked
+lookAt k bytes at m last depth low = lookBy (plain (deepOf depth) (capGlance (G.glance k bytes at m (sideOf (deepOf depth) low) (deepOf depth)))) last low
+
+-- what a look comes to
+abbrev pub outcomeIn : Look → Outcome
+outcomeIn x = sighted (x .sight) (x .number) (x .cause) (x .byte)
+
+abbrev pub lookOf : Look → Looked
+lookOf r = record { outcome = outcomeOf (outcomeIn r); number = r .number; at = r .at; mark = markOf (r .mark); depth = r .depth; low = r .low }
+
+abbrev pub placeOf : Place → T.Place
+placeOf p = T.place (p .at) (markOf (p .mark)) (openList (p .opens)) (refOf (p .last))
+
+abbrev pub steppedOf : Stepped → T.Step
+steppedOf r = record { outcome = outcomeOf (r .outcome); place = placeOf (r .place) }

@@ -1,0 +1,225 @@
+-- One step of a place by little: the byte's place, what stands before it, the innermost open node and how many are open. What it comes to says how
+-- the open nodes change, so that code changes one entry and copies none. It is defined for any table k of kinds, since code has one lent.
+-- `step-glance`: with the table of kinds it is document 01's step. Numbers are capped, since code holds them in 32 bits. Assumes nothing.
+use mathlib.Core.Path.{_≡_, refl, sym, ap, subst}
+use mathlib.Core.Bool.{Bool, true, false, cond, _&&_}
+use mathlib.Core.List.{List, [], _∷_}
+use mathlib.Core.Option.{Option, none, some}
+use Prim.Native.Nat.{ℕ, _+_}
+use lib.Dec.{ltb, eqb}
+use lib.ListN.{length, getElem?}
+use Rattle.scanner.specs.Kinds.{kindTable, digitIn, numberBy, digit-in, number-by}
+use Rattle.reading.specs.Limits.{optionLimit}
+use Rattle.reading.specs.Bytes.{opener, closer, tilde, colon, dot, blank, lineFeed, isDigit}
+use Rattle.reading.specs.Nodes.{Ref}
+use Rattle.reading.specs.Causes.{Cause, wrongByte, tooDeep}
+use Rattle.reading.specs.Reading.{isLead, isTwo}
+use Rattle.reading.specs.Element.{Element, opening, number, constant, turn, closing, storing, end, Open, inFirst, inSecond, Mark, start, lead, begins, afterDigit, afterTwo, afterOne, over, Place, place, moved, Scan, read, unread, numberAt, Outcome, got, fault, ranOut, Step, gives, fails, sizeEnds, sizeRead, numberRead, storingRead, nodeBegins, afterSpace, afterColon, nodeEnded, stepBy, stepOn, step}
+
+-- ---- What a step comes to --------------------------------------------------------------------
+
+-- the innermost open node: none is open; its first child is not done; it is
+pub data Top : Type 0 where
+  empty inner outer : Top
+
+abbrev pub topOf : List Open → Top
+topOf [] = empty
+topOf (inFirst ∷ o) = inner
+topOf (inSecond r t ∷ o) = outer
+
+-- how the open nodes change: not; a node opens, or closes; the second child begins, after a `~` or not; it begins and opens a node
+pub data Change : Type 0 where
+  same push pop secondPush : Change
+  second : Bool → Change
+
+abbrev pub seconded : Ref → Bool → List Open → List Open
+seconded r t [] = []
+seconded r t (x ∷ o) = inSecond r t ∷ o
+
+abbrev pub popped : List Open → List Open
+popped [] = []
+popped (x ∷ o) = o
+
+abbrev pub changed : Change → Ref → List Open → List Open
+changed same r o = o
+changed push r o = inFirst ∷ o
+changed pop r o = popped o
+changed secondPush r o = inFirst ∷ seconded r false o
+changed (second t) r o = seconded r t o
+
+pub record Glance : Type 0 where
+  pub outcome : Outcome
+  pub at : ℕ
+  pub mark : Mark
+  pub change : Change
+
+-- the step of a place that a glance comes to
+abbrev pub applied : Place → Glance → Step
+applied p g = record { outcome = g .outcome; place = place (g .at) (g .mark) (changed (g .change) (p .last) (p .opens)) (p .last) }
+
+abbrev pub gave : Element → ℕ → Mark → Change → Glance
+gave e at m c = record { outcome = got e; at = at; mark = m; change = c }
+
+abbrev pub failed : ℕ → Mark → Cause → ℕ → Glance
+failed at m c b = record { outcome = fault c b; at = at; mark = m; change = same }
+
+abbrev pub waited : ℕ → Mark → Glance
+waited at m = record { outcome = ranOut; at = at; mark = m; change = same }
+
+-- ---- The glance ------------------------------------------------------------------------------
+
+abbrev pub sizeLine : ℕ → Mark → ℕ → ℕ → Option ℕ → Glance
+sizeLine at m v e none = waited at m
+sizeLine at m v e (some b) = cond (eqb b lineFeed) (gave (number v) (e + 1) lead same) (failed at m wrongByte e)
+
+abbrev pub sizeSeen : List ℕ → ℕ → Mark → Scan → Glance
+sizeSeen bytes at m (read v e) = sizeLine at m v e (getElem? bytes e)
+sizeSeen bytes at m unread = waited at m
+
+abbrev pub numberSeen : ℕ → Mark → Change → Scan → Glance
+numberSeen at m c (read v e) = gave (cond (eqb v 0) constant (number v)) e afterDigit c
+numberSeen at m c unread = waited at m
+
+abbrev pub storingSeen : ℕ → Mark → Scan → Glance
+storingSeen at m (read v e) = gave (storing v) e afterDigit same
+storingSeen at m unread = waited at m
+
+-- two: the node that begins is a second child; depth: the nodes that are open; b: the byte at the place
+abbrev pub nodeSeen : List ℕ → List ℕ → ℕ → Mark → ℕ → Bool → ℕ → Glance
+nodeSeen k bytes at m depth two b =
+    cond (eqb b opener) (cond (ltb depth optionLimit) (gave opening (at + 1) begins (cond two secondPush push)) (failed at m tooDeep at))
+    (cond (digitIn k b) (numberSeen at m (cond two (second false) same) (numberBy k bytes at b))
+    (failed at m wrongByte at))
+
+abbrev pub spaceSeen : List ℕ → List ℕ → ℕ → Mark → Option ℕ → Glance
+spaceSeen k bytes at m none = waited at m
+spaceSeen k bytes at m (some b) = cond (digitIn k b) (numberSeen at m (second false) (numberBy k bytes (at + 1) b)) (failed at m wrongByte (at + 1))
+
+abbrev pub colonSeen : List ℕ → List ℕ → ℕ → Mark → Option ℕ → Glance
+colonSeen k bytes at m none = waited at m
+colonSeen k bytes at m (some b) = cond (digitIn k b) (storingSeen at m (numberBy k bytes (at + 1) b)) (failed at m wrongByte (at + 1))
+
+-- d: the node that has ended ends in a digit
+abbrev pub innerSeen : List ℕ → List ℕ → ℕ → Mark → ℕ → Bool → ℕ → Glance
+innerSeen k bytes at m depth d b =
+    cond (eqb b tilde) (gave turn (at + 1) begins (second true))
+    (cond (eqb b closer) (gave closing (at + 1) afterOne pop)
+    (cond (d && eqb b blank) (spaceSeen k bytes at m (getElem? bytes (at + 1)))
+    (cond (d && digitIn k b) (failed at m wrongByte at)
+    (nodeSeen k bytes at m depth true b))))
+
+abbrev pub endSeen : List ℕ → List ℕ → ℕ → Mark → Top → ℕ → Bool → ℕ → Glance
+endSeen k bytes at m empty depth d b = cond (eqb b dot) (gave end (at + 1) over same) (failed at m wrongByte at)
+endSeen k bytes at m inner depth d b = innerSeen k bytes at m depth d b
+endSeen k bytes at m outer depth d b = cond (eqb b closer) (gave closing (at + 1) afterTwo pop) (failed at m wrongByte at)
+
+-- a byte that is not allowed at the place
+abbrev pub wrongAt : ℕ → Mark → Glance
+wrongAt at m = failed at m wrongByte at
+
+-- where a node begins that is no second child: after the size it may stand behind a `~`
+abbrev pub leadSeen : List ℕ → List ℕ → ℕ → Mark → ℕ → ℕ → Glance
+leadSeen k bytes at m depth b = cond (eqb b tilde && isLead m) (gave turn (at + 1) begins same) (nodeSeen k bytes at m depth false b)
+
+-- where a node has ended: one of two children may be stored
+abbrev pub endedSeen : List ℕ → List ℕ → ℕ → Mark → Top → ℕ → Bool → ℕ → Glance
+endedSeen k bytes at m top depth d b = cond (eqb b colon && isTwo m) (colonSeen k bytes at m (getElem? bytes (at + 1))) (endSeen k bytes at m top depth d b)
+
+abbrev pub glanceBy : List ℕ → List ℕ → ℕ → Mark → Top → ℕ → ℕ → Glance
+glanceBy k bytes at start top depth b = cond (digitIn k b) (sizeSeen bytes at start (numberBy k bytes at b)) (failed at start wrongByte at)
+glanceBy k bytes at lead top depth b = cond (eqb b tilde) (gave turn (at + 1) begins same) (nodeSeen k bytes at lead depth false b)
+glanceBy k bytes at begins top depth b = nodeSeen k bytes at begins depth false b
+glanceBy k bytes at afterDigit top depth b = endSeen k bytes at afterDigit top depth true b
+glanceBy k bytes at afterTwo top depth b = cond (eqb b colon) (colonSeen k bytes at afterTwo (getElem? bytes (at + 1))) (endSeen k bytes at afterTwo top depth false b)
+glanceBy k bytes at afterOne top depth b = endSeen k bytes at afterOne top depth false b
+glanceBy k bytes at over top depth b = failed at over wrongByte at
+
+abbrev pub glanceOn : List ℕ → List ℕ → ℕ → Mark → Top → ℕ → Option ℕ → Glance
+glanceOn k bytes at m top depth none = waited at m
+glanceOn k bytes at m top depth (some b) = glanceBy k bytes at m top depth b
+
+unfoldable pub glance : List ℕ → List ℕ → ℕ → Mark → Top → ℕ → Glance
+glance k bytes at m top depth = glanceOn k bytes at m top depth (getElem? bytes at)
+
+-- ---- It is the step --------------------------------------------------------------------------
+
+module _ (p : Place) where
+  -- a step and a glance go the same way
+  abbrev Same : Step → Glance → Type 0
+  Same x g = x ≡ applied p g
+
+  same-cond : (t : Bool) (x y : Step) (g h : Glance) → Same x g → Same y h → Same (cond t x y) (cond t g h)
+  same-cond true x y g h a b = a
+  same-cond false x y g h a b = b
+
+  -- by a test of the step and one of the glance that are the same
+  same-test : (s t : Bool) (x y : Step) (g h : Glance) → t ≡ s → Same x g → Same y h → Same (cond s x y) (cond t g h)
+  same-test s t x y g h e a b = subst (λ (u : Bool). Same (cond s x y) (cond u g h)) (sym e) (same-cond s x y g h a b)
+
+  same-digit : (b : ℕ) (x y : Step) (g h : Glance) → Same x g → Same y h → Same (cond (isDigit b) x y) (cond (digitIn kindTable b) g h)
+  same-digit b x y g h = same-test (isDigit b) (digitIn kindTable b) x y g h (digit-in b)
+
+same-number : (at : ℕ) (m : Mark) (o : List Open) (r : Ref) (c : Change) (q : List Open) → q ≡ changed c r o → (x y : Scan) → y ≡ x → Same (place at m o r) (numberRead (place at m o r) q x) (numberSeen at m c y)
+same-number at m o r c q e x y f = subst (λ (z : Scan). Same (place at m o r) (numberRead (place at m o r) q x) (numberSeen at m c z)) (sym f) (go x)
+  where
+    go : (x : Scan) → Same (place at m o r) (numberRead (place at m o r) q x) (numberSeen at m c x)
+    go (read v i) = ap (λ (u : List Open). gives (cond (eqb v 0) constant (number v)) (place i afterDigit u r)) e
+    go unread = refl
+
+same-node : (bytes : List ℕ) (at : ℕ) (m : Mark) (o : List Open) (r : Ref) (two : Bool) (q : List Open) (b : ℕ) → q ≡ changed (cond two (second false) same) r o → inFirst ∷ q ≡ changed (cond two secondPush push) r o → length q ≡ length o
+    → Same (place at m o r) (nodeBegins bytes (place at m o r) q b) (nodeSeen kindTable bytes at m (length o) two b)
+same-node bytes at m o r two q b e f l =
+    let p = place at m o r in
+    same-cond p (eqb b opener) _ _ _ _
+    (subst (λ (k : ℕ). Same p (cond (ltb (length q) optionLimit) (gives opening (moved p (at + 1) begins (inFirst ∷ q))) (fails p tooDeep at)) (cond (ltb k optionLimit) (gave opening (at + 1) begins (cond two secondPush push)) (failed at m tooDeep at))) l
+    (same-cond p (ltb (length q) optionLimit) _ _ _ _ (ap (λ (u : List Open). gives opening (place (at + 1) begins u r)) f) refl))
+    (same-digit p b _ _ _ _ (same-number at m o r (cond two (second false) same) q e (numberAt bytes at b) (numberBy kindTable bytes at b) (number-by bytes at b)) refl)
+
+same-space : (bytes : List ℕ) (at : ℕ) (m : Mark) (o : List Open) (r : Ref) (x : Option ℕ) → Same (place at m (inFirst ∷ o) r) (afterSpace bytes (place at m (inFirst ∷ o) r) (inSecond r false ∷ o) x) (spaceSeen kindTable bytes at m x)
+same-space bytes at m o r none = refl
+same-space bytes at m o r (some b) = same-digit (place at m (inFirst ∷ o) r) b _ _ _ _ (same-number at m (inFirst ∷ o) r (second false) (inSecond r false ∷ o) refl (numberAt bytes (at + 1) b) (numberBy kindTable bytes (at + 1) b) (number-by bytes (at + 1) b)) refl
+
+same-colon : (bytes : List ℕ) (at : ℕ) (m : Mark) (o : List Open) (r : Ref) (x : Option ℕ) → Same (place at m o r) (afterColon bytes (place at m o r) x) (colonSeen kindTable bytes at m x)
+same-colon bytes at m o r none = refl
+same-colon bytes at m o r (some b) = same-digit (place at m o r) b _ _ _ _ (subst (λ (x : Scan). Same (place at m o r) (storingRead (place at m o r) (numberAt bytes (at + 1) b)) (storingSeen at m x)) (sym (number-by bytes (at + 1) b)) (go (numberAt bytes (at + 1) b))) refl
+  where
+    go : (x : Scan) → Same (place at m o r) (storingRead (place at m o r) x) (storingSeen at m x)
+    go (read v i) = refl
+    go unread = refl
+
+same-ended : (bytes : List ℕ) (at : ℕ) (m : Mark) (o : List Open) (r : Ref) (d : Bool) (b : ℕ) → Same (place at m o r) (nodeEnded bytes (place at m o r) d b o) (endSeen kindTable bytes at m (topOf o) (length o) d b)
+same-ended bytes at m [] r d b = same-cond (place at m [] r) (eqb b dot) _ _ _ _ refl refl
+same-ended bytes at m (inFirst ∷ o) r d b =
+    let p = place at m (inFirst ∷ o) r in
+    same-cond p (eqb b tilde) _ _ _ _ refl
+    (same-cond p (eqb b closer) _ _ _ _ refl
+    (same-cond p (d && eqb b blank) _ _ _ _ (same-space bytes at m o r (getElem? bytes (at + 1)))
+    (same-test p (d && isDigit b) (d && digitIn kindTable b) _ _ _ _ (ap (λ (u : Bool). d && u) (digit-in b)) refl
+    (same-node bytes at m (inFirst ∷ o) r true (inSecond r false ∷ o) b refl refl refl))))
+same-ended bytes at m (inSecond a t ∷ o) r d b = same-cond (place at m (inSecond a t ∷ o) r) (eqb b closer) _ _ _ _ refl refl
+
+same-size : (bytes : List ℕ) (at : ℕ) (m : Mark) (o : List Open) (r : Ref) (x : Scan) → Same (place at m o r) (sizeRead bytes (place at m o r) x) (sizeSeen bytes at m x)
+same-size bytes at m o r (read v e) = go (getElem? bytes e)
+  where
+    go : (x : Option ℕ) → Same (place at m o r) (sizeEnds (place at m o r) v e x) (sizeLine at m v e x)
+    go none = refl
+    go (some b) = same-cond (place at m o r) (eqb b lineFeed) _ _ _ _ refl refl
+same-size bytes at m o r unread = refl
+
+same-by : (bytes : List ℕ) (at : ℕ) (m : Mark) (o : List Open) (r : Ref) (b : ℕ) → Same (place at m o r) (stepBy bytes (place at m o r) b m) (glanceBy kindTable bytes at m (topOf o) (length o) b)
+same-by bytes at start o r b = same-digit (place at start o r) b _ _ _ _ (subst (λ (x : Scan). Same (place at start o r) (sizeRead bytes (place at start o r) (numberAt bytes at b)) (sizeSeen bytes at start x)) (sym (number-by bytes at b)) (same-size bytes at start o r (numberAt bytes at b))) refl
+same-by bytes at lead o r b = same-cond (place at lead o r) (eqb b tilde) _ _ _ _ refl (same-node bytes at lead o r false o b refl refl refl)
+same-by bytes at begins o r b = same-node bytes at begins o r false o b refl refl refl
+same-by bytes at afterDigit o r b = same-ended bytes at afterDigit o r true b
+same-by bytes at afterTwo o r b = same-cond (place at afterTwo o r) (eqb b colon) _ _ _ _ (same-colon bytes at afterTwo o r (getElem? bytes (at + 1))) (same-ended bytes at afterTwo o r false b)
+same-by bytes at afterOne o r b = same-ended bytes at afterOne o r false b
+same-by bytes at over o r b = refl
+
+-- THE GLANCE IS THE STEP, with the table of kinds
+pub step-glance : (p : Place) (bytes : List ℕ) → step p bytes ≡ applied p (glance kindTable bytes (p .at) (p .mark) (topOf (p .opens)) (length (p .opens)))
+unfolding step glance
+step-glance p bytes = go (getElem? bytes (p .at))
+  where
+    go : (x : Option ℕ) → stepOn bytes p x ≡ applied p (glanceOn kindTable bytes (p .at) (p .mark) (topOf (p .opens)) (length (p .opens)) x)
+    go none = refl
+    go (some b) = same-by bytes (p .at) (p .mark) (p .opens) (p .last) b
