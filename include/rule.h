@@ -9,7 +9,8 @@
  * rule_combine. Each stands alone, and all can be linked together. They are proved, and want nothing of the C library but memcpy and memset.
  *
  * Memory. The caller lends all of it and keeps it: the library allocates nothing, keeps nothing between calls and no pointer after one, and has
- * no state, so calls on different memory may run at the same time. Lent pieces must not overlap. A piece of length 0 may have a null pointer.
+ * no state, so calls on different memory may run at the same time. Lent pieces must not overlap, but the same stream may be lent twice for combining,
+ * since streams are only read. A piece of length 0 may have a null pointer.
  * Any bytes may be in a work table, in an output, or in a truth table to be filled before a call; no answer depends on them.
  */
 #ifndef RULE_H
