@@ -32,8 +32,12 @@ use operation_cache::slot;
 use pending_text::push;
 use pending_text::push_turn;
 use pending_text::wait;
+use work_table::OPTION_LIMIT;
 use work_table::differs;
 use work_table::get as row_at;
+
+// The level of a word, below all options.
+const LEVEL_LIMIT: u32 = OPTION_LIMIT + 1;
 
 fn half_told(r: Told) -> Half
     ensures { λ h. ⌜ h ≡ r .half ⌝ }
@@ -136,10 +140,10 @@ pub fn apply(
 ) -> Walked
     ensures { λ r. ⌜ recalledOf r (now (t .exit)) (now (out .exit)) (now (w .exit)) (now (c .exit)) ≡ applied op size d i m (edgeIn x (now (t1 .entry)) ∷ edgeIn y (now (t2 .entry)) ∷ []) (now (c .entry)) (now (t .entry)) (now (out .entry)) (now (w .entry)) (penOf pen) ⌝ }
 {
-    if 32 < d {
+    if OPTION_LIMIT < d {
         return kept(constant(false), pen);
     }
-    if 33 < i {
+    if LEVEL_LIMIT < i {
         return kept(constant(false), pen);
     }
     walk(op, size, d, i, m, x, y, t1, t2, t, out, w, c, pen)

@@ -17,20 +17,23 @@ use reader::first_cursor;
 use reader::read_on;
 use scanner::Cause;
 use scanner::Mark;
+use scanner::OPEN_LIMIT;
 use work_table::Edge;
+use work_table::OPTION_LIMIT;
+use work_table::TABLE_LIMIT;
 use work_table::differs;
 use work_table::get;
 
 // ---- What was passed last
 
 // The edges to second children that are complemented, of d open nodes: an odd number? There are 32 at most.
-fn parity_of(o: &[[u32; 4]; 32], d: usize) -> bool
+fn parity_of(o: &[[u32; 4]; OPEN_LIMIT], d: usize) -> bool
     ensures { λ r. ⌜ r ≡ parity (openList (opensIn (now (o .entry)) d)) ⌝ }
 {
     let mut i = 0;
     let mut p = false;
     while i < d {
-        if i == 32 {
+        if i == OPEN_LIMIT {
             return p;
         }
         let a = o[i];
@@ -43,7 +46,7 @@ fn parity_of(o: &[[u32; 4]; 32], d: usize) -> bool
 }
 
 // What the words passed last stand for.
-pub fn edge_of(r: Reached, o: &[[u32; 4]; 32]) -> Edge
+pub fn edge_of(r: Reached, o: &[[u32; 4]; OPEN_LIMIT]) -> Edge
     ensures { λ x. ⌜ x ≡ edgeAt (reachedIn r (now (o .entry))) ⌝ }
 {
     let p = parity_of(o, r.depth);
@@ -79,7 +82,7 @@ pub struct Block {
 }
 
 // The block that the loop's last element passed.
-fn block_of(r: Reached, o: &[[u32; 4]; 32]) -> Block
+fn block_of(r: Reached, o: &[[u32; 4]; OPEN_LIMIT]) -> Block
     ensures { λ b. ⌜ blockIn b (now (o .entry)) ≡ blockOf (reachedIn r (now (o .entry))) ⌝ }
 {
     let e = edge_of(r, o);
@@ -99,7 +102,13 @@ fn block_of(r: Reached, o: &[[u32; 4]; 32]) -> Block
 }
 
 // THE NEXT BLOCK: reads on until more words are covered. o: the open nodes, as reading left them
-pub fn next_block(n: u32, s: &[u8], t: &mut [[u32; 6]], o: &mut [[u32; 4]; 32], c: Cursor) -> Block
+pub fn next_block(
+    n: u32,
+    s: &[u8],
+    t: &mut [[u32; 6]],
+    o: &mut [[u32; 4]; OPEN_LIMIT],
+    c: Cursor,
+) -> Block
     ensures { λ b. ⌜ record { block = blockIn b (now (o .exit)); table = now (t .exit) } ≡ nextBlock n (now (s .entry)) (cursorIn c (now (o .entry))) (now (t .entry)) ⌝ }
 {
     let q = c.run;
@@ -176,13 +185,13 @@ fn not_loaded(c: Cause) -> Loaded
 pub fn load(n: u32, s: &[u8], t: &mut [[u32; 6]]) -> Loaded
     ensures { λ r. ⌜ loadIn r (now (t .exit)) ≡ load n (now (s .entry)) (now (t .entry)) ⌝ }
 {
-    if 32 < n {
+    if OPTION_LIMIT < n {
         return not_loaded(Cause::OptionCount);
     }
-    if t.len() < 1024 {
+    if t.len() < TABLE_LIMIT {
         return not_loaded(Cause::WorkTable);
     }
-    let mut o = [[0u32; 4]; 32];
+    let mut o = [[0u32; 4]; OPEN_LIMIT];
     let r = read_on(n, s, t, &mut o, first_cursor(), 4294967296);
     let w = is_whole(t, r);
     let b = block_of(r, &o);

@@ -14,6 +14,9 @@ use reader::first_cursor;
 use reader::read_on;
 use scanner::Cause;
 use scanner::Mark;
+use scanner::OPEN_LIMIT;
+use work_table::OPTION_LIMIT;
+use work_table::TABLE_LIMIT;
 use work_table::clear;
 
 // Why a call is turned down: the cause, the stream (0: none) and the byte.
@@ -92,13 +95,13 @@ pub fn checked_at(r: Reached) -> Checking
 pub fn check(n: u32, s: &[u8], t: &mut [[u32; 6]]) -> Checking
     ensures { λ r. ⌜ Checks noRecord n (now (s .entry)) (now (t .entry)) (record { answer = checkingOf r; table = now (t .exit) }) ⌝ }
 {
-    if 32 < n {
+    if OPTION_LIMIT < n {
         return Checking::Refused(early(Cause::OptionCount));
     }
-    if t.len() < 1024 {
+    if t.len() < TABLE_LIMIT {
         return Checking::Refused(early(Cause::WorkTable));
     }
-    let mut o = [[0u32; 4]; 32];
+    let mut o = [[0u32; 4]; OPEN_LIMIT];
     let r = read_on(n, s, t, &mut o, first_cursor(), 4294967296);
     let z = t.len();
     clear(t, z);

@@ -9,7 +9,7 @@ use native.Mathlib.Omega.{arith}
 use lib.Dec.{ltb, eqb}
 use lib.ListN.{length, getD, drop, set, replicate, getElem?}
 use borrow.Author.Tests.{eq-eqb, ne-eqb, lt-ltb, le-ltb}
-use Rattle.reading.specs.Limits.{optionLimit, tableLimit}
+use Rattle.reading.specs.Limits.{optionLimit, openLimit, tableLimit}
 use Rattle.reading.specs.Bytes.{opener, closer, tilde, colon, dot, blank, lineFeed, isDigit}
 use Rattle.reading.specs.Nodes.{Ref, terminal, entry, temporary, isKept, child, Node, newNode, noNode, node, stamp, bars}
 use Rattle.reading.specs.Causes.{notStorable}
@@ -110,7 +110,7 @@ next-at n bytes s d b bs e nb =
 
 module _ (n a : ℕ) (z : State) (d : Drawing) (bytes : List ℕ) where
   -- `(`
-  open-node : (s : State) (o : List Open) → ltb (length o) optionLimit ≡ true → ltb n (level (s .place)) ≡ false
+  open-node : (s : State) (o : List Open) → ltb (length o) openLimit ≡ true → ltb n (level (s .place)) ≡ false
       → brings n s d opener false (nodeBegins bytes (s .place) o opener) ≡ traced (goes (state (moved (s .place) (s .place .at + 1) begins (inFirst ∷ o)) (s .size) (s .covered) (s .complement) (s .table) (s .pair))) d
   unfolding after withElement draw
   open-node s o p q = rw (p, q) refl

@@ -29,10 +29,14 @@ use meeting::Writing;
 use meeting::Written;
 use meeting::ending_of;
 use pending_text::Sent;
+use pending_text::WAITING_LIMIT;
 use scanner::Cause;
+use scanner::OPEN_LIMIT;
 use text_walk::Task;
 use text_walk::stream;
 use unique_table::clear;
+use work_table::OPTION_LIMIT;
+use work_table::TABLE_LIMIT;
 use work_table::clear as clear_table;
 use work_table::differs;
 
@@ -147,7 +151,14 @@ fn ignores_second(op: u32) -> bool
 
 // Where an input enters the run: at its outermost node, if its table has that, or at the terminal there, if it is not asked (v); else at the first
 // block of its text.
-fn enter(n: u32, s: &[u8], t: &mut [[u32; 6]], o: &mut [[u32; 4]; 32], l: Loaded, v: bool) -> Begun
+fn enter(
+    n: u32,
+    s: &[u8],
+    t: &mut [[u32; 6]],
+    o: &mut [[u32; 4]; OPEN_LIMIT],
+    l: Loaded,
+    v: bool,
+) -> Begun
     ensures { λ r. ⌜ begunIn r (now (o .exit)) (now (s .entry)) (now (t .exit)) ≡ entered v (now (s .entry)) (blockIn (l .block) (now (o .entry))) (loadIn l (now (t .entry))) (begunFrom n (now (s .entry)) (now (o .entry)) (now (t .entry))) ⌝ }
 {
     let whole = l.whole;
@@ -193,22 +204,22 @@ pub fn combine(
 ) -> Writing
     ensures { λ r. ⌜ Combines (replicate 6 0) (replicate 12 0) n op size (now (x .entry)) (now (y .entry)) (now (out .entry)) (now (t1 .entry)) (now (t2 .entry)) (now (t .entry)) (record { answer = writingOf r; first = now (t1 .exit); second = now (t2 .exit); third = now (t .exit); output = now (out .exit) }) ⌝ }
 {
-    if 32 < n {
+    if OPTION_LIMIT < n {
         return Writing::Refused(early(Cause::OptionCount));
     }
     if 15 < op {
         return Writing::Refused(early(Cause::OperatorCode));
     }
-    if 1024 < size {
+    if TABLE_LIMIT < size as usize {
         return Writing::Refused(early(Cause::SizeToWrite));
     }
-    if t1.len() < 1024 {
+    if t1.len() < TABLE_LIMIT {
         return Writing::Refused(early(Cause::WorkTable));
     }
-    if t2.len() < 1024 {
+    if t2.len() < TABLE_LIMIT {
         return Writing::Refused(early(Cause::WorkTable));
     }
-    if t.len() < 1024 {
+    if t.len() < TABLE_LIMIT {
         return Writing::Refused(early(Cause::WorkTable));
     }
     let a = load(n, x, t1);
@@ -228,11 +239,11 @@ pub fn combine(
         size: size,
         covered: c,
     };
-    let mut o1 = [[0u32; 4]; 32];
-    let mut o2 = [[0u32; 4]; 32];
+    let mut o1 = [[0u32; 4]; OPEN_LIMIT];
+    let mut o2 = [[0u32; 4]; OPEN_LIMIT];
     let f = enter(n, x, t1, &mut o1, a, ignores_first(op));
     let g = enter(n, y, t2, &mut o2, b, ignores_second(op));
-    let mut w = [0u8; 2400];
+    let mut w = [0u8; WAITING_LIMIT];
     let mut m = [[0u32; 9]; 2048];
     let r = stream(
         k,

@@ -21,7 +21,10 @@ use reader::Reached;
 use reader::first_cursor;
 use reader::read_on;
 use scanner::Cause;
+use scanner::OPEN_LIMIT;
 use work_table::Edge;
+use work_table::OPTION_LIMIT;
+use work_table::TABLE_LIMIT;
 use work_table::clear;
 use work_table::first_edge;
 use work_table::get;
@@ -75,7 +78,7 @@ fn decided_at(r: Reached, v: Verdict) -> Deciding
 }
 
 // The word w, which the loop's last element passed.
-fn word_at(t: &[[u32; 6]], o: &[[u32; 4]; 32], n: u32, r: Reached, w: u64) -> Verdict
+fn word_at(t: &[[u32; 6]], o: &[[u32; 4]; OPEN_LIMIT], n: u32, r: Reached, w: u64) -> Verdict
     requires { ⌜ (n ≤ 32) × ((r .deep ≤ 32) × (r .from ≤ w)) ⌝ }
     ensures { λ x. ⌜ verdictsOf x ≡ wordAt (now (t .entry)) n (reachedIn r (now (o .entry))) w ⌝ }
 {
@@ -89,16 +92,16 @@ fn word_at(t: &[[u32; 6]], o: &[[u32; 4]; 32], n: u32, r: Reached, w: u64) -> Ve
 pub fn decide(n: u32, s: &[u8], w: u64, t: &mut [[u32; 6]]) -> Deciding
     ensures { λ r. ⌜ Decides noRecord n (now (s .entry)) w (now (t .entry)) (record { answer = decidingOf r; table = now (t .exit) }) ⌝ }
 {
-    if 32 < n {
+    if OPTION_LIMIT < n {
         return Deciding::Refused(early(Cause::OptionCount));
     }
-    if t.len() < 1024 {
+    if t.len() < TABLE_LIMIT {
         return Deciding::Refused(early(Cause::WorkTable));
     }
     if 1u64 << n <= w {
         return Deciding::Refused(early(Cause::WordRange));
     }
-    let mut o = [[0u32; 4]; 32];
+    let mut o = [[0u32; 4]; OPEN_LIMIT];
     let r = read_on(n, s, t, &mut o, first_cursor(), w);
     let h = r.halted;
     if h {

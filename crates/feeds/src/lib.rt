@@ -14,6 +14,7 @@ use edges::Edge;
 use edges::first_edge;
 use edges::second_edge;
 use reader::first_cursor;
+use scanner::OPEN_LIMIT;
 use work_table::get as row_at;
 
 // An input at a part: inside its text, at the block that was read last, which begins with the part and is smaller; or at an edge
@@ -84,7 +85,14 @@ pub fn first_half(t: &[[u32; 6]], i: u32, f: Feed, b: Block) -> Feed
 }
 
 // For a second half the next block is read, if the input is inside its text. o: the open nodes there
-fn read_on(n: u32, s: &[u8], t: &mut [[u32; 6]], o: &mut [[u32; 4]; 32], f: Feed, b: Block) -> Block
+fn read_on(
+    n: u32,
+    s: &[u8],
+    t: &mut [[u32; 6]],
+    o: &mut [[u32; 4]; OPEN_LIMIT],
+    f: Feed,
+    b: Block,
+) -> Block
     ensures { λ r. ⌜ record { block = blockIn r (now (o .exit)); table = now (t .exit) } ≡ readBy n (now (s .entry)) f (blockIn b (now (o .entry))) (now (t .entry)) ⌝ }
 {
     let inside = f.inside;
@@ -108,7 +116,7 @@ fn second_feed(t: &[[u32; 6]], i: u32, f: Feed, b: Block) -> Feed
 }
 
 // THE FIRST BLOCK of a stream: the input at the outermost node. o: cells for its open nodes
-pub fn begin(n: u32, s: &[u8], t: &mut [[u32; 6]], o: &mut [[u32; 4]; 32]) -> Begun
+pub fn begin(n: u32, s: &[u8], t: &mut [[u32; 6]], o: &mut [[u32; 4]; OPEN_LIMIT]) -> Begun
     ensures { λ r. ⌜ begunIn r (now (o .exit)) (now (s .entry)) (now (t .exit)) ≡ begunFrom n (now (s .entry)) (now (o .entry)) (now (t .entry)) ⌝ }
 {
     let b = next_block(n, s, t, o, first_cursor());
@@ -129,7 +137,7 @@ pub fn second_half(
     i: u32,
     s: &[u8],
     t: &mut [[u32; 6]],
-    o: &mut [[u32; 4]; 32],
+    o: &mut [[u32; 4]; OPEN_LIMIT],
     f: Feed,
     b: Block,
 ) -> Begun

@@ -22,7 +22,11 @@ use reader::Cursor;
 use reader::first_cursor;
 use reader::read_on;
 use scanner::Cause;
+use scanner::OPEN_LIMIT;
 use work_table::Edge;
+use work_table::TABLE_LIMIT;
+use work_table::TRUTH_TABLE_LEAST;
+use work_table::TRUTH_TABLE_MOST;
 use work_table::clear;
 use work_table::first_edge;
 use work_table::get;
@@ -94,7 +98,7 @@ fn fill_words(n: u32, s: &[u8], v: &mut [u8], t: &mut [[u32; 6]])
     requires { ⌜ (3 ≤ n) × ((n ≤ 16) × ((1024 ≤ length (now t)) × ((reading n (now s) .fault ≡ none) × (now v ≡ replicate (2 ^ n / 8) 0)))) ⌝ }
     ensures { λ _. ⌜ (now (v .exit) ≡ bytesFrom (2 ^ n / 8) n (trace n (now (s .entry))) 0) × AsLong (now (t .exit)) (now (t .entry)) ⌝ }
 {
-    let mut o = [[0u32; 4]; 32];
+    let mut o = [[0u32; 4]; OPEN_LIMIT];
     let mut c = first_cursor();
     loop {
         let p = c.run;
@@ -126,19 +130,19 @@ fn fill_words(n: u32, s: &[u8], v: &mut [u8], t: &mut [[u32; 6]])
 pub fn fill(n: u32, s: &[u8], v: &mut [u8], t: &mut [[u32; 6]]) -> Filling
     ensures { λ r. ⌜ Fills noRecord n (now (s .entry)) (now (v .entry)) (now (t .entry)) (record { answer = fillingOf r; table = now (t .exit); truths = now (v .exit) }) ⌝ }
 {
-    if n < 3 {
+    if n < TRUTH_TABLE_LEAST {
         return Filling::Refused(early(Cause::OptionCount));
     }
-    if 16 < n {
+    if TRUTH_TABLE_MOST < n {
         return Filling::Refused(early(Cause::OptionCount));
     }
-    if t.len() < 1024 {
+    if t.len() < TABLE_LIMIT {
         return Filling::Refused(early(Cause::WorkTable));
     }
     if v.len() != (1usize << n) / 8 {
         return Filling::Refused(early(Cause::TruthTable));
     }
-    let mut o = [[0u32; 4]; 32];
+    let mut o = [[0u32; 4]; OPEN_LIMIT];
     let r = read_on(n, s, t, &mut o, first_cursor(), 4294967296);
     let f = r.faulty;
     if f {

@@ -11,11 +11,10 @@ use job::Parsing;
 use libc::STDIN_FILENO;
 use libc::STDOUT_FILENO;
 use report::LINE_LIMIT;
+use work_table::TABLE_LIMIT;
 
 // A job has at most JOB_LIMIT bytes; one more shows that the input has more.
 const INPUT_LIMIT: usize = JOB_LIMIT + 1;
-
-const TABLE_LIMIT: usize = 1024;
 
 // An output of JOB_LIMIT bytes and a last line have room.
 const REPORT_LIMIT: usize = JOB_LIMIT + LINE_LIMIT;

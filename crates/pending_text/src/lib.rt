@@ -8,6 +8,9 @@ ghost use Rattle.writing.specs.Texts.{decimal, tildeIf, storing};
 ghost use Rattle.engine.specs.Pending.{pushAll, waitIn, closeIn};
 ghost use Rattle.engine.specs.Engine.{sendText};
 
+// So many bytes wait at most: 70 for each of 32 open levels, and 144 while a node ends, in round numbers.
+pub const WAITING_LIMIT: usize = 2400;
+
 // ---- The text that waits: the first m bytes of w
 
 pub fn push(w: &mut [u8], m: usize, b: u8) -> usize

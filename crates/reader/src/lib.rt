@@ -16,6 +16,7 @@ use scanner::Cause;
 use scanner::Element;
 use scanner::Look;
 use scanner::Mark;
+use scanner::OPEN_LIMIT;
 use scanner::Open;
 use scanner::Ref;
 use scanner::Sight;
@@ -24,7 +25,9 @@ use scanner::is_two;
 use scanner::kinds;
 use scanner::look_at;
 use scanner::spots_of;
+use work_table::OPTION_LIMIT;
 use work_table::Row;
+use work_table::TABLE_LIMIT;
 use work_table::bit;
 use work_table::clear;
 use work_table::get;
@@ -148,7 +151,7 @@ fn turned(r: Run, at: usize, m: Mark) -> Run
 fn sized(r: Run, g: usize, v: u32, at: usize, m: Mark) -> Taken
     ensures { λ y. ⌜ y ≡ sizedTo r g v at m ⌝ }
 {
-    if 1024 < v {
+    if TABLE_LIMIT < v as usize {
         return fails(r, Cause::DeclaredSize, g);
     }
     let mut q = moved(r, at, m);
@@ -595,7 +598,7 @@ fn first_run() -> Run
 
 // The innermost of d open nodes. o: the open nodes, the outermost first: the number and the stamp of what the first child was, then 1 or 0 for whether
 // the second child has begun, and whether a `~` stands before it.
-fn open_at(o: &[[u32; 4]; 32], d: usize) -> Open
+fn open_at(o: &[[u32; 4]; OPEN_LIMIT], d: usize) -> Open
     ensures { λ r. ⌜ r ≡ lowOf (opensIn (now (o .entry)) d) ⌝ }
 {
     let p = spots_of(d);
@@ -613,7 +616,7 @@ fn open_at(o: &[[u32; 4]; 32], d: usize) -> Open
 }
 
 // The innermost of d open nodes becomes e, and one that opens after it is in its first child.
-fn put_open(o: &mut [[u32; 4]; 32], d: usize, e: Open)
+fn put_open(o: &mut [[u32; 4]; OPEN_LIMIT], d: usize, e: Open)
     ensures { λ _. ⌜ nodesIn (now (o .exit)) ≡ nodesTo (nodesIn (now (o .entry))) d e ⌝ }
 {
     let p = spots_of(d);
@@ -631,7 +634,7 @@ fn run_on(
     n: u32,
     s: &[u8],
     t: &mut [[u32; 6]],
-    o: &mut [[u32; 4]; 32],
+    o: &mut [[u32; 4]; OPEN_LIMIT],
     first: Run,
     around: usize,
     stop: u64,
@@ -703,10 +706,10 @@ pub fn first_cursor() -> Cursor
 fn is_off(n: u32, d: usize, stop: u64) -> bool
     ensures { λ r. ⌜ r ≡ offBy n d stop ⌝ }
 {
-    if 32 < n {
+    if OPTION_LIMIT < n {
         return true;
     }
-    if 32 < d {
+    if OPEN_LIMIT < d {
         return true;
     }
     4294967296 < stop
@@ -717,7 +720,7 @@ pub fn read_on(
     n: u32,
     s: &[u8],
     t: &mut [[u32; 6]],
-    o: &mut [[u32; 4]; 32],
+    o: &mut [[u32; 4]; OPEN_LIMIT],
     c: Cursor,
     stop: u64,
 ) -> Reached

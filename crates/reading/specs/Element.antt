@@ -7,7 +7,7 @@ use mathlib.Core.Option.{Option, none, some}
 use Prim.Native.Nat.{ℕ, _+_, _*_, _-_}
 use lib.Dec.{ltb, eqb}
 use lib.ListN.{length, drop, getElem?}
-use Rattle.reading.specs.Limits.{optionLimit}
+use Rattle.reading.specs.Limits.{openLimit}
 use Rattle.reading.specs.Bytes.{opener, closer, tilde, colon, dot, blank, lineFeed, digitZero, isDigit}
 use Rattle.reading.specs.Nodes.{Ref, temporary}
 use Rattle.reading.specs.Causes.{Cause, wrongByte, tooDeep}
@@ -113,7 +113,7 @@ storingRead p unread = waits p
 -- A node begins at the place, whose byte is b, inside the open nodes o.
 abbrev pub nodeBegins : List ℕ → Place → List Open → ℕ → Step
 nodeBegins bytes p o b =
-    cond (eqb b opener) (cond (ltb (length o) optionLimit) (gives opening (moved p (p .at + 1) begins (inFirst ∷ o))) (fails p tooDeep (p .at)))
+    cond (eqb b opener) (cond (ltb (length o) openLimit) (gives opening (moved p (p .at + 1) begins (inFirst ∷ o))) (fails p tooDeep (p .at)))
     (cond (isDigit b) (numberRead p o (numberAt bytes (p .at) b))
     (fails p wrongByte (p .at)))
 

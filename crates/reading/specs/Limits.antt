@@ -1,9 +1,13 @@
 -- The limits of document 01, each named once. No law but a computed example depends on their values. Assumes nothing.
 use Prim.Native.Nat.{ℕ}
 
--- "The option count n is 0 to 32." "At most 32 nodes are open at one time."
+-- "The option count n is 0 to 32."
 abbrev pub optionLimit : ℕ
 optionLimit = 32
+
+-- "At most 32 nodes are open at one time"
+abbrev pub openLimit : ℕ
+openLimit = 32
 
 -- "declared size above 1,024", "size to write above 1,024", "a work table under 1,024 records"
 abbrev pub tableLimit : ℕ

@@ -11,7 +11,7 @@ use lib.ListN.{length, getD, set, replicate, getElem?}
 use borrow.Author.Tests.{ltb-false, eqb-true, eqb-false}
 use Rattle.lists.specs.Lists.{or-l, or-r, decide-le}
 use Rattle.lists.specs.Looks.{look-inside}
-use Rattle.reading.specs.Limits.{optionLimit, tableLimit}
+use Rattle.reading.specs.Limits.{openLimit, tableLimit}
 use Rattle.reading.specs.Bytes.{opener, closer, tilde, colon, dot, blank, lineFeed, isDigit}
 use Rattle.reading.specs.Nodes.{Ref, terminal, entry, temporary, isKept, noNode, node, stamp, bars}
 use Rattle.reading.specs.Causes.{Cause, wrongByte, declaredSize, tooDeep, notInTable, otherLevel, notStorable, badNumber}
@@ -95,7 +95,7 @@ module _ (n i : ℕ) (bytes : List ℕ) (d : Drawing) where
   unfolding after withElement draw
   on-node s o b e h =
       step-cond s (eqb b opener) _ _
-      (λ _. step-cond s (ltb (length o) optionLimit) _ _
+      (λ _. step-cond s (ltb (length o) openLimit) _ _
       (λ _. read-cond s opening (ltb n (level (s .place))) _ _ (λ _. refuses tooDeep (s .place .at)) (λ j. opens (s .place .at + 1) o h (ltb-false _ _ j)))
       (λ _. on-stop s tooDeep (s .place .at)))
       (λ _. step-cond s (isDigit b) _ _ (λ _. on-number s o e h (numberAt bytes (s .place .at) b)) (λ _. on-stop s wrongByte (s .place .at)))

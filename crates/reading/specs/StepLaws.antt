@@ -13,7 +13,7 @@ use lib.Seq.{drop-append-le}
 use borrow.Author.Tests.{ne-eqb}
 use Rattle.lists.specs.Lists.{decide-le}
 use Rattle.lists.specs.Looks.{look-append, look-some}
-use Rattle.reading.specs.Limits.{optionLimit}
+use Rattle.reading.specs.Limits.{openLimit}
 use Rattle.reading.specs.Bytes.{opener, closer, tilde, colon, dot, blank, lineFeed, digitZero, isDigit}
 use Rattle.reading.specs.Causes.{Cause, wrongByte, tooDeep, causeRow}
 use Rattle.reading.specs.Causes as C
@@ -205,7 +205,7 @@ module _ (bytes : List ℕ) (p : Place) (b : ℕ) (inside : p .at < length bytes
   nodeBegins-ahead : (o : List Open) → Far (nodeBegins bytes p o b)
   nodeBegins-ahead o =
       far-cond (eqb b opener) _ _
-      (λ e. far-cond (ltb (length o) optionLimit) _ _ (λ _. (omega arith, omega arith, omega arith)) (λ _. far-fails tooDeep (p .at) refl (omega arith) inside))
+      (λ e. far-cond (ltb (length o) openLimit) _ _ (λ _. (omega arith, omega arith, omega arith)) (λ _. far-fails tooDeep (p .at) refl (omega arith) inside))
       (λ _. far-cond (isDigit b) _ _
       (λ e. let g : eqb b blank ≡ false = digit-not-blank b e in
       let k : digitPlace (p .at) b < p .at + 1 = rw g (omega arith) in

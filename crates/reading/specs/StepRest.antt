@@ -11,7 +11,7 @@ use lib.Dec.{ltb, eqb}
 use lib.ListN.{length, drop, getElem?, length-append}
 use Rattle.lists.specs.Lists.{and-l, and-r, is-false}
 use Rattle.lists.specs.Splits.{clash, and-not, nil-cons, head-same, tail-same, drop-past, head-at, none-at}
-use Rattle.reading.specs.Limits.{optionLimit}
+use Rattle.reading.specs.Limits.{openLimit}
 use Rattle.reading.specs.Bytes.{opener, closer, tilde, colon, dot, blank, lineFeed, digitZero, isDigit}
 use Rattle.reading.specs.Nodes.{Ref}
 use Rattle.reading.specs.Causes.{wrongByte, tooDeep}
@@ -259,7 +259,7 @@ node-fits : (bytes : List ℕ) (p : Place) → (p .mark ≡ over → ⊥) → (o
     → (bs : List ℕ) → drop (p .at) bytes ≡ b ∷ bs → FitsStep p (b ∷ bs) (nodeBegins bytes p o b)
 node-fits bytes p n o b inn out bs h =
     fits-cond p (b ∷ bs) (eqb b opener) _ _
-    (λ e. fits-cond p (b ∷ bs) (ltb (length o) optionLimit) _ _ (λ _. opened (eqb-true b opener e)) (λ _. deep (p .at)))
+    (λ e. fits-cond p (b ∷ bs) (ltb (length o) openLimit) _ _ (λ _. opened (eqb-true b opener e)) (λ _. deep (p .at)))
     (λ e. fits-cond p (b ∷ bs) (isDigit b) _ _
     (λ d. number-fits p [] o b bs (λ zs k. inn zs (number-node k)) (λ zs k. node-number d (out zs k)) (p .at) _ (omega arith) n
     (scanned bytes (p .at) b bs h d))

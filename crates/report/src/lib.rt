@@ -16,8 +16,7 @@ use checker::Refusal;
 use meeting::Ending;
 use meeting::Writing;
 use meeting::Written;
-
-const OPTION_LIMIT: u32 = 32;
+use work_table::OPTION_LIMIT;
 
 // The last line has room.
 pub const LINE_LIMIT: usize = 80;

@@ -9,7 +9,7 @@ use Prim.Native.Nat.{ℕ, _+_}
 use lib.Dec.{ltb, eqb}
 use lib.ListN.{length, getElem?}
 use Rattle.scanner.specs.Kinds.{kindTable, digitIn, numberBy, digit-in, number-by}
-use Rattle.reading.specs.Limits.{optionLimit}
+use Rattle.reading.specs.Limits.{openLimit}
 use Rattle.reading.specs.Bytes.{opener, closer, tilde, colon, dot, blank, lineFeed, isDigit}
 use Rattle.reading.specs.Nodes.{Ref}
 use Rattle.reading.specs.Causes.{Cause, wrongByte, tooDeep}
@@ -87,7 +87,7 @@ storingSeen at m unread = waited at m
 -- two: the node that begins is a second child; depth: the nodes that are open; b: the byte at the place
 abbrev pub nodeSeen : List ℕ → List ℕ → ℕ → Mark → ℕ → Bool → ℕ → Glance
 nodeSeen k bytes at m depth two b =
-    cond (eqb b opener) (cond (ltb depth optionLimit) (gave opening (at + 1) begins (cond two secondPush push)) (failed at m tooDeep at))
+    cond (eqb b opener) (cond (ltb depth openLimit) (gave opening (at + 1) begins (cond two secondPush push)) (failed at m tooDeep at))
     (cond (digitIn k b) (numberSeen at m (cond two (second false) same) (numberBy k bytes at b))
     (failed at m wrongByte at))
 
@@ -171,8 +171,8 @@ same-node : (bytes : List ℕ) (at : ℕ) (m : Mark) (o : List Open) (r : Ref) (
 same-node bytes at m o r two q b e f l =
     let p = place at m o r in
     same-cond p (eqb b opener) _ _ _ _
-    (subst (λ (k : ℕ). Same p (cond (ltb (length q) optionLimit) (gives opening (moved p (at + 1) begins (inFirst ∷ q))) (fails p tooDeep at)) (cond (ltb k optionLimit) (gave opening (at + 1) begins (cond two secondPush push)) (failed at m tooDeep at))) l
-    (same-cond p (ltb (length q) optionLimit) _ _ _ _ (ap (λ (u : List Open). gives opening (place (at + 1) begins u r)) f) refl))
+    (subst (λ (k : ℕ). Same p (cond (ltb (length q) openLimit) (gives opening (moved p (at + 1) begins (inFirst ∷ q))) (fails p tooDeep at)) (cond (ltb k openLimit) (gave opening (at + 1) begins (cond two secondPush push)) (failed at m tooDeep at))) l
+    (same-cond p (ltb (length q) openLimit) _ _ _ _ (ap (λ (u : List Open). gives opening (place (at + 1) begins u r)) f) refl))
     (same-digit p b _ _ _ _ (same-number at m o r (cond two (second false) same) q e (numberAt bytes at b) (numberBy kindTable bytes at b) (number-by bytes at b)) refl)
 
 same-space : (bytes : List ℕ) (at : ℕ) (m : Mark) (o : List Open) (r : Ref) (x : Option ℕ) → Same (place at m (inFirst ∷ o) r) (afterSpace bytes (place at m (inFirst ∷ o) r) (inSecond r false ∷ o) x) (spaceSeen kindTable bytes at m x)

@@ -11,7 +11,7 @@ use borrow.Author.Tests.{eq-eqb, ne-eqb, lt-ltb, le-ltb}
 use Rattle.lists.specs.Lists.{decide-eq}
 use Rattle.lists.specs.Looks.{look-past, look-inside}
 use mathlib.Core.Logic.{⊎-elim, _≢_}
-use Rattle.reading.specs.Limits.{optionLimit}
+use Rattle.reading.specs.Limits.{openLimit}
 use Rattle.reading.specs.Bytes.{opener, closer, tilde, blank, lineFeed}
 use Rattle.reading.specs.Causes.{wrongByte, tooDeep}
 use Rattle.reading.specs.Element.{opening, number, constant, turn, closing, storing, Mark, lead, begins, afterDigit, afterOne, Scan, read, unread}
@@ -94,11 +94,11 @@ module _ (t : Bool) (v e : ℕ) (x : Scan) (h : cond t (read v e) unread ≡ cap
 
 -- k: the table of kinds that code has lent; b: the byte at the place
 module _ (k bytes : List ℕ) (at : ℕ) (m : Mark) (depth : ℕ) (b : ℕ) where
-  pub node-deep : (two : Bool) → b ≡ opener → optionLimit ≤ depth → failed at m tooDeep at ≡ capGlance (nodeSeen k bytes at m depth two b)
-  node-deep two e l = rw (eq-eqb b opener e, le-ltb depth optionLimit l) refl
+  pub node-deep : (two : Bool) → b ≡ opener → openLimit ≤ depth → failed at m tooDeep at ≡ capGlance (nodeSeen k bytes at m depth two b)
+  node-deep two e l = rw (eq-eqb b opener e, le-ltb depth openLimit l) refl
 
-  pub node-push : (two : Bool) → b ≡ opener → depth < optionLimit → gave opening (at + 1) begins (cond two secondPush push) ≡ capGlance (nodeSeen k bytes at m depth two b)
-  node-push two e l = rw (eq-eqb b opener e, lt-ltb depth optionLimit l) refl
+  pub node-push : (two : Bool) → b ≡ opener → depth < openLimit → gave opening (at + 1) begins (cond two secondPush push) ≡ capGlance (nodeSeen k bytes at m depth two b)
+  node-push two e l = rw (eq-eqb b opener e, lt-ltb depth openLimit l) refl
 
   pub node-wrong : (two : Bool) → (b ≡ opener → ⊥) → digitIn k b ≡ false → failed at m wrongByte at ≡ capGlance (nodeSeen k bytes at m depth two b)
   node-wrong two e d = rw (ne-eqb b opener e, d) refl

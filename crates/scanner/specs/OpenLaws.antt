@@ -11,7 +11,7 @@ use lib.Dec.{ltb, eqb}
 use lib.ListN.{length, getD, set, getElem?, length-set}
 use lib.Seq.{getD-set-same, getD-set-other, set-set, set-comm}
 use borrow.Author.Tests.{ltb-true, ltb-false, lt-ltb, ne-eqb}
-use Rattle.reading.specs.Limits.{optionLimit}
+use Rattle.reading.specs.Limits.{openLimit}
 use Rattle.reading.specs.Bytes.{opener, closer, tilde, colon, dot, blank, lineFeed}
 use Rattle.reading.specs.Element as T
 use Rattle.reading.specs.Reading.{isStart}
@@ -149,7 +149,7 @@ module _ (ns : List Open) (long : length ns ≡ 32) (r : Ref) where
 -- ---- A node opens only where there is room ---------------------------------------------------
 
 abbrev Roomy : ℕ → Glance → Type 0
-Roomy depth g = Pushes (g .change) → depth < optionLimit
+Roomy depth g = Pushes (g .change) → depth < openLimit
 
 module _ (k : List ℕ) (depth : ℕ) where
   room-cond : (t : Bool) (x y : Glance) → (t ≡ true → Roomy depth x) → (t ≡ false → Roomy depth y) → Roomy depth (cond t x y)
@@ -163,7 +163,7 @@ module _ (k : List ℕ) (depth : ℕ) where
   room-node : (bytes : List ℕ) (at : ℕ) (m : T.Mark) (two : Bool) (b : ℕ) → Roomy depth (nodeSeen k bytes at m depth two b)
   room-node bytes at m two b =
       room-cond (eqb b opener) _ _
-      (λ _. room-cond (ltb depth optionLimit) _ _ (λ e _. ltb-true _ _ e) (λ _ p. absurd p))
+      (λ _. room-cond (ltb depth openLimit) _ _ (λ e _. ltb-true _ _ e) (λ _ p. absurd p))
       (λ _. room-cond (digitIn k b) _ _ (λ _. go two) (λ _ p. absurd p))
     where
       go : (t : Bool) → Roomy depth (numberSeen at m (cond t (second false) same) (numberBy k bytes at b))
@@ -209,7 +209,7 @@ module _ (k : List ℕ) (depth : ℕ) where
   room-by bytes at T.afterOne top b = room-end bytes at T.afterOne top false b
   room-by bytes at T.over top b = λ p. absurd p
 
-pub glance-room : (k bytes : List ℕ) (at : ℕ) (m : T.Mark) (top : Top) (depth : ℕ) → Pushes (glance k bytes at m top depth .change) → depth < optionLimit
+pub glance-room : (k bytes : List ℕ) (at : ℕ) (m : T.Mark) (top : Top) (depth : ℕ) → Pushes (glance k bytes at m top depth .change) → depth < openLimit
 unfolding glance
 glance-room k bytes at m top depth = go (getElem? bytes at)
   where
@@ -263,7 +263,7 @@ module _ (k : List ℕ) (m : T.Mark) where
     firm-node : (bytes : List ℕ) (at depth : ℕ) (two : Bool) (b : ℕ) → FirmBy (nodeSeen k bytes at m depth two b)
     firm-node bytes at depth two b =
         firm-cond (eqb b opener) _ _
-        (firm-cond (ltb depth optionLimit) _ _ (refl, later) tt)
+        (firm-cond (ltb depth openLimit) _ _ (refl, later) tt)
         (firm-cond (digitIn k b) _ _ (firm-number at _ (numberBy k bytes at b)) tt)
 
     firm-space : (bytes : List ℕ) (at : ℕ) (x : Option ℕ) → FirmBy (spaceSeen k bytes at m x)

@@ -11,6 +11,12 @@ ghost use Rattle.scanner.specs.Cite.{outcomeIn, scanOf, markOf, topsOf, 
 
 mod kind;
 
+// At most so many nodes are open at one time.
+pub const OPEN_LIMIT: usize = 32;
+
+// The last place among them.
+const LAST_OPEN: usize = OPEN_LIMIT - 1;
+
 // The bytes of a stream, named as their definitions are.
 const OPENER: u8 = b'(';
 
@@ -323,7 +329,7 @@ fn node_seen(k: &[u8; 256], s: &[u8], at: usize, m: Mark, d: usize, two: bool) -
 {
     let b = s[at];
     if b == OPENER {
-        if 32 <= d {
+        if OPEN_LIMIT <= d {
             return failed(at, m, d, Cause::TooDeep, at);
         }
         return gave(Sight::Opening, 0, at + 1, Mark::Begins, d + 1, two, false);
@@ -568,7 +574,7 @@ pub struct Open {
 // The open nodes, the outermost first, and how many there are.
 #[repr(C)]
 pub struct Opens {
-    pub nodes: [Open; 32],
+    pub nodes: [Open; OPEN_LIMIT],
     pub depth: usize,
 }
 
@@ -633,21 +639,27 @@ pub fn spots_of(d: usize) -> Spots
     ensures { λ r. ⌜ r ≡ spotsOf d ⌝ }
 {
     if d == 0 {
-        return Spots { low: 31, high: 0 };
+        return Spots {
+            low: LAST_OPEN,
+            high: 0,
+        };
     }
-    if d < 32 {
+    if d < OPEN_LIMIT {
         return Spots {
             low: d - 1,
             high: d,
         };
     }
-    Spots { low: 31, high: 31 }
+    Spots {
+        low: LAST_OPEN,
+        high: LAST_OPEN,
+    }
 }
 
 fn deep(d: usize) -> usize
     ensures { λ r. ⌜ r ≡ deepOf d ⌝ }
 {
-    if 32 < d { 32 } else { d }
+    if OPEN_LIMIT < d { OPEN_LIMIT } else { d }
 }
 
 // What a look at the bytes comes to: the outcome with its number, the place after it, how many nodes are open then, and the entry of the innermost
@@ -730,7 +742,7 @@ impl Place {
     {
         let e = inside();
         let o = Opens {
-            nodes: [e; 32],
+            nodes: [e; OPEN_LIMIT],
             depth: 0,
         };
         let r = Ref {

@@ -34,6 +34,8 @@ use pending_text::push_number;
 use pending_text::push_turn;
 use pending_text::send;
 use pending_text::wait;
+use scanner::OPEN_LIMIT;
+use work_table::OPTION_LIMIT;
 use work_table::differs;
 
 // ---- The walk
@@ -115,7 +117,7 @@ fn first_on(
     i: u32,
     s: &[u8],
     t: &mut [[u32; 6]],
-    o: &mut [[u32; 4]; 32],
+    o: &mut [[u32; 4]; OPEN_LIMIT],
     f: Feed,
     a: Applied,
 ) -> Begun
@@ -130,7 +132,7 @@ fn second_on(
     i: u32,
     s: &[u8],
     t: &mut [[u32; 6]],
-    o: &mut [[u32; 4]; 32],
+    o: &mut [[u32; 4]; OPEN_LIMIT],
     f: Feed,
     a: Applied,
 ) -> Begun
@@ -205,8 +207,8 @@ fn texts(
     g: Feed,
     b1: Block,
     b2: Block,
-    o1: &mut [[u32; 4]; 32],
-    o2: &mut [[u32; 4]; 32],
+    o1: &mut [[u32; 4]; OPEN_LIMIT],
+    o2: &mut [[u32; 4]; OPEN_LIMIT],
     t1: &mut [[u32; 6]],
     t2: &mut [[u32; 6]],
     t: &mut [[u32; 12]],
@@ -317,8 +319,8 @@ fn nodes(
     y: &[u8],
     f: Begun,
     g: Begun,
-    o1: &mut [[u32; 4]; 32],
-    o2: &mut [[u32; 4]; 32],
+    o1: &mut [[u32; 4]; OPEN_LIMIT],
+    o2: &mut [[u32; 4]; OPEN_LIMIT],
     t1: &mut [[u32; 6]],
     t2: &mut [[u32; 6]],
     t: &mut [[u32; 12]],
@@ -379,8 +381,8 @@ pub fn stream(
     y: &[u8],
     f: Begun,
     g: Begun,
-    o1: &mut [[u32; 4]; 32],
-    o2: &mut [[u32; 4]; 32],
+    o1: &mut [[u32; 4]; OPEN_LIMIT],
+    o2: &mut [[u32; 4]; OPEN_LIMIT],
     t1: &mut [[u32; 6]],
     t2: &mut [[u32; 6]],
     t: &mut [[u32; 12]],
@@ -390,7 +392,7 @@ pub fn stream(
 ) -> Sent
     ensures { λ r. ⌜ sentOf r (now (out .exit)) (now (w .exit)) ≡ streamBy k (begunIn f (now (o1 .entry)) (now (x .entry)) (now (t1 .entry)) ∷ begunIn g (now (o2 .entry)) (now (y .entry)) (now (t2 .entry)) ∷ []) (now (c .entry)) (now (t .entry)) (now (out .entry)) (now (w .entry)) ⌝ }
 {
-    if 32 < k.n {
+    if OPTION_LIMIT < k.n {
         return Sent {
             written: 0,
             full: true,

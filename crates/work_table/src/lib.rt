@@ -7,6 +7,16 @@ ghost use Rattle.lists.specs.Lists.{differ};
 ghost use Rattle.work_table.specs.Table.{noRow, getIn, putAt, countedTo, countAt, storeAt, clearTo};
 ghost use Rattle.work_table.specs.Edges.{firstEdge, secondEdge};
 
+// ---- Limits, by the names of the definitions
+
+pub const OPTION_LIMIT: u32 = 32;
+
+pub const TABLE_LIMIT: usize = 1024;
+
+pub const TRUTH_TABLE_LEAST: u32 = 3;
+
+pub const TRUTH_TABLE_MOST: u32 = 16;
+
 // ---- Records
 
 // A record of the table: the level (0: none), the children, the edge to the second complemented, how often the number was given out, and how

@@ -24,6 +24,7 @@ use meeting::pen_after;
 use meeting::pen_of;
 use meeting::second;
 use pending_text::Sent;
+use pending_text::WAITING_LIMIT;
 use pending_text::push;
 use pending_text::push_number;
 use pending_text::push_turn;
@@ -31,6 +32,9 @@ use pending_text::send;
 use pending_text::wait;
 use scanner::Cause;
 use unique_table::clear;
+use work_table::TABLE_LIMIT;
+use work_table::TRUTH_TABLE_LEAST;
+use work_table::TRUTH_TABLE_MOST;
 use work_table::differs;
 
 // ---- The walk over a truth table
@@ -222,23 +226,23 @@ fn answer(n: u32, covered: u64, x: Sent) -> Written
 pub fn write(n: u32, size: u32, v: &[u8], out: &mut [u8], t: &mut [[u32; 12]]) -> Writing
     ensures { λ r. ⌜ Writes (replicate 12 0) n size (now (v .entry)) (now (out .entry)) (now (t .entry)) (record { answer = writingOf r; table = now (t .exit); output = now (out .exit) }) ⌝ }
 {
-    if n < 3 {
+    if n < TRUTH_TABLE_LEAST {
         return Writing::Refused(early(Cause::OptionCount));
     }
-    if 16 < n {
+    if TRUTH_TABLE_MOST < n {
         return Writing::Refused(early(Cause::OptionCount));
     }
-    if 1024 < size {
+    if TABLE_LIMIT < size as usize {
         return Writing::Refused(early(Cause::SizeToWrite));
     }
-    if t.len() < 1024 {
+    if t.len() < TABLE_LIMIT {
         return Writing::Refused(early(Cause::WorkTable));
     }
     if v.len() != (1usize << n) / 8 {
         return Writing::Refused(early(Cause::TruthTable));
     }
     clear(t);
-    let mut w = [0u8; 2400];
+    let mut w = [0u8; WAITING_LIMIT];
     let x = stream(n, size, v, t, out, &mut w);
     clear(t);
     Writing::Done(answer(n, 1u64 << n, x))

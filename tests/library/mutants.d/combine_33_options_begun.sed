@@ -1,2 +1,2 @@
 # crates/combiner/src/lib.rt
-/^pub fn combine/,/^}/s/^    if 32 < n {/    if 33 < n {/
+/^pub fn combine/,/^}/s/^    if OPTION_LIMIT < n {/    if 33 < n {/

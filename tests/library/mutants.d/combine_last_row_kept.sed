@@ -1,2 +1,2 @@
 # crates/combiner/src/lib.rt
-/^fn clear_rows/,/^}/s/^    while i < t\.len() {/    while i + 1 < t.len() {/
+/^fn clear_rows/,/^}/s/let z = t\.len();/let z = t.len() - 1;/

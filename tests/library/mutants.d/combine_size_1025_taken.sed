@@ -1,2 +1,2 @@
 # crates/combiner/src/lib.rt
-/^pub fn combine/,/^}/s/^    if 1024 < size {/    if 1025 < size {/
+/^pub fn combine/,/^}/s/^    if TABLE_LIMIT < size as usize {/    if 1025 < size as usize {/

@@ -1,2 +1,2 @@
 # crates/reader/src/lib.rt
-s/^    if 1024 < v {/    if 1025 < v {/
+s/^    if TABLE_LIMIT < v as usize {/    if 1025 < v as usize {/
