@@ -6,7 +6,7 @@ use Prim.Native.Nat.{ℕ, suc, _+_, _-_, _<_, _≤_}
 use native.Mathlib.Omega.{arith}
 use lib.Dec.{eqb, ltb}
 use lib.ListN.{getD, set}
-use borrow.Author.Tests.{lt-ltb, le-ltb}
+use borrow.Author.Tests.{le-ltb}
 use Rattle.lists.specs.Lists.{differ, bit}
 use Rattle.reading.specs.Nodes.{Node, node, stamp}
 use Rattle.reading.specs.Bytes.{opener}
@@ -17,7 +17,7 @@ use Rattle.engine.specs.Engine as E
 use Rattle.engine.specs.Applying.{Source, firstSource, secondSource, passes, allPass, fixed}
 use Rattle.engine.specs.Memo.{keyOf, tells, isEmpty, isYoung, toldHalf, rememberIn, slotOf, rowFor, lookIn}
 use Rattle.engine.specs.MemoMade.{key-pair}
-use Rattle.engine.specs.Recalling.{Recalled, unnoted, alikePart, recallIn}
+use Rattle.engine.specs.Recalling.{Recalled, unnoted, recallIn}
 use Rattle.engine.specs.RecallMade.{recall-told, recall-full, recall-on, recall-again}
 use Rattle.combining.specs.EdgeMade.{and-none}
 use Rattle.work_table.specs.Table.{getIn}
@@ -119,12 +119,6 @@ module _ (op size d i m : ℕ) (x y : Edge) (t₁ t₂ μ t : List (List ℕ)) (
 
   place : s ≡ slotOf (keyOf xs)
   place = placed ∙ ap slotOf key-cells
-
-  -- cell by cell, by the cells of a key
-  abbrev heldBy : List ℕ → List ℕ → Bool
-  heldBy r z =
-      not (isEmpty r) && (eqb (getD r 3 0) (getD z 0 0) && (eqb (getD r 4 0) (getD z 1 0) && (eqb (getD r 5 0) (getD z 2 0)
-      && (eqb (getD r 6 0) (getD z 3 0) && (eqb (getD r 7 0) (getD z 4 0) && eqb (getD r 8 0) (getD z 5 0))))))
 
   and-assoc : (a b c : Bool) → (a && b && c) ≡ (a && (b && c))
   and-assoc true b c = refl

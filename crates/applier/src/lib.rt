@@ -1,8 +1,8 @@
 // Combining stored nodes: two inputs at edges of their own tables are walked together, with an operation cache of the parts that were walked.
 ghost use mathlib.Core.Path.{_≡_};
-ghost use mathlib.Core.Bool.{cond, true, false, not, _&&_, _||_};
-ghost use mathlib.Core.List.{List, [], _∷_};
-ghost use Prim.Native.Nat.{ℕ, _+_, _≤_};
+ghost use mathlib.Core.Bool.{false, not, _&&_};
+ghost use mathlib.Core.List.{[], _∷_};
+ghost use Prim.Native.Nat.{_+_, _≤_};
 ghost use Rattle.writing.specs.Run.{operate};
 ghost use Rattle.engine.specs.Memo.{slotOf};
 ghost use Rattle.engine.specs.Recalling.{recallIn};

@@ -1,9 +1,9 @@
 -- One law for each way through code that takes an input to the halves of a part. Assumes nothing.
-use mathlib.Core.Path.{_≡_, refl, sym, ap, ap₂, _∙_}
+use mathlib.Core.Path.{_≡_, refl, sym, ap, _∙_}
 use mathlib.Core.Bool.{Bool, true, false, cond}
-use mathlib.Core.List.{List, [], _∷_}
+use mathlib.Core.List.{List}
 use Prim.Native.Nat.{ℕ, _+_}
-use Rattle.engine.specs.Applying.{Source, firstSource, secondSource}
+use Rattle.engine.specs.Applying.{firstSource, secondSource}
 use Rattle.engine.specs.Taping as T
 use lib.ListN.{replicate}
 use Rattle.combining.specs.Tapes.{Tape, tapeAt, deepOf, sourceOf, nextTape, begunFeed}

@@ -1,6 +1,6 @@
 -- One law for each way through code that keeps an operation cache. Assumes nothing.
 use mathlib.Core.Path.{_≡_, refl, sym, ap, ap₂, _∙_}
-use mathlib.Core.Bool.{Bool, true, false, cond, not, _&&_, _||_}
+use mathlib.Core.Bool.{Bool, true, false, cond, _&&_, _||_}
 use mathlib.Core.List.{List, [], _∷_}
 use Prim.Native.Nat.{ℕ, zero, suc, _+_, _-_, _*_, _%_, _≤_}
 use native.Mathlib.Omega.{arith}
@@ -11,7 +11,7 @@ use Rattle.lists.specs.Lists.{bit}
 use Rattle.engine.specs.Cells.{cell}
 use Rattle.engine.specs.Hashing.{stir}
 use Rattle.engine.specs.Engine as E
-use Rattle.engine.specs.Memo.{isEmpty, isYoung, numberIn, stampIn, complementIn, toldHalf, slotFrom, slotOf}
+use Rattle.engine.specs.Memo.{isYoung, numberIn, stampIn, complementIn, toldHalf, slotFrom, slotOf}
 use Rattle.meeting.specs.Cite.{halfOf}
 use Rattle.meeting.specs.declared.Half.{Half}
 use Rattle.operation_cache.specs.Cite.{keyCells, holds, toldBy, tellsBy, notedRow, notedBy}

@@ -1,9 +1,9 @@
 // The operation cache: what parts of the walk over stored nodes came to.
 ghost use mathlib.Core.Path.{_≡_};
 ghost use mathlib.Core.Bool.{false, true, _||_};
-ghost use mathlib.Core.List.{List, [], _∷_};
+ghost use mathlib.Core.List.{[], _∷_};
 ghost use lib.ListN.{getD, set};
-ghost use Prim.Native.Nat.{ℕ, _-_};
+ghost use Prim.Native.Nat.{_-_};
 ghost use Rattle.lists.specs.Lists.{bit};
 ghost use Rattle.engine.specs.Memo.{slotOf};
 ghost use Rattle.meeting.specs.Cite.{halfOf};

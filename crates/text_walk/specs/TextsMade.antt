@@ -5,7 +5,7 @@ use mathlib.Core.Bool.{Bool, true, false, cond, not, _||_}
 use mathlib.Core.List.{List, [], _∷_}
 use Prim.Native.Nat.{ℕ, suc, _+_, _-_, _≤_, _<_, _^_}
 use native.Mathlib.Omega.{arith}
-use lib.Dec.{eqb, ltb}
+use lib.Dec.{eqb}
 use borrow.Author.Tests.{le-leb, lt-leb, lt-ltb, le-ltb}
 use Rattle.lists.specs.Lists.{differ}
 use Rattle.reading.specs.Bytes.{opener}
@@ -19,7 +19,7 @@ use Rattle.engine.specs.Taping as T
 use Rattle.engine.specs.TextMade.{inside-text}
 use Rattle.engine.specs.Memo.{slotOf}
 use Rattle.engine.specs.Recalling.{Recalled, recallIn}
-use Rattle.engine.specs.Carrying.{Carried, carryIn, recalledOn}
+use Rattle.engine.specs.Carrying.{Carried, recalledOn}
 use Rattle.engine.specs.CarryMade.{carry-edges, carry-halted, carry-ended, carry-done, carry-on, merge-made, merge-head, merge-body}
 use Rattle.engine.specs.Joining.{finishIn}
 use Rattle.engine.specs.Merging.{mergeIn}

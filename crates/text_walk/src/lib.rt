@@ -1,9 +1,9 @@
 // Combining texts: two streams are read on together, block by block, and walked over their stored nodes from there.
 ghost use mathlib.Core.Path.{_≡_};
-ghost use mathlib.Core.Bool.{cond, true, false, not, _||_};
-ghost use mathlib.Core.List.{List, [], _∷_};
+ghost use mathlib.Core.Bool.{true, false, not, _||_};
+ghost use mathlib.Core.List.{[], _∷_};
 ghost use lib.Dec.{eqb};
-ghost use Prim.Native.Nat.{ℕ, _+_, _-_, _<_, _≤_, _^_};
+ghost use Prim.Native.Nat.{_+_, _-_, _<_, _≤_, _^_};
 ghost use Rattle.writing.specs.Run.{head, operate};
 ghost use Rattle.engine.specs.Taping.{secondFeed};
 ghost use Rattle.engine.specs.Joining.{finishIn};

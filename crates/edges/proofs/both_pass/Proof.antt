@@ -1,5 +1,5 @@
 -- Both tests in their order. Assumes nothing.
-use mathlib.Core.Path.{refl, sym, _∙_}
+use mathlib.Core.Path.{refl, sym}
 use borrow.Author.Tests.{not-true, not-false}
 use Rattle.combining.specs.EdgeMade.{and-none}
 use borrow.Author.Needs.{needs}

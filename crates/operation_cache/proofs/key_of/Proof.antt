@@ -1,6 +1,6 @@
 -- The cells of both edges. Assumes nothing.
 use mathlib.Core.Path.{ap₂}
-use mathlib.Core.List.{List, [], _∷_}
+use mathlib.Core.List.{[], _∷_}
 use Prim.Native.Nat.{ℕ}
 use Rattle.operation_cache.specs.KeyMade.{bit-as}
 use borrow.Author.Needs.{needs}

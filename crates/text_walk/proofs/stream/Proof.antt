@@ -1,6 +1,6 @@
 -- The size and its LF, and the nodes unless no more goes out. Assumes nothing.
 use mathlib.Core.Path.{_∙_}
-use mathlib.Core.List.{List, [], _∷_}
+use mathlib.Core.List.{[], _∷_}
 use Prim.Native.Nat.{_≤_}
 use native.Mathlib.Omega.{arith}
 use Rattle.reading.specs.Bytes.{lineFeed}
