@@ -10,7 +10,7 @@ use borrow.Author.Tests.{lt-ltb, le-ltb}
 use Rattle.reading.specs.Causes as C
 use Rattle.reading.specs.Reading.{Fault, Reading, reading}
 use Rattle.reading.specs.Calls as R
-use Rattle.reading.specs.Settled.{fault-place}
+use Rattle.reading.specs.Settled.{fault-leaves}
 use Rattle.reading.specs.CallLaws.{zeroes-table, zeroes-done}
 use Rattle.reading.specs.Reaching.{At, at-fault, at-end, at-covered}
 use Rattle.work_table.specs.Table.{noRecord, clearTo}
@@ -95,10 +95,10 @@ module _ (n : ℕ) (bytes : List ℕ) where
   pub reads-clean : (r : ReadReached) (u : List (List ℕ)) → Reads n bytes r u → r .faulty ≡ false → reading n bytes .fault ≡ none
   reads-clean r u h e = ap (λ (x : Reading). x .fault) (h .same) ∙ ap (λ (b : Bool). cond b (some (record { cause = causeOf (r .cause); byte = r .byte })) none) e
 
-  -- a fault names a place
-  named : (r : ReadReached) (u : List (List ℕ)) → Reads n bytes r u → r .faulty ≡ true → C.causeRow (causeOf (r .cause)) .names ≡ C.place
-  named r u h e =
-      fault-place n bytes (record { cause = causeOf (r .cause); byte = r .byte })
+  -- a fault keeps the output
+  fault-keeps : (r : ReadReached) (u : List (List ℕ)) → Reads n bytes r u → r .faulty ≡ true → C.causeRow (causeOf (r .cause)) .leaves ≡ C.keepsOutput
+  fault-keeps r u h e =
+      fault-leaves n bytes (record { cause = causeOf (r .cause); byte = r .byte })
       (ap (λ (x : Reading). x .fault) (h .same) ∙ ap (λ (b : Bool). cond b (some (record { cause = causeOf (r .cause); byte = r .byte })) none) e)
 
   -- what is answered past the tests, and the table after it
@@ -118,7 +118,7 @@ module _ (n : ℕ) (bytes : List ℕ) where
     table-after t = go (r .faulty) refl
       where
         go : (b : Bool) → r .faulty ≡ b → C.tableAfter noRecord (cond b (C.refused (lateOf r)) (C.done x)) t ≡ C.cleared noRecord t
-        go true e = zeroes-table (C.refused (lateOf r)) noRecord t (lateOf r) refl (named r u h e)
+        go true e = zeroes-table (C.refused (lateOf r)) noRecord t (lateOf r) refl (fault-keeps r u h e)
         go false e = zeroes-done (C.done x) noRecord t x refl
 
 -- ---- Checking --------------------------------------------------------------------------------

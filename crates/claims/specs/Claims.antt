@@ -49,7 +49,7 @@ pub record Demand1 {R S : Type 0} (z : R) (o : S) : Type 0 where
       → TurnedDown (x ∷ y ∷ []) (combineLines n op size x y (length t) (length u) (length v)) (c .answer)
   -- "In a stream the lowest fault place counts": the bytes before it are without fault.
   pub lowest-fault : (n : ℕ) (x : List ℕ) (f : Fault) → reading n x .fault ≡ some f → (f .byte < length x) × (reading n (take (f .byte) x) .fault ≡ none)
-  -- A work table is as it was after a refusal that names the call, and zero in every record after any other return.
+  -- A work table is as it was after a refusal that leaves all so, and zero in every record after any other return.
   pub check-table : (n : ℕ) (x : List ℕ) (t : List R) (c : Read Checked R) → Checks z n x t c
       → TableLeft z (c .answer) t (c .table)
   pub decide-table : (n : ℕ) (x : List ℕ) (w : ℕ) (t : List R) (c : Read Verdict R) → Decides z n x w t c

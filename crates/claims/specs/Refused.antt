@@ -1,7 +1,7 @@
 -- Each call is turned down by the causes that apply to it, in the paper's order, and by nothing else. A test of a call's definition stands for a
 -- line (`test-line`), a stream's fault for another (`fault-line`). Assumes nothing.
 use mathlib.Core.Path.{_≡_, refl, sym, ap, _∙_, subst, subst⁻¹}
-use mathlib.Core.Logic.{_≢_, inl, inr, ⊎-elim, _↔_}
+use mathlib.Core.Logic.{_≢_, _⊎_, inl, inr, ⊎-elim, _↔_}
 use mathlib.Core.Bool.{Bool, true, false, not, _&&_, true≢false, false≢true}
 use mathlib.Core.List.{List, [], _∷_}
 use mathlib.Core.Option.{Option, none, some}
@@ -13,10 +13,10 @@ use lib.ListN.{length, getD}
 use borrow.Author.Tests.{ltb-true, ltb-false, leb-true, leb-false, eqb-true, eqb-false, not-true, not-false}
 use Rattle.lists.specs.Lists.{decide-eq, decide-le}
 use Rattle.reading.specs.Limits.{optionLimit, tableLimit, truthTableLeast, truthTableMost}
-use Rattle.reading.specs.Causes.{Cause, optionCount, operatorCode, sizeToWrite, workTable, wordRange, truthTable}
-use Rattle.reading.specs.Causes.{call, causeRow, Refusal, refusal, Result, refused, done, Test, test, gate}
+use Rattle.reading.specs.Causes.{optionCount, operatorCode, sizeToWrite, workTable, wordRange, truthTable}
+use Rattle.reading.specs.Causes.{causeRow, Refusal, refusal, Result, refused, done, Test, test, atCall, firstMet}
 use Rattle.reading.specs.Reading.{Fault, Reading, reading}
-use Rattle.reading.specs.Settled.{never-some, fault-inside, fault-place}
+use Rattle.reading.specs.Settled.{never-some, fault-inside, fault-place, fault-leaves}
 use Rattle.reading.specs.Calls.{manyOptions, shortTable, notTruthTable, wrongLength, unlessFault}
 use Rattle.reading.specs.Calls.{checkedOf, checkAnswer, Verdict, verdictOf, verdict, decideAnswer, decide, fillAnswer}
 use Rattle.reading.specs.Deciding.{decision, trace}
@@ -24,7 +24,7 @@ use Rattle.reading.specs.CallLaws.{decide-decision}
 use Rattle.reading.specs.Prefix.{trace-reading}
 use Rattle.writing.specs.Run.{Input, runCovered, answerOf}
 use Rattle.writing.specs.Calls.{largeSize, writeText, writeAnswer, largeOperator, unlessFaults, inputOf, combineText, shortTables, combineAnswer}
-use Rattle.claims.specs.Terms.{Line, meets, faults, Met, First, AllUnmet, Lowest, Named, TurnedDown}
+use Rattle.claims.specs.Terms.{Line, meets, faults, Met, First, AllUnmet, Lowest, NamesCall, NamesPlace, TurnedDown}
 use Rattle.claims.specs.Terms.{checkLines, decideLines, notThreeToSixteen, fillLines, writeLines, combineLines}
 
 -- ---- Answers ---------------------------------------------------------------------------------
@@ -56,14 +56,14 @@ by-none v = record { exactly = λ f. (λ e. clash f v (sym e), λ h. absurd h); 
 
 -- a test that is met if P
 test-line : {A : Type 0} (P : Type 0) (t : Test) (ts : List Test) (ls : List Line) (v : A) (x : Result A) → (t .met ≡ true → P) → (t .met ≡ false → P → ⊥)
-    → By ls v (gate ts x) → By (meets (t .cause) P ∷ ls) v (gate (t ∷ ts) x)
-unfolding gate
+    → By ls v (firstMet ts x) → By (meets (t .gives) P ∷ ls) v (firstMet (t ∷ ts) x)
+unfolding firstMet
 test-line {A} P t ts ls v x p q h = go (t .met) p q
   where
     answer : Bool → Result A
-    answer m = elim m as (λ _. Result A) [ true ↦ refused (refusal (t .cause) 0 0) | false ↦ gate ts x ]
+    answer m = elim m as (λ _. Result A) [ true ↦ refused (t .gives) | false ↦ firstMet ts x ]
 
-    go : (m : Bool) → (m ≡ true → P) → (m ≡ false → P → ⊥) → By (meets (t .cause) P ∷ ls) v (answer m)
+    go : (m : Bool) → (m ≡ true → P) → (m ≡ false → P → ⊥) → By (meets (t .gives) P ∷ ls) v (answer m)
     go true p q = record {
       exactly = λ f. (
         λ e. inl (p refl, sym (same-refused _ f e)),
@@ -81,7 +81,7 @@ test-line {A} P t ts ls v x p q h = go (t .met) p q
 
 -- the test stands for the line
 abbrev Stands : Test → Line → Type 0
-Stands t (meets c P) = (t .cause ≡ c) × (t .met ≡ true → P) × (t .met ≡ false → P → ⊥)
+Stands t (meets g P) = (t .gives ≡ g) × (t .met ≡ true → P) × (t .met ≡ false → P → ⊥)
 Stands t (faults n k x) = ⊥
 
 -- the tests stand for the first lines, and the rest of the call for the rest
@@ -90,12 +90,12 @@ Opens [] ls v x = By ls v x
 Opens (t ∷ ts) [] v x = ⊥
 Opens (t ∷ ts) (l ∷ ls) v x = Stands t l × Opens ts ls v x
 
-tests-lines : {A : Type 0} (ts : List Test) (ls : List Line) (v : A) (x : Result A) → Opens ts ls v x → By ls v (gate ts x)
-unfolding gate
+tests-lines : {A : Type 0} (ts : List Test) (ls : List Line) (v : A) (x : Result A) → Opens ts ls v x → By ls v (firstMet ts x)
+unfolding firstMet
 tests-lines [] ls v x h = h
 tests-lines (t ∷ ts) [] v x h = absurd h
-tests-lines (t ∷ ts) (meets c P ∷ ls) v x h =
-    subst (λ (d : Cause). By (meets d P ∷ ls) v (gate (t ∷ ts) x)) (h .0 .0) (test-line P t ts ls v x (h .0 .1) (h .0 .2) (tests-lines ts ls v x (h .1)))
+tests-lines (t ∷ ts) (meets g P ∷ ls) v x h =
+    subst (λ (f : Refusal). By (meets f P ∷ ls) v (firstMet (t ∷ ts) x)) (h .0 .0) (test-line P t ts ls v x (h .0 .1) (h .0 .2) (tests-lines ts ls v x (h .1)))
 tests-lines (t ∷ ts) (faults n k y ∷ ls) v x h = absurd (h .0)
 
 -- the fault of a stream
@@ -123,25 +123,25 @@ fault-line {A} n k x ls v a h = go (reading n x .fault) refl
 
 -- a line for a call over the streams xs
 abbrev Fits : List (List ℕ) → Line → Type 0
-Fits xs (meets c P) = causeRow c .names ≡ call
+Fits xs (meets g P) = NamesCall g
 Fits xs (faults n k x) = (0 < k) × (k ≤ length xs) × (getD xs (k - 1) [] ≡ x)
 
 abbrev AllFit : List (List ℕ) → List Line → Type 0
 AllFit xs [] = Unit {0}
 AllFit xs (l ∷ ls) = Fits xs l × AllFit xs ls
 
-met-named : (xs : List (List ℕ)) (l : Line) → Fits xs l → (f : Refusal) → Met l f → Named xs f
-met-named xs (meets c P) h f m =
-    inl (ap (λ (g : Refusal). causeRow (g .cause) .names) (m .1) ∙ h, ap (λ (g : Refusal). g .stream) (m .1), ap (λ (g : Refusal). g .byte) (m .1))
+met-named : (xs : List (List ℕ)) (l : Line) → Fits xs l → (f : Refusal) → Met l f → NamesCall f ⊎ NamesPlace xs f
+met-named xs (meets g P) h f m = inl (subst⁻¹ NamesCall (m .1) h)
 met-named xs (faults n k x) h f m =
     inr (
       fault-place n x _ (m .0),
+      fault-leaves n x _ (m .0),
       omega (arith, m .1, h .0),
       omega (arith, m .1, h .1),
       subst⁻¹ (λ (j : ℕ). f .byte < length (getD xs (j - 1) [])) (m .1) (subst⁻¹ (λ (y : List ℕ). f .byte < length y) (h .2) (fault-inside n x _ (m .0))),
     )
 
-first-named : (xs : List (List ℕ)) (ls : List Line) → AllFit xs ls → (f : Refusal) → First ls f → Named xs f
+first-named : (xs : List (List ℕ)) (ls : List Line) → AllFit xs ls → (f : Refusal) → First ls f → NamesCall f ⊎ NamesPlace xs f
 first-named xs [] h f m = absurd m
 first-named xs (l ∷ ls) h f m = ⊎-elim (met-named xs l (h .0) f) (λ k. first-named xs ls (h .1) f (k .1)) m
 
@@ -149,31 +149,31 @@ first-named xs (l ∷ ls) h f m = ⊎-elim (met-named xs l (h .0) f) (λ k. firs
 
 abbrev OnlyFaults : List Line → Type 0
 OnlyFaults [] = Unit {0}
-OnlyFaults (meets c P ∷ ls) = ⊥
+OnlyFaults (meets g P ∷ ls) = ⊥
 OnlyFaults (faults n k x ∷ ls) = OnlyFaults ls
 
--- the causes that name the call stand in rising rank, from r on, and before the streams
+-- the causes before the streams stand in rising rank, from r on
 abbrev Rising : ℕ → List Line → Type 0
 Rising r [] = Unit {0}
-Rising r (meets c P ∷ ls) = (r ≤ causeRow c .rank) × Rising (causeRow c .rank) ls
+Rising r (meets g P ∷ ls) = (r ≤ causeRow (g .cause) .rank) × Rising (causeRow (g .cause) .rank) ls
 Rising r (faults n k x ∷ ls) = OnlyFaults ls
 
 faults-lowest : (r : ℕ) (ls : List Line) → OnlyFaults ls → Lowest r ls
 faults-lowest r [] h = tt
-faults-lowest r (meets c P ∷ ls) h = absurd h
+faults-lowest r (meets g P ∷ ls) h = absurd h
 faults-lowest r (faults n k x ∷ ls) h = faults-lowest r ls h
 
 rising-lowest : (r s : ℕ) (ls : List Line) → r ≤ s → Rising s ls → Lowest r ls
 rising-lowest r s [] l h = tt
-rising-lowest r s (meets c P ∷ ls) l h = (λ _. omega (arith, l, h .0), rising-lowest r (causeRow c .rank) ls (omega (arith, l, h .0)) (h .1))
+rising-lowest r s (meets g P ∷ ls) l h = (λ _. omega (arith, l, h .0), rising-lowest r (causeRow (g .cause) .rank) ls (omega (arith, l, h .0)) (h .1))
 rising-lowest r s (faults n k x ∷ ls) l h = faults-lowest r ls h
 
 first-lowest : (r : ℕ) (ls : List Line) → Rising r ls → (f : Refusal) → First ls f → Lowest (causeRow (f .cause) .rank) ls
 first-lowest r [] h f m = absurd m
-first-lowest r (meets c P ∷ ls) h f m = ⊎-elim
-    (λ k. subst⁻¹ (λ (g : Refusal). Lowest (causeRow (g .cause) .rank) (meets c P ∷ ls)) (k .1)
-    (λ _. omega arith, rising-lowest (causeRow c .rank) (causeRow c .rank) ls (omega arith) (h .1)))
-    (λ k. (λ p. absurd (k .0 p), first-lowest (causeRow c .rank) ls (h .1) f (k .1))) m
+first-lowest r (meets g P ∷ ls) h f m = let s = causeRow (g .cause) .rank in ⊎-elim
+    (λ k. subst⁻¹ (λ (i : Refusal). Lowest (causeRow (i .cause) .rank) (meets g P ∷ ls)) (k .1)
+    (λ _. omega arith, rising-lowest s s ls (omega arith) (h .1)))
+    (λ k. (λ p. absurd (k .0 p), first-lowest s ls (h .1) f (k .1))) m
 first-lowest r (faults n k x ∷ ls) h f m = faults-lowest (causeRow (f .cause) .rank) ls h
 
 turned-down : {A : Type 0} (xs : List (List ℕ)) (ls : List Line) (v : A) (a : Result A) → AllFit xs ls → Rising 1 ls → By ls v a → TurnedDown xs ls a
@@ -192,17 +192,17 @@ not-apart k j h = ⊎-elim (λ (e : k ≡ j). e) (λ (d : k ≢ j). absurd (h d)
 
 -- ---- The calls -------------------------------------------------------------------------------
 
-above : (c : Cause) (limit k : ℕ) → Stands (test c (ltb limit k)) (meets c (limit < k))
-above c limit k = (refl, ltb-true limit k, λ e h. omega (arith, ltb-false limit k e, h))
+above : (f : Refusal) (limit k : ℕ) → Stands (test f (ltb limit k)) (meets f (limit < k))
+above f limit k = (refl, ltb-true limit k, λ e h. omega (arith, ltb-false limit k e, h))
 
-from : (c : Cause) (least k : ℕ) → Stands (test c (leb least k)) (meets c (least ≤ k))
-from c least k = (refl, leb-true least k, λ e h. omega (arith, leb-false least k e, h))
+from : (f : Refusal) (least k : ℕ) → Stands (test f (leb least k)) (meets f (least ≤ k))
+from f least k = (refl, leb-true least k, λ e h. omega (arith, leb-false least k e, h))
 
-not-three-to-sixteen : (n : ℕ) → Stands (notTruthTable n) (meets optionCount (notThreeToSixteen n))
+not-three-to-sixteen : (n : ℕ) → Stands (notTruthTable n) (meets (atCall optionCount) (notThreeToSixteen n))
 not-three-to-sixteen n = go (leb truthTableLeast n) refl (leb n truthTableMost) refl
   where
     go : (p : Bool) → leb truthTableLeast n ≡ p → (q : Bool) → leb n truthTableMost ≡ q
-        → Stands (test optionCount (not (p && q))) (meets optionCount (notThreeToSixteen n))
+        → Stands (test (atCall optionCount) (not (p && q))) (meets (atCall optionCount) (notThreeToSixteen n))
     go true a true b =
         let l = leb-true truthTableLeast n a in
         let m = leb-true n truthTableMost b in
@@ -210,7 +210,7 @@ not-three-to-sixteen n = go (leb truthTableLeast n) refl (leb n truthTableMost) 
     go true a false b = (refl, λ e. inr (leb-false n truthTableMost b), λ e. absurd (true≢false e))
     go false a q b = (refl, λ e. inl (leb-false truthTableLeast n a), λ e. absurd (true≢false e))
 
-wrong-length : (n : ℕ) (truths : List ℕ) → Stands (wrongLength n truths) (meets truthTable (length truths ≢ 2 ^ n / 8))
+wrong-length : (n : ℕ) (truths : List ℕ) → Stands (wrongLength n truths) (meets (atCall truthTable) (length truths ≢ 2 ^ n / 8))
 wrong-length n truths = (refl, λ e. eqb-false _ _ (not-true _ e), λ e h. h (eqb-true _ _ (not-false _ e)))
 
 -- a call over the stream x alone
@@ -220,10 +220,10 @@ one-stream n x = ((omega arith, omega arith, refl), tt)
 pub check-by : (n : ℕ) (x : List ℕ) (records : ℕ) → By (checkLines n x records) (checkedOf (reading n x .state)) (checkAnswer n x records)
 unfolding checkAnswer
 check-by n x records = tests-lines (manyOptions n ∷ shortTable records ∷ []) _ _ _
-    (above optionCount optionLimit n, (above workTable records tableLimit, fault-line n 1 x [] _ _ (by-none _)))
+    (above (atCall optionCount) optionLimit n, (above (atCall workTable) records tableLimit, fault-line n 1 x [] _ _ (by-none _)))
 
 pub check-lines : (n : ℕ) (x : List ℕ) (records : ℕ) → TurnedDown (x ∷ []) (checkLines n x records) (checkAnswer n x records)
-check-lines n x records = turned-down (x ∷ []) _ _ _ (refl, (refl, one-stream n x)) (omega arith, (omega arith, tt)) (check-by n x records)
+check-lines n x records = turned-down (x ∷ []) _ _ _ ((refl, refl, refl, refl), ((refl, refl, refl, refl), one-stream n x)) (omega arith, (omega arith, tt)) (check-by n x records)
 
 pub decide-lines : (n : ℕ) (x : List ℕ) (w records : ℕ) → TurnedDown (x ∷ []) (decideLines n x w records) (decideAnswer n x w records)
 unfolding decideAnswer
@@ -231,9 +231,9 @@ decide-lines n x w records =
     let v = verdict n (trace n x) w in
     let f : trace n x .reading .fault ≡ reading n x .fault = ap (λ (r : Reading). r .fault) (trace-reading n x) in
     let rest = subst⁻¹ (λ (o : Option Fault). By (faults n 1 x ∷ []) v (unlessFault 1 o (done v))) f (fault-line n 1 x [] v (done v) (by-none v)) in
-    turned-down (x ∷ []) _ v _ (refl, (refl, (refl, one-stream n x))) (omega arith, (omega arith, (omega arith, tt)))
-    (tests-lines (manyOptions n ∷ shortTable records ∷ test wordRange (leb (2 ^ n) w) ∷ []) _ v _
-    (above optionCount optionLimit n, (above workTable records tableLimit, (from wordRange (2 ^ n) w, rest))))
+    turned-down (x ∷ []) _ v _ ((refl, refl, refl, refl), ((refl, refl, refl, refl), ((refl, refl, refl, refl), one-stream n x))) (omega arith, (omega arith, (omega arith, tt)))
+    (tests-lines (manyOptions n ∷ shortTable records ∷ test (atCall wordRange) (leb (2 ^ n) w) ∷ []) _ v _
+    (above (atCall optionCount) optionLimit n, (above (atCall workTable) records tableLimit, (from (atCall wordRange) (2 ^ n) w, rest))))
 
 -- what it answers is what the stream decides
 pub decide-decided : {R : Type 0} (z : R) (n : ℕ) (x : List ℕ) (w : ℕ) (t : List R) (r : Verdict) → decide z n x w t .answer ≡ done r
@@ -250,21 +250,21 @@ decide-decided z n x w t r e =
 pub fill-by : (n : ℕ) (x truths : List ℕ) (records : ℕ) → By (fillLines n x truths records) (reading n x .state .covered) (fillAnswer n x truths records)
 unfolding fillAnswer
 fill-by n x truths records = tests-lines (notTruthTable n ∷ shortTable records ∷ wrongLength n truths ∷ []) _ _ _
-    (not-three-to-sixteen n, (above workTable records tableLimit, (wrong-length n truths, fault-line n 1 x [] _ _ (by-none _))))
+    (not-three-to-sixteen n, (above (atCall workTable) records tableLimit, (wrong-length n truths, fault-line n 1 x [] _ _ (by-none _))))
 
 pub fill-lines : (n : ℕ) (x truths : List ℕ) (records : ℕ) → TurnedDown (x ∷ []) (fillLines n x truths records) (fillAnswer n x truths records)
 fill-lines n x truths records =
-    turned-down (x ∷ []) _ _ _ (refl, (refl, (refl, one-stream n x))) (omega arith, (omega arith, (omega arith, tt))) (fill-by n x truths records)
+    turned-down (x ∷ []) _ _ _ ((refl, refl, refl, refl), ((refl, refl, refl, refl), ((refl, refl, refl, refl), one-stream n x))) (omega arith, (omega arith, (omega arith, tt))) (fill-by n x truths records)
 
 pub write-by : (n size : ℕ) (truths out : List ℕ) (records : ℕ)
     → By (writeLines n size truths records) (answerOf n (2 ^ n) (writeText n size truths) out) (writeAnswer n size truths out records)
 unfolding writeAnswer
 write-by n size truths out records = tests-lines (notTruthTable n ∷ largeSize size ∷ shortTable records ∷ wrongLength n truths ∷ []) _ _ _
-    (not-three-to-sixteen n, (above sizeToWrite tableLimit size, (above workTable records tableLimit, (wrong-length n truths, by-none _))))
+    (not-three-to-sixteen n, (above (atCall sizeToWrite) tableLimit size, (above (atCall workTable) records tableLimit, (wrong-length n truths, by-none _))))
 
 pub write-lines : (n size : ℕ) (truths out : List ℕ) (records : ℕ) → TurnedDown [] (writeLines n size truths records) (writeAnswer n size truths out records)
 write-lines n size truths out records =
-    turned-down [] _ _ _ (refl, (refl, (refl, (refl, tt)))) (omega arith, (omega arith, (omega arith, (omega arith, tt)))) (write-by n size truths out records)
+    turned-down [] _ _ _ ((refl, refl, refl, refl), ((refl, refl, refl, refl), ((refl, refl, refl, refl), ((refl, refl, refl, refl), tt)))) (omega arith, (omega arith, (omega arith, (omega arith, tt)))) (write-by n size truths out records)
 
 -- the streams of a run, and what they are as its inputs
 abbrev pub Streams : List ℕ → List ℕ → List (List ℕ)
@@ -278,14 +278,14 @@ pub combine-by : (n op size : ℕ) (x y out : List ℕ) (a b c : ℕ)
     (combineAnswer n op size (Streams x y) out (a ∷ b ∷ c ∷ []))
 unfolding combineAnswer unlessFaults
 combine-by n op size x y out a b c =
-    let short : (k : ℕ) → Stands (shortTable k) (meets workTable (k < tableLimit)) = λ k. above workTable k tableLimit in
+    let short : (k : ℕ) → Stands (shortTable k) (meets (atCall workTable) (k < tableLimit)) = λ k. above (atCall workTable) k tableLimit in
     let v = answerOf n (runCovered n (inputs n x y)) (combineText n op size (Streams x y)) out in
     let rest = fault-line n 1 x (faults n 2 y ∷ []) v _ (fault-line n 2 y [] v (done v) (by-none v)) in
     tests-lines (manyOptions n ∷ largeOperator 2 op ∷ largeSize size ∷ shortTables (a ∷ b ∷ c ∷ [])) _ v _
-    (above optionCount optionLimit n, (from operatorCode 16 op, (above sizeToWrite tableLimit size, (short a, (short b, (short c, rest))))))
+    (above (atCall optionCount) optionLimit n, (from (atCall operatorCode) 16 op, (above (atCall sizeToWrite) tableLimit size, (short a, (short b, (short c, rest))))))
 
 pub combine-lines : (n op size : ℕ) (x y out : List ℕ) (a b c : ℕ)
     → TurnedDown (x ∷ y ∷ []) (combineLines n op size x y a b c) (combineAnswer n op size (x ∷ y ∷ []) out (a ∷ b ∷ c ∷ []))
 combine-lines n op size x y out a b c = turned-down (x ∷ y ∷ []) _ _ _
-    (refl, (refl, (refl, (refl, (refl, (refl, ((omega arith, omega arith, refl), ((omega arith, omega arith, refl), tt))))))))
+    ((refl, refl, refl, refl), ((refl, refl, refl, refl), ((refl, refl, refl, refl), ((refl, refl, refl, refl), ((refl, refl, refl, refl), ((refl, refl, refl, refl), ((omega arith, omega arith, refl), ((omega arith, omega arith, refl), tt))))))))
     (omega arith, (omega arith, (omega arith, (omega arith, (omega arith, (omega arith, tt)))))) (combine-by n op size x y out a b c)

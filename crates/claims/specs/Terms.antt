@@ -8,8 +8,8 @@ use mathlib.Core.Option.{none, some}
 use Prim.Native.Nat.{ℕ, _-_, _/_, _≤_, _<_, _^_, min}
 use lib.ListN.{length, take, drop, getD}
 use Rattle.reading.specs.Limits.{optionLimit, tableLimit, truthTableLeast, truthTableMost}
-use Rattle.reading.specs.Causes.{Cause, optionCount, operatorCode, sizeToWrite, workTable, wordRange, truthTable}
-use Rattle.reading.specs.Causes.{call, place, causeRow, Refusal, refusal, Result, refused, done, cleared}
+use Rattle.reading.specs.Causes.{optionCount, operatorCode, sizeToWrite, workTable, wordRange, truthTable}
+use Rattle.reading.specs.Causes.{call, place, keepsAll, keepsOutput, causeRow, Refusal, atCall, Result, refused, done, cleared}
 use Rattle.reading.specs.Element.{over}
 use Rattle.reading.specs.Reading.{reading}
 use Rattle.reading.specs.Deciding.{decided, decision}
@@ -18,18 +18,18 @@ use Rattle.writing.specs.Run.{operate, Answer, endingOf}
 
 -- ---- Turned down -----------------------------------------------------------------------------
 
--- A line of the table "Turned down": a cause that names the call, and when it is met; or the fault, if any, of stream k, read with n options.
+-- A line of the table "Turned down": a refusal before the streams, and when it is met; or the fault, if any, of stream k, read with n options.
 pub data Line : Type 1 where
-  meets : Cause → Type 0 → Line
+  meets : Refusal → Type 0 → Line
   faults : ℕ → ℕ → List ℕ → Line
 
--- the line is met, and f is returned: "stream 0, byte 0", or the stream and the byte of its fault
+-- the line is met, and f is returned: its refusal, or the stream and the byte of its fault
 abbrev pub Met : Line → Refusal → Type 0
-Met (meets c P) f = P × (f ≡ refusal c 0 0)
+Met (meets g P) f = P × (f ≡ g)
 Met (faults n k x) f = (reading n x .fault ≡ some (record { cause = f .cause; byte = f .byte })) × (f .stream ≡ k)
 
 abbrev pub Unmet : Line → Type 0
-Unmet (meets c P) = P → ⊥
+Unmet (meets g P) = P → ⊥
 Unmet (faults n k x) = reading n x .fault ≡ none
 
 -- f is what the first line that is met returns
@@ -45,14 +45,18 @@ AllUnmet (l ∷ ls) = Unmet l × AllUnmet ls
 -- no cause of the call that is met has a rank below r
 abbrev pub Lowest : ℕ → List Line → Type 0
 Lowest r [] = Unit {0}
-Lowest r (meets c P ∷ ls) = (P → r ≤ causeRow c .rank) × Lowest r ls
+Lowest r (meets g P ∷ ls) = (P → r ≤ causeRow (g .cause) .rank) × Lowest r ls
 Lowest r (faults n k x ∷ ls) = Lowest r ls
 
--- what a refusal names, xs being the streams: the call, or a stream and a byte inside it
-abbrev pub Named : List (List ℕ) → Refusal → Type 0
-Named xs f =
-    ((causeRow (f .cause) .names ≡ call) × (f .stream ≡ 0) × (f .byte ≡ 0))
-    ⊎ ((causeRow (f .cause) .names ≡ place) × (0 < f .stream) × (f .stream ≤ length xs) × (f .byte < length (getD xs (f .stream - 1) [])))
+-- the refusal names the call, and leaves all as it was
+abbrev pub NamesCall : Refusal → Type 0
+NamesCall f = let r = causeRow (f .cause) in (r .names ≡ call) × (r .leaves ≡ keepsAll) × (f .stream ≡ 0) × (f .byte ≡ 0)
+
+-- it names one of the streams xs and a byte inside it, and leaves the output as it was
+abbrev pub NamesPlace : List (List ℕ) → Refusal → Type 0
+NamesPlace xs f =
+    let r = causeRow (f .cause) in
+    (r .names ≡ place) × (r .leaves ≡ keepsOutput) × (0 < f .stream) × (f .stream ≤ length xs) × (f .byte < length (getD xs (f .stream - 1) []))
 
 -- A call over the streams xs that answers a is turned down by the lines ls, tested in this order, and by nothing else.
 pub record TurnedDown {A : Type 0} (xs : List (List ℕ)) (ls : List Line) (a : Result A) : Type 0 where
@@ -62,8 +66,8 @@ pub record TurnedDown {A : Type 0} (xs : List (List ℕ)) (ls : List Line) (a : 
   pub unless : ((r : A) × (a ≡ done r)) ↔ AllUnmet ls
   -- the lowest in the paper's order counts
   pub lowest : (f : Refusal) → a ≡ refused f → Lowest (causeRow (f .cause) .rank) ls
-  -- what a refusal names
-  pub names : (f : Refusal) → a ≡ refused f → Named xs f
+  -- what a refusal names and leaves
+  pub names : (f : Refusal) → a ≡ refused f → NamesCall f ⊎ NamesPlace xs f
 
 -- ---- The causes of each call -----------------------------------------------------------------
 
@@ -72,16 +76,16 @@ pub record TurnedDown {A : Type 0} (xs : List (List ℕ)) (ls : List Line) (a : 
 
 abbrev pub checkLines : ℕ → List ℕ → ℕ → List Line
 checkLines n x records =
-    meets optionCount (optionLimit < n)  -- 1
-    ∷ meets workTable (records < tableLimit)  -- 4
+    meets (atCall optionCount) (optionLimit < n)  -- 1
+    ∷ meets (atCall workTable) (records < tableLimit)  -- 4
     ∷ faults n 1 x  -- 7 to 13
     ∷ []
 
 abbrev pub decideLines : ℕ → List ℕ → ℕ → ℕ → List Line
 decideLines n x w records =
-    meets optionCount (optionLimit < n)  -- 1
-    ∷ meets workTable (records < tableLimit)  -- 4
-    ∷ meets wordRange (2 ^ n ≤ w)  -- 5
+    meets (atCall optionCount) (optionLimit < n)  -- 1
+    ∷ meets (atCall workTable) (records < tableLimit)  -- 4
+    ∷ meets (atCall wordRange) (2 ^ n ≤ w)  -- 5
     ∷ faults n 1 x  -- 7 to 13
     ∷ []
 
@@ -91,28 +95,28 @@ notThreeToSixteen n = (n < truthTableLeast) ⊎ (truthTableMost < n)
 
 abbrev pub fillLines : ℕ → List ℕ → List ℕ → ℕ → List Line
 fillLines n x truths records =
-    meets optionCount (notThreeToSixteen n)  -- 1
-    ∷ meets workTable (records < tableLimit)  -- 4
-    ∷ meets truthTable (length truths ≢ 2 ^ n / 8)  -- 6
+    meets (atCall optionCount) (notThreeToSixteen n)  -- 1
+    ∷ meets (atCall workTable) (records < tableLimit)  -- 4
+    ∷ meets (atCall truthTable) (length truths ≢ 2 ^ n / 8)  -- 6
     ∷ faults n 1 x  -- 7 to 13
     ∷ []
 
 abbrev pub writeLines : ℕ → ℕ → List ℕ → ℕ → List Line
 writeLines n size truths records =
-    meets optionCount (notThreeToSixteen n)  -- 1
-    ∷ meets sizeToWrite (tableLimit < size)  -- 3
-    ∷ meets workTable (records < tableLimit)  -- 4
-    ∷ meets truthTable (length truths ≢ 2 ^ n / 8)  -- 6
+    meets (atCall optionCount) (notThreeToSixteen n)  -- 1
+    ∷ meets (atCall sizeToWrite) (tableLimit < size)  -- 3
+    ∷ meets (atCall workTable) (records < tableLimit)  -- 4
+    ∷ meets (atCall truthTable) (length truths ≢ 2 ^ n / 8)  -- 6
     ∷ []
 
 abbrev pub combineLines : ℕ → ℕ → ℕ → List ℕ → List ℕ → ℕ → ℕ → ℕ → List Line
 combineLines n op size x y records records′ records″ =
-    meets optionCount (optionLimit < n)  -- 1
-    ∷ meets operatorCode (15 < op)  -- 2
-    ∷ meets sizeToWrite (tableLimit < size)  -- 3
-    ∷ meets workTable (records < tableLimit)  -- 4
-    ∷ meets workTable (records′ < tableLimit)  -- 4
-    ∷ meets workTable (records″ < tableLimit)  -- 4
+    meets (atCall optionCount) (optionLimit < n)  -- 1
+    ∷ meets (atCall operatorCode) (15 < op)  -- 2
+    ∷ meets (atCall sizeToWrite) (tableLimit < size)  -- 3
+    ∷ meets (atCall workTable) (records < tableLimit)  -- 4
+    ∷ meets (atCall workTable) (records′ < tableLimit)  -- 4
+    ∷ meets (atCall workTable) (records″ < tableLimit)  -- 4
     ∷ faults n 1 x  -- 7 to 13
     ∷ faults n 2 y  -- 7 to 13
     ∷ []
@@ -121,10 +125,10 @@ combineLines n op size x y records records′ records″ =
 
 -- A work table held t, and holds t′ after a call that answers a; z: the record that is zero.
 pub record TableLeft {A R : Type 0} (z : R) (a : Result A) (t t′ : List R) : Type 0 where
-  -- as it was, if the refusal names the call
-  pub kept : (f : Refusal) → a ≡ refused f → causeRow (f .cause) .names ≡ call → t′ ≡ t
+  -- as it was, if the refusal's cause leaves all so
+  pub kept : (f : Refusal) → a ≡ refused f → causeRow (f .cause) .leaves ≡ keepsAll → t′ ≡ t
   -- every record zero after any other refusal, and after an answer
-  pub zeroed : (f : Refusal) → a ≡ refused f → causeRow (f .cause) .names ≡ place → t′ ≡ cleared z t
+  pub zeroed : (f : Refusal) → a ≡ refused f → causeRow (f .cause) .leaves ≡ keepsOutput → t′ ≡ cleared z t
   pub answered : (r : A) → a ≡ done r → t′ ≡ cleared z t
 
 -- An output held `out`, and holds out′ after a call that answers a.

@@ -9,11 +9,11 @@ use native.Mathlib.Omega.{arith}
 use lib.Dec.{eqb}
 use lib.ListN.{length, replicate}
 use borrow.Author.Tests.{lt-ltb, le-ltb, lt-leb, le-leb}
-use Rattle.reading.specs.Causes.{optionCount, operatorCode, sizeToWrite, workTable, place, causeRow}
+use Rattle.reading.specs.Causes.{optionCount, operatorCode, sizeToWrite, workTable, keepsOutput, causeRow}
 use Rattle.reading.specs.Causes.{Result, refused, done, Refusal, refusal, gate, tableAfter, unlessRefused}
 use Rattle.reading.specs.Reading.{Fault, reading}
 use Rattle.reading.specs.Calls.{Checked, checkedOf, unlessFault, checkAnswer, Read, check}
-use Rattle.reading.specs.Settled.{fault-place}
+use Rattle.reading.specs.Settled.{fault-leaves}
 use Rattle.reading.specs.Covered.{covered, covered-most}
 use Rattle.reading.specs.CallLaws.{zeroes-table, zeroes-done}
 use Rattle.writing.specs.Run.{runCovered, whole, inputEnded, outputFull, outputAfter, Answer, answerOf}
@@ -71,9 +71,9 @@ answered-faults a b (some f) g = refl
 
 -- ---- Tables past the tests -------------------------------------------------------------------
 
--- a refusal, if any, names a place
+-- a refusal, if any, keeps the output
 abbrev Late : {A : Type 0} → Result A → Type 0
-Late (refused f) = causeRow (f .cause) .names ≡ place
+Late (refused f) = causeRow (f .cause) .leaves ≡ keepsOutput
 Late (done x) = Unit {0}
 
 -- then all records are zero
@@ -81,13 +81,13 @@ late-zero : {A : Type 0} (z : List ℕ) (a : Result A) → Late a → (t : List 
 late-zero z (refused f) h t = cleared-replicate z t ∙ sym (zeroes-table (refused f) z t f refl h)
 late-zero z (done x) h t = cleared-replicate z t ∙ sym (zeroes-done (done x) z t x refl)
 
--- the fault of a stream names a place
+-- so does the fault of a stream
 fault-late : {A : Type 0} (n k : ℕ) (x : List ℕ) (a : Result A) → Late a → Late (unlessFault k (reading n x .fault) a)
 fault-late n k x a h = go (reading n x .fault) refl
   where
     go : (f : Option Fault) → reading n x .fault ≡ f → Late (unlessFault k f a)
     go none e = h
-    go (some f) e = fault-place n x f e
+    go (some f) e = fault-leaves n x f e
 
 -- the check of a stream, past its tests
 module _ (n : ℕ) (x : List ℕ) (t u : List (List ℕ)) (A : Result Checked) (few : n ≤ 32) (room : 1024 ≤ length t)
@@ -218,7 +218,7 @@ module _ (n op size : ℕ) (x y out : List ℕ) (t₁ t₂ t : List (List ℕ)) 
           ap₂ bothIn (check-is n x t₁ u₁ A few room₁ h₁) (check-is n y t₂ u₂ B few room₂ h₂)
           ∙ both-faults (reading n x .fault) (reading n y .fault) _ _
 
-      -- their refusal names a place
+      -- their refusal keeps the output
       both-late : Late (bothIn A B)
       both-late =
           subst Late (sym both-is) (fault-late n 1 x _ (fault-late n 2 y (done (min (covered n x) (covered n y))) tt))

@@ -12,7 +12,7 @@ use lib.ListN.{length, getD}
 use borrow.Author.Tests.{ltb-false, le-ltb, lt-leb}
 use Rattle.lists.specs.Lists.{All}
 use Rattle.reading.specs.Limits.{optionLimit, tableLimit}
-use Rattle.reading.specs.Causes.{Names, call, place, leavesAll, causeRow, Refusal, Result, refused, done, gate, cleared, tableAfter, unlessRefused}
+use Rattle.reading.specs.Causes.{Leaves, keepsAll, keepsOutput, leavesAll, causeRow, Refusal, Result, refused, done, gate, cleared, tableAfter, unlessRefused}
 use Rattle.reading.specs.Reading.{Reading, reading}
 use Rattle.reading.specs.Deciding.{Trace, decisionOf, decision, trace}
 use Rattle.reading.specs.Calls.{Verdict, isNo, isYes, notYet, verdictOf, verdict, decideAnswer, decide, digitOf, wordsFrom, bytesFrom, fillAnswer, fill}
@@ -98,15 +98,15 @@ module _ {A : Type 0} (a : Result A) where
   unfolding unlessRefused
   keeps-output old new f e = ap (λ (x : Result A). unlessRefused x old new) e
 
-  -- causes 1 to 6 leave a work table as it was
-  pub keeps-table : {R : Type 0} (z : R) (t : List R) (f : Refusal) → a ≡ refused f → causeRow (f .cause) .names ≡ call → tableAfter z a t ≡ t
+  -- a cause that leaves all as it was: so is a work table
+  pub keeps-table : {R : Type 0} (z : R) (t : List R) (f : Refusal) → a ≡ refused f → causeRow (f .cause) .leaves ≡ keepsAll → tableAfter z a t ≡ t
   unfolding tableAfter
-  keeps-table z t f e c = ap (λ (x : Result A). tableAfter z x t) e ∙ ap (λ (w : Names). elim (leavesAll w) [ true ↦ t | false ↦ cleared z t ]) c
+  keeps-table z t f e c = ap (λ (x : Result A). tableAfter z x t) e ∙ ap (λ (w : Leaves). elim (leavesAll w) [ true ↦ t | false ↦ cleared z t ]) c
 
-  -- past them every record is zero
-  pub zeroes-table : {R : Type 0} (z : R) (t : List R) (f : Refusal) → a ≡ refused f → causeRow (f .cause) .names ≡ place → tableAfter z a t ≡ cleared z t
+  -- one that keeps the output alone: every record is zero
+  pub zeroes-table : {R : Type 0} (z : R) (t : List R) (f : Refusal) → a ≡ refused f → causeRow (f .cause) .leaves ≡ keepsOutput → tableAfter z a t ≡ cleared z t
   unfolding tableAfter
-  zeroes-table z t f e c = ap (λ (x : Result A). tableAfter z x t) e ∙ ap (λ (w : Names). elim (leavesAll w) [ true ↦ t | false ↦ cleared z t ]) c
+  zeroes-table z t f e c = ap (λ (x : Result A). tableAfter z x t) e ∙ ap (λ (w : Leaves). elim (leavesAll w) [ true ↦ t | false ↦ cleared z t ]) c
 
   pub zeroes-done : {R : Type 0} (z : R) (t : List R) (x : A) → a ≡ done x → tableAfter z a t ≡ cleared z t
   unfolding tableAfter

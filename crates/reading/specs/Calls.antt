@@ -9,7 +9,7 @@ use lib.Dec.{ltb, leb, eqb}
 use lib.ListN.{length}
 use Rattle.reading.specs.Limits.{optionLimit, tableLimit, truthTableLeast, truthTableMost}
 use Rattle.reading.specs.Bytes.{isDigit}
-use Rattle.reading.specs.Causes.{optionCount, workTable, wordRange, truthTable, Result, refused, done, refusal, Test, test, gate, tableAfter, unlessRefused}
+use Rattle.reading.specs.Causes.{optionCount, workTable, wordRange, truthTable, Result, refused, done, refusal, Test, test, atCall, gate, tableAfter, unlessRefused}
 use Rattle.reading.specs.Element.{Mark, start, lead, begins, afterDigit, afterTwo, afterOne, over}
 use Rattle.reading.specs.Reading.{State, Fault, reading}
 use Rattle.reading.specs.Deciding.{Decision, undecided, decided, Trace, decisionOf, trace}
@@ -17,16 +17,16 @@ use Rattle.reading.specs.Deciding.{Decision, undecided, decided, Trace, 
 -- ---- Tests and streams -----------------------------------------------------------------------
 
 abbrev pub manyOptions : ℕ → Test
-manyOptions n = test optionCount (ltb optionLimit n)
+manyOptions n = test (atCall optionCount) (ltb optionLimit n)
 
 abbrev pub shortTable : ℕ → Test
-shortTable records = test workTable (ltb records tableLimit)
+shortTable records = test (atCall workTable) (ltb records tableLimit)
 
 abbrev pub notTruthTable : ℕ → Test
-notTruthTable n = test optionCount (not (leb truthTableLeast n && leb n truthTableMost))
+notTruthTable n = test (atCall optionCount) (not (leb truthTableLeast n && leb n truthTableMost))
 
 abbrev pub wrongLength : ℕ → List ℕ → Test
-wrongLength n bytes = test truthTable (not (eqb (length bytes) (2 ^ n / 8)))
+wrongLength n bytes = test (atCall truthTable) (not (eqb (length bytes) (2 ^ n / 8)))
 
 -- A stream is read: its fault, or what the call does with what was read. k: which stream it is
 abbrev pub unlessFault : {A : Type 0} → ℕ → Option Fault → Result A → Result A
@@ -99,7 +99,7 @@ unfoldable pub decideAnswer : ℕ → List ℕ → ℕ → ℕ → Result Verdic
 unfolding gate trace decisionOf isDigit
 decideAnswer n bytes w records =
     let t = trace n bytes in
-    gate (manyOptions n ∷ shortTable records ∷ test wordRange (leb (2 ^ n) w) ∷ []) (unlessFault 1 (t .reading .fault) (done (verdict n t w)))
+    gate (manyOptions n ∷ shortTable records ∷ test (atCall wordRange) (leb (2 ^ n) w) ∷ []) (unlessFault 1 (t .reading .fault) (done (verdict n t w)))
 
 -- DECIDING a word
 unfoldable pub decide : {R : Type 0} → R → ℕ → List ℕ → ℕ → List R → Read Verdict R

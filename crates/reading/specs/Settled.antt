@@ -13,11 +13,11 @@ use Rattle.lists.specs.Lists.{decide-le}
 use Rattle.lists.specs.Looks.{look-inside}
 use Rattle.reading.specs.Limits.{tableLimit}
 use Rattle.reading.specs.Nodes.{Node, node, isKept}
-use Rattle.reading.specs.Causes.{Cause, place, notStorable, declaredSize, tooDeep, notInTable, otherLevel, badNumber, causeRow}
+use Rattle.reading.specs.Causes.{Cause, place, keepsOutput, notStorable, declaredSize, tooDeep, notInTable, otherLevel, badNumber, causeRow}
 use Rattle.reading.specs.Element.{Element, opening, number, constant, turn, closing, storing, end, Open, inFirst, inSecond, Place, Outcome, got, fault, ranOut, step}
 use Rattle.reading.specs.Reading.{State, Fault, Reading, goes, fails, fresh, level, isStart, found, closed, isBad, withElement, barredColon, after, advance, nextBy, next, onward, reading}
 use Rattle.reading.specs.Deciding.{Drawing, drawing, drawUnless, Trace, traced, nextTrace, traceOn, trace}
-use Rattle.reading.specs.StepLaws.{AheadBy, digitPlace, step-ahead}
+use Rattle.reading.specs.StepLaws.{OfStream, AheadBy, digitPlace, step-ahead}
 use Rattle.reading.specs.Prefix.{chosen, byteAt, advance-chosen, trace-past, traceOn-fixed, traceOn-add, fault-stands}
 
 -- No fault is none.
@@ -27,7 +27,7 @@ never-some g e = let z : _≡_ {A = ℕ} 0 1 = cc in absurd (omega arith)
 -- What one step from s, drawn as d, can do: nothing; a fault at the place or behind it; or a place farther on. All inside the l bytes.
 pub data Moved (l : ℕ) (s : State) (d : Drawing) : Reading → Drawing → Type 0 where
   rests : Moved l s d (goes s) d
-  refuses : (c : Cause) (b : ℕ) (x : Drawing) → causeRow c .names ≡ place → s .place .at ≤ b → b < l → Moved l s d (fails s c b) x
+  refuses : (c : Cause) (b : ℕ) (x : Drawing) → OfStream c → s .place .at ≤ b → b < l → Moved l s d (fails s c b) x
   farther : (s′ : State) (x : Drawing) → s .place .at < s′ .place .at → s′ .place .at ≤ l → Moved l s d (goes s′) x
 
 module _ (l : ℕ) (s : State) (d : Drawing) where
@@ -41,25 +41,25 @@ module _ (l : ℕ) (s : State) (d : Drawing) where
 
   closed-moved : (n : ℕ) (q : Place) → s .place .at < q .at → q .at ≤ l → (o : List Open) → MovedBy (got closing) (closed n s q o)
   closed-moved n q h k [] = farther _ _ h k
-  closed-moved n q h k (inFirst ∷ o) = moved-cond (got closing) (isKept (s .place .last)) _ _ (farther _ _ h k) (refuses notStorable (s .place .at) _ refl (omega arith) (omega arith))
+  closed-moved n q h k (inFirst ∷ o) = moved-cond (got closing) (isKept (s .place .last)) _ _ (farther _ _ h k) (refuses notStorable (s .place .at) _ (refl, refl) (omega arith) (omega arith))
   closed-moved n q h k (inSecond a t ∷ o) = farther _ _ h k
 
   found-moved : (n i v : ℕ) (q : Place) → s .place .at < q .at → q .at ≤ l → s .place .at ≤ i → i < l → (x : Node) → MovedBy (got (number v)) (found n s q i v x)
   found-moved n i v q h k p j x =
-      moved-cond (got (number v)) (eqb (x .level) 0) _ _ (refuses notInTable i _ refl p j)
-      (moved-cond (got (number v)) (eqb (x .level) (level (s .place))) _ _ (farther _ _ h k) (refuses otherLevel i _ refl p j))
+      moved-cond (got (number v)) (eqb (x .level) 0) _ _ (refuses notInTable i _ (refl, refl) p j)
+      (moved-cond (got (number v)) (eqb (x .level) (level (s .place))) _ _ (farther _ _ h k) (refuses otherLevel i _ (refl, refl) p j))
 
   withElement-moved : (n i : ℕ) → s .place .at ≤ i → (e : Element) (q : Place) → AheadBy (s .place .at) i l (got e) (q .at) → MovedBy (got e) (withElement n s i e q)
   unfolding withElement
-  withElement-moved n i h opening q g = moved-cond (got opening) (ltb n (level (s .place))) _ _ (refuses tooDeep (s .place .at) _ refl (omega arith) (omega (arith, g .0, g .2))) (farther _ _ (g .0) (g .2))
+  withElement-moved n i h opening q g = moved-cond (got opening) (ltb n (level (s .place))) _ _ (refuses tooDeep (s .place .at) _ (refl, refl) (omega arith) (omega (arith, g .0, g .2))) (farther _ _ (g .0) (g .2))
   withElement-moved n i h (number v) q g =
       moved-cond (got (number v)) (isStart (s .place .mark)) _ _
-      (moved-cond (got (number v)) (ltb tableLimit v) _ _ (refuses declaredSize i _ refl h (omega (arith, g .1, g .2))) (farther _ _ (g .0) (g .2)))
+      (moved-cond (got (number v)) (ltb tableLimit v) _ _ (refuses declaredSize i _ (refl, refl) h (omega (arith, g .1, g .2))) (farther _ _ (g .0) (g .2)))
       (found-moved n i v q (g .0) (g .2) h (omega (arith, g .1, g .2)) (node (s .table) v))
   withElement-moved n i h constant q g = farther _ _ (g .0) (g .2)
   withElement-moved n i h turn q g = farther _ _ (g .0) (g .2)
   withElement-moved n i h closing q g = closed-moved n q (g .0) (g .2) (s .place .opens)
-  withElement-moved n i h (storing k) q g = moved-cond (got (storing k)) (isBad s k) _ _ (refuses badNumber (s .place .at + 1) _ refl (omega arith) (omega (arith, g .1, g .2))) (farther _ _ (g .0) (g .2))
+  withElement-moved n i h (storing k) q g = moved-cond (got (storing k)) (isBad s k) _ _ (refuses badNumber (s .place .at + 1) _ (refl, refl) (omega arith) (omega (arith, g .1, g .2))) (farther _ _ (g .0) (g .2))
   withElement-moved n i h end q g = farther _ _ (g .0) (g .2)
 
   after-moved : (n i : ℕ) → s .place .at ≤ i → (o : Outcome) (q : Place) → AheadBy (s .place .at) i l o (q .at) → MovedBy o (after n s i o q)
@@ -69,7 +69,7 @@ module _ (l : ℕ) (s : State) (d : Drawing) where
   after-moved n i h ranOut q g = rests
 
   chosen-moved : (n b : ℕ) (t : Bool) → s .place .at < l → (o : Outcome) (q : Place) → AheadBy (s .place .at) (digitPlace (s .place .at) b) l o (q .at) → MovedBy o (chosen n s b t o q)
-  chosen-moved n b true h o q g = refuses notStorable (s .place .at) _ refl (omega arith) h
+  chosen-moved n b true h o q g = refuses notStorable (s .place .at) _ (refl, refl) (omega arith) h
   chosen-moved n b false h o q g = after-moved n (digitPlace (s .place .at) b) (low (eqb b _)) o q g
     where
       low : (t : Bool) → s .place .at ≤ cond t (s .place .at + 1) (s .place .at)
@@ -170,9 +170,9 @@ trace-settled n bytes k t e h =
 
 -- ---- The lowest fault place ------------------------------------------------------------------
 
--- no fault, or one inside the l bytes, whose cause names a place
+-- no fault, or one inside the l bytes, with a cause of streams
 abbrev Inside : ℕ → Option Fault → Type 0
-Inside l f = (g : Fault) → f ≡ some g → (g .byte < l) × (causeRow (g .cause) .names ≡ place)
+Inside l f = (g : Fault) → f ≡ some g → (g .byte < l) × OfStream (g .cause)
 
 same-byte : (b : ℕ) (c : Cause) (g : Fault) → some (record { cause = c; byte = b }) ≡ some g → b ≡ g .byte
 same-byte b c g e = cc
@@ -182,7 +182,7 @@ same-cause b c g e = cc
 
 moved-inside : (l : ℕ) (s : State) (d : Drawing) (r : Reading) (x : Drawing) → Moved l s d r x → Inside l (r .fault)
 moved-inside l s d r x rests = λ g e. never-some g e
-moved-inside l s d r x (refuses c b y i h k) = λ g e. (omega (arith, same-byte b c g e), ap (λ (a : Cause). causeRow a .names) (sym (same-cause b c g e)) ∙ i)
+moved-inside l s d r x (refuses c b y i h k) = λ g e. (omega (arith, same-byte b c g e), subst OfStream (same-cause b c g e) i)
 moved-inside l s d r x (farther s′ y h k) = λ g e. never-some g e
 
 next-inside : (n : ℕ) (bytes : List ℕ) (s : State) (f : Option Fault) → Inside (length bytes) f → Inside (length bytes) (nextBy n bytes s f .fault)
@@ -201,9 +201,13 @@ fault-known n bytes = onward-inside (suc (length bytes)) n bytes (goes fresh) (�
 pub fault-inside : (n : ℕ) (bytes : List ℕ) (f : Fault) → reading n bytes .fault ≡ some f → f .byte < length bytes
 fault-inside n bytes f e = fault-known n bytes f e .0
 
--- A fault of a stream has a cause that names a place.
+-- A fault of a stream has a cause that names a place,
 pub fault-place : (n : ℕ) (bytes : List ℕ) (f : Fault) → reading n bytes .fault ≡ some f → causeRow (f .cause) .names ≡ place
-fault-place n bytes f e = fault-known n bytes f e .1
+fault-place n bytes f e = fault-known n bytes f e .1 .0
+
+-- and keeps the output.
+pub fault-leaves : (n : ℕ) (bytes : List ℕ) (f : Fault) → reading n bytes .fault ≡ some f → causeRow (f .cause) .leaves ≡ keepsOutput
+fault-leaves n bytes f e = fault-known n bytes f e .1 .1
 
 same-some : (f g : Fault) → some f ≡ some g → f .byte ≡ g .byte
 same-some f g e = cc

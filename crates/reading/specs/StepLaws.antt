@@ -130,10 +130,14 @@ tokenAt closing a d = a
 tokenAt (storing k) a d = a + 1
 tokenAt end a d = a
 
+-- a cause of a fault in a stream: its refusal names a place, and keeps the output
+abbrev pub OfStream : Cause → Type 0
+OfStream c = (causeRow c .names ≡ C.place) × (causeRow c .leaves ≡ C.keepsOutput)
+
 -- the new place lies behind that and inside the l bytes; a fault lies at the old place or behind it, and inside
 abbrev pub AheadBy : ℕ → ℕ → ℕ → Outcome → ℕ → Type 0
 AheadBy a d l (got e) q = (a < q) × (tokenAt e a d < q) × (q ≤ l)
-AheadBy a d l (fault c b) q = (a ≤ b) × (b < l) × (causeRow c .names ≡ C.place)
+AheadBy a d l (fault c b) q = (a ≤ b) × (b < l) × OfStream c
 AheadBy a d l ranOut q = Unit {0}
 
 abbrev pub Ahead : ℕ → ℕ → ℕ → Step → Type 0
@@ -199,18 +203,18 @@ module _ (bytes : List ℕ) (p : Place) (b : ℕ) (inside : p .at < length bytes
   far-cond : (t : Bool) (x y : Step) → (t ≡ true → Far x) → (t ≡ false → Far y) → Far (cond t x y)
   far-cond = ahead-cond (p .at) (digitPlace (p .at) b) (length bytes)
 
-  far-fails : (c : Cause) (i : ℕ) → causeRow c .names ≡ C.place → p .at ≤ i → i < length bytes → Far (fails p c i)
+  far-fails : (c : Cause) (i : ℕ) → OfStream c → p .at ≤ i → i < length bytes → Far (fails p c i)
   far-fails c i e h k = (h, k, e)
 
   nodeBegins-ahead : (o : List Open) → Far (nodeBegins bytes p o b)
   nodeBegins-ahead o =
       far-cond (eqb b opener) _ _
-      (λ e. far-cond (ltb (length o) openLimit) _ _ (λ _. (omega arith, omega arith, omega arith)) (λ _. far-fails tooDeep (p .at) refl (omega arith) inside))
+      (λ e. far-cond (ltb (length o) openLimit) _ _ (λ _. (omega arith, omega arith, omega arith)) (λ _. far-fails tooDeep (p .at) (refl, refl) (omega arith) inside))
       (λ _. far-cond (isDigit b) _ _
       (λ e. let g : eqb b blank ≡ false = digit-not-blank b e in
       let k : digitPlace (p .at) b < p .at + 1 = rw g (omega arith) in
       numberRead-ahead (p .at) (digitPlace (p .at) b) (length bytes) p o (numberAt bytes (p .at) b) (p .at + 1) (omega arith) k (numberAt-long bytes (p .at) b inside))
-      (λ _. far-fails wrongByte (p .at) refl (omega arith) inside))
+      (λ _. far-fails wrongByte (p .at) (refl, refl) (omega arith) inside))
 
   afterSpace-ahead : (o : List Open) (x : Option ℕ) → getElem? bytes (p .at + 1) ≡ x → Far (afterSpace bytes p o x)
   afterSpace-ahead o none h = tt
@@ -218,7 +222,7 @@ module _ (bytes : List ℕ) (p : Place) (b : ℕ) (inside : p .at < length bytes
       let k : p .at + 1 < length bytes = look-some bytes (p .at + 1) c h in
       far-cond (isDigit c) _ _
       (λ _. numberRead-ahead (p .at) (digitPlace (p .at) b) (length bytes) p o (numberAt bytes (p .at + 1) c) (p .at + 1 + 1) (omega arith) (omega (arith, digitPlace-low (p .at) b)) (numberAt-long bytes (p .at + 1) c k))
-      (λ _. far-fails wrongByte (p .at + 1) refl (omega arith) k)
+      (λ _. far-fails wrongByte (p .at + 1) (refl, refl) (omega arith) k)
 
   afterColon-ahead : (x : Option ℕ) → getElem? bytes (p .at + 1) ≡ x → Far (afterColon bytes p x)
   afterColon-ahead none h = tt
@@ -226,17 +230,17 @@ module _ (bytes : List ℕ) (p : Place) (b : ℕ) (inside : p .at < length bytes
       let k : p .at + 1 < length bytes = look-some bytes (p .at + 1) c h in
       far-cond (isDigit c) _ _
       (λ _. storingRead-ahead (p .at) (digitPlace (p .at) b) (length bytes) p (numberAt bytes (p .at + 1) c) (p .at + 1 + 1) (omega arith) (numberAt-long bytes (p .at + 1) c k))
-      (λ _. far-fails wrongByte (p .at + 1) refl (omega arith) k)
+      (λ _. far-fails wrongByte (p .at + 1) (refl, refl) (omega arith) k)
 
   nodeEnded-ahead : (d : Bool) (o : List Open) → Far (nodeEnded bytes p d b o)
-  nodeEnded-ahead d [] = far-cond (eqb b dot) _ _ (λ _. (omega arith, omega arith, omega arith)) (λ _. far-fails wrongByte (p .at) refl (omega arith) inside)
+  nodeEnded-ahead d [] = far-cond (eqb b dot) _ _ (λ _. (omega arith, omega arith, omega arith)) (λ _. far-fails wrongByte (p .at) (refl, refl) (omega arith) inside)
   nodeEnded-ahead d (inFirst ∷ o) =
       far-cond (eqb b tilde) _ _ (λ _. (omega arith, omega arith, omega arith))
       (λ _. far-cond (eqb b closer) _ _ (λ _. (omega arith, omega arith, omega arith))
       (λ _. far-cond (d && eqb b blank) _ _ (λ _. afterSpace-ahead (inSecond (p .last) false ∷ o) (getElem? bytes (p .at + 1)) refl)
-      (λ _. far-cond (d && isDigit b) _ _ (λ _. far-fails wrongByte (p .at) refl (omega arith) inside)
+      (λ _. far-cond (d && isDigit b) _ _ (λ _. far-fails wrongByte (p .at) (refl, refl) (omega arith) inside)
       (λ _. nodeBegins-ahead (inSecond (p .last) false ∷ o)))))
-  nodeEnded-ahead d (inSecond a t ∷ o) = far-cond (eqb b closer) _ _ (λ _. (omega arith, omega arith, omega arith)) (λ _. far-fails wrongByte (p .at) refl (omega arith) inside)
+  nodeEnded-ahead d (inSecond a t ∷ o) = far-cond (eqb b closer) _ _ (λ _. (omega arith, omega arith, omega arith)) (λ _. far-fails wrongByte (p .at) (refl, refl) (omega arith) inside)
 
   size-ahead : isDigit b ≡ true → (x : Scan) → Long (p .at + 1) (length bytes) x → Far (sizeRead bytes p x)
   size-ahead e unread g = tt
@@ -249,16 +253,16 @@ module _ (bytes : List ℕ) (p : Place) (b : ℕ) (inside : p .at < length bytes
       go none h = tt
       go (some c) h =
           let k : i < length bytes = look-some bytes i c h in
-          far-cond (eqb c lineFeed) _ _ (λ _. (omega (arith, g .0), omega (arith, g .0, low), omega arith)) (λ _. far-fails wrongByte i refl (omega (arith, g .0)) k)
+          far-cond (eqb c lineFeed) _ _ (λ _. (omega (arith, g .0), omega (arith, g .0, low), omega arith)) (λ _. far-fails wrongByte i (refl, refl) (omega (arith, g .0)) k)
 
   stepBy-ahead : (m : Mark) → Far (stepBy bytes p b m)
-  stepBy-ahead start = far-cond (isDigit b) _ _ (λ e. size-ahead e (numberAt bytes (p .at) b) (numberAt-long bytes (p .at) b inside)) (λ _. far-fails wrongByte (p .at) refl (omega arith) inside)
+  stepBy-ahead start = far-cond (isDigit b) _ _ (λ e. size-ahead e (numberAt bytes (p .at) b) (numberAt-long bytes (p .at) b inside)) (λ _. far-fails wrongByte (p .at) (refl, refl) (omega arith) inside)
   stepBy-ahead lead = far-cond (eqb b tilde) _ _ (λ _. (omega arith, omega arith, omega arith)) (λ _. nodeBegins-ahead (p .opens))
   stepBy-ahead begins = nodeBegins-ahead (p .opens)
   stepBy-ahead afterDigit = nodeEnded-ahead true (p .opens)
   stepBy-ahead afterTwo = far-cond (eqb b colon) _ _ (λ _. afterColon-ahead (getElem? bytes (p .at + 1)) refl) (λ _. nodeEnded-ahead false (p .opens))
   stepBy-ahead afterOne = nodeEnded-ahead false (p .opens)
-  stepBy-ahead over = far-fails wrongByte (p .at) refl (omega arith) inside
+  stepBy-ahead over = far-fails wrongByte (p .at) (refl, refl) (omega arith) inside
 
 -- A STEP LEADS AHEAD: an element takes a byte at least, and ends inside the bytes; so does a fault.
 pub step-ahead : (p : Place) (bytes : List ℕ) (b : ℕ) → getElem? bytes (p .at) ≡ some b → Ahead (p .at) (digitPlace (p .at) b) (length bytes) (step p bytes)

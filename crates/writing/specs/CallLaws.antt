@@ -3,7 +3,7 @@ use mathlib.Core.Path.{_≡_}
 use mathlib.Core.List.{List, [], _∷_}
 use Prim.Native.Nat.{ℕ}
 use lib.ListN.{length}
-use Rattle.reading.specs.Causes.{call, place, causeRow, Refusal, refused, done, cleared}
+use Rattle.reading.specs.Causes.{keepsAll, keepsOutput, causeRow, Refusal, refused, done, cleared}
 use Rattle.reading.specs.CallLaws.{keeps-output, keeps-table, zeroes-table, zeroes-done}
 use Rattle.writing.specs.Run.{Answer}
 use Rattle.writing.specs.Calls.{writeAnswer, write, combineAnswer, combine}
@@ -22,13 +22,13 @@ module _ {R S : Type 0} (z : R) (o : S) (n op size : ℕ) (x y out : List ℕ) (
   abbrev pub Tables : List R → List R → List S → Type 0
   Tables a b c = let m = combine z o n op size x y out t u v in (m .first ≡ a) × (m .second ≡ b) × (m .third ≡ c)
 
-  pub combine-untouched : (f : Refusal) → combine z o n op size x y out t u v .answer ≡ refused f → causeRow (f .cause) .names ≡ call → Tables t u v
+  pub combine-untouched : (f : Refusal) → combine z o n op size x y out t u v .answer ≡ refused f → causeRow (f .cause) .leaves ≡ keepsAll → Tables t u v
   unfolding combine
   combine-untouched f e c =
       let a = combineAnswer n op size (x ∷ y ∷ []) out (length t ∷ length u ∷ length v ∷ []) in
       (keeps-table a z t f e c, keeps-table a z u f e c, keeps-table a o v f e c)
 
-  pub combine-zeroed : (f : Refusal) → combine z o n op size x y out t u v .answer ≡ refused f → causeRow (f .cause) .names ≡ place → Tables (cleared z t) (cleared z u) (cleared o v)
+  pub combine-zeroed : (f : Refusal) → combine z o n op size x y out t u v .answer ≡ refused f → causeRow (f .cause) .leaves ≡ keepsOutput → Tables (cleared z t) (cleared z u) (cleared o v)
   unfolding combine
   combine-zeroed f e c =
       let a = combineAnswer n op size (x ∷ y ∷ []) out (length t ∷ length u ∷ length v ∷ []) in

@@ -8,7 +8,7 @@ use lib.Dec.{ltb, leb, eqb}
 use lib.ListN.{length, getD}
 use Rattle.reading.specs.Limits.{tableLimit}
 use Rattle.reading.specs.Bytes.{isDigit}
-use Rattle.reading.specs.Causes.{operatorCode, sizeToWrite, Result, done, Test, test, gate, tableAfter, unlessRefused}
+use Rattle.reading.specs.Causes.{operatorCode, sizeToWrite, Result, done, Test, test, atCall, gate, tableAfter, unlessRefused}
 use Rattle.reading.specs.Deciding.{Decision, undecided, decided, decision}
 use Rattle.reading.specs.Reading.{reading}
 use Rattle.reading.specs.Calls.{manyOptions, shortTable, notTruthTable, wrongLength, unlessFault}
@@ -17,7 +17,7 @@ use Rattle.writing.specs.Run.{Input, runCovered, operate, runText, runOf
 -- ---- Writing from a truth table --------------------------------------------------------------
 
 abbrev pub largeSize : ℕ → Test
-largeSize size = test sizeToWrite (ltb tableLimit size)
+largeSize size = test (atCall sizeToWrite) (ltb tableLimit size)
 
 -- "word w is binary digit w mod 8 (0 lowest) of byte w / 8"
 abbrev pub truthAt : List ℕ → ℕ → Bool
@@ -58,7 +58,7 @@ operators k = 2 ^ (2 ^ k)
 
 -- "operator above 15", of two inputs
 abbrev pub largeOperator : ℕ → ℕ → Test
-largeOperator k op = test operatorCode (leb (operators k) op)
+largeOperator k op = test (atCall operatorCode) (leb (operators k) op)
 
 -- "then all of stream 1, then all of stream 2"; k: the number of the first of these streams
 unfoldable pub unlessFaults : {A : Type 0} → ℕ → ℕ → List (List ℕ) → Result A → Result A
