@@ -8,7 +8,7 @@ use mathlib.Core.Option.{Option, none, some}
 use Prim.Native.Nat.{ℕ, _+_}
 use lib.Dec.{ltb, eqb}
 use lib.ListN.{length, getElem?}
-use Rattle.scanner.specs.Kinds.{kindTable, digitIn, numberBy, digit-in, number-by}
+use Rattle.scanner.specs.Kinds.{kindTable, digitIn, blankIn, lineFeedIn, dotIn, openerIn, closerIn, tildeIn, colonIn, numberBy, digit-in, blank-in, line-feed-in, dot-in, opener-in, closer-in, tilde-in, colon-in, number-by}
 use Rattle.reading.specs.Limits.{openLimit}
 use Rattle.reading.specs.Bytes.{opener, closer, tilde, colon, dot, blank, lineFeed, isDigit}
 use Rattle.reading.specs.Nodes.{Ref}
@@ -68,13 +68,13 @@ waited at m = record { outcome = ranOut; at = at; mark = m; change = same }
 
 -- ---- The glance ------------------------------------------------------------------------------
 
-abbrev pub sizeLine : ℕ → Mark → ℕ → ℕ → Option ℕ → Glance
-sizeLine at m v e none = waited at m
-sizeLine at m v e (some b) = cond (eqb b lineFeed) (gave (number v) (e + 1) lead same) (failed at m wrongByte e)
+abbrev pub sizeLine : List ℕ → ℕ → Mark → ℕ → ℕ → Option ℕ → Glance
+sizeLine k at m v e none = waited at m
+sizeLine k at m v e (some b) = cond (lineFeedIn k b) (gave (number v) (e + 1) lead same) (failed at m wrongByte e)
 
-abbrev pub sizeSeen : List ℕ → ℕ → Mark → Scan → Glance
-sizeSeen bytes at m (read v e) = sizeLine at m v e (getElem? bytes e)
-sizeSeen bytes at m unread = waited at m
+abbrev pub sizeSeen : List ℕ → List ℕ → ℕ → Mark → Scan → Glance
+sizeSeen k bytes at m (read v e) = sizeLine k at m v e (getElem? bytes e)
+sizeSeen k bytes at m unread = waited at m
 
 abbrev pub numberSeen : ℕ → Mark → Change → Scan → Glance
 numberSeen at m c (read v e) = gave (cond (eqb v 0) constant (number v)) e afterDigit c
@@ -87,7 +87,7 @@ storingSeen at m unread = waited at m
 -- two: the node that begins is a second child; depth: the nodes that are open; b: the byte at the place
 abbrev pub nodeSeen : List ℕ → List ℕ → ℕ → Mark → ℕ → Bool → ℕ → Glance
 nodeSeen k bytes at m depth two b =
-    cond (eqb b opener) (cond (ltb depth openLimit) (gave opening (at + 1) begins (cond two secondPush push)) (failed at m tooDeep at))
+    cond (openerIn k b) (cond (ltb depth openLimit) (gave opening (at + 1) begins (cond two secondPush push)) (failed at m tooDeep at))
     (cond (digitIn k b) (numberSeen at m (cond two (second false) same) (numberBy k bytes at b))
     (failed at m wrongByte at))
 
@@ -102,16 +102,16 @@ colonSeen k bytes at m (some b) = cond (digitIn k b) (storingSeen at m (numberBy
 -- d: the node that has ended ends in a digit
 abbrev pub innerSeen : List ℕ → List ℕ → ℕ → Mark → ℕ → Bool → ℕ → Glance
 innerSeen k bytes at m depth d b =
-    cond (eqb b tilde) (gave turn (at + 1) begins (second true))
-    (cond (eqb b closer) (gave closing (at + 1) afterOne pop)
-    (cond (d && eqb b blank) (spaceSeen k bytes at m (getElem? bytes (at + 1)))
+    cond (tildeIn k b) (gave turn (at + 1) begins (second true))
+    (cond (closerIn k b) (gave closing (at + 1) afterOne pop)
+    (cond (d && blankIn k b) (spaceSeen k bytes at m (getElem? bytes (at + 1)))
     (cond (d && digitIn k b) (failed at m wrongByte at)
     (nodeSeen k bytes at m depth true b))))
 
 abbrev pub endSeen : List ℕ → List ℕ → ℕ → Mark → Top → ℕ → Bool → ℕ → Glance
-endSeen k bytes at m empty depth d b = cond (eqb b dot) (gave end (at + 1) over same) (failed at m wrongByte at)
+endSeen k bytes at m empty depth d b = cond (dotIn k b) (gave end (at + 1) over same) (failed at m wrongByte at)
 endSeen k bytes at m inner depth d b = innerSeen k bytes at m depth d b
-endSeen k bytes at m outer depth d b = cond (eqb b closer) (gave closing (at + 1) afterTwo pop) (failed at m wrongByte at)
+endSeen k bytes at m outer depth d b = cond (closerIn k b) (gave closing (at + 1) afterTwo pop) (failed at m wrongByte at)
 
 -- a byte that is not allowed at the place
 abbrev pub wrongAt : ℕ → Mark → Glance
@@ -119,18 +119,18 @@ wrongAt at m = failed at m wrongByte at
 
 -- where a node begins that is no second child: after the size it may stand behind a `~`
 abbrev pub leadSeen : List ℕ → List ℕ → ℕ → Mark → ℕ → ℕ → Glance
-leadSeen k bytes at m depth b = cond (eqb b tilde && isLead m) (gave turn (at + 1) begins same) (nodeSeen k bytes at m depth false b)
+leadSeen k bytes at m depth b = cond (isLead m && tildeIn k b) (gave turn (at + 1) begins same) (nodeSeen k bytes at m depth false b)
 
 -- where a node has ended: one of two children may be stored
 abbrev pub endedSeen : List ℕ → List ℕ → ℕ → Mark → Top → ℕ → Bool → ℕ → Glance
-endedSeen k bytes at m top depth d b = cond (eqb b colon && isTwo m) (colonSeen k bytes at m (getElem? bytes (at + 1))) (endSeen k bytes at m top depth d b)
+endedSeen k bytes at m top depth d b = cond (isTwo m && colonIn k b) (colonSeen k bytes at m (getElem? bytes (at + 1))) (endSeen k bytes at m top depth d b)
 
 abbrev pub glanceBy : List ℕ → List ℕ → ℕ → Mark → Top → ℕ → ℕ → Glance
-glanceBy k bytes at start top depth b = cond (digitIn k b) (sizeSeen bytes at start (numberBy k bytes at b)) (failed at start wrongByte at)
-glanceBy k bytes at lead top depth b = cond (eqb b tilde) (gave turn (at + 1) begins same) (nodeSeen k bytes at lead depth false b)
+glanceBy k bytes at start top depth b = cond (digitIn k b) (sizeSeen k bytes at start (numberBy k bytes at b)) (failed at start wrongByte at)
+glanceBy k bytes at lead top depth b = cond (tildeIn k b) (gave turn (at + 1) begins same) (nodeSeen k bytes at lead depth false b)
 glanceBy k bytes at begins top depth b = nodeSeen k bytes at begins depth false b
 glanceBy k bytes at afterDigit top depth b = endSeen k bytes at afterDigit top depth true b
-glanceBy k bytes at afterTwo top depth b = cond (eqb b colon) (colonSeen k bytes at afterTwo (getElem? bytes (at + 1))) (endSeen k bytes at afterTwo top depth false b)
+glanceBy k bytes at afterTwo top depth b = cond (colonIn k b) (colonSeen k bytes at afterTwo (getElem? bytes (at + 1))) (endSeen k bytes at afterTwo top depth false b)
 glanceBy k bytes at afterOne top depth b = endSeen k bytes at afterOne top depth false b
 glanceBy k bytes at over top depth b = failed at over wrongByte at
 
@@ -170,7 +170,7 @@ same-node : (bytes : List ℕ) (at : ℕ) (m : Mark) (o : List Open) (r : Ref) (
     → Same (place at m o r) (nodeBegins bytes (place at m o r) q b) (nodeSeen kindTable bytes at m (length o) two b)
 same-node bytes at m o r two q b e f l =
     let p = place at m o r in
-    same-cond p (eqb b opener) _ _ _ _
+    same-test p (eqb b opener) (openerIn kindTable b) _ _ _ _ (opener-in b)
     (subst (λ (k : ℕ). Same p (cond (ltb (length q) openLimit) (gives opening (moved p (at + 1) begins (inFirst ∷ q))) (fails p tooDeep at)) (cond (ltb k openLimit) (gave opening (at + 1) begins (cond two secondPush push)) (failed at m tooDeep at))) l
     (same-cond p (ltb (length q) openLimit) _ _ _ _ (ap (λ (u : List Open). gives opening (place (at + 1) begins u r)) f) refl))
     (same-digit p b _ _ _ _ (same-number at m o r (cond two (second false) same) q e (numberAt bytes at b) (numberBy kindTable bytes at b) (number-by bytes at b)) refl)
@@ -188,30 +188,30 @@ same-colon bytes at m o r (some b) = same-digit (place at m o r) b _ _ _ _ (subs
     go unread = refl
 
 same-ended : (bytes : List ℕ) (at : ℕ) (m : Mark) (o : List Open) (r : Ref) (d : Bool) (b : ℕ) → Same (place at m o r) (nodeEnded bytes (place at m o r) d b o) (endSeen kindTable bytes at m (topOf o) (length o) d b)
-same-ended bytes at m [] r d b = same-cond (place at m [] r) (eqb b dot) _ _ _ _ refl refl
+same-ended bytes at m [] r d b = same-test (place at m [] r) (eqb b dot) (dotIn kindTable b) _ _ _ _ (dot-in b) refl refl
 same-ended bytes at m (inFirst ∷ o) r d b =
     let p = place at m (inFirst ∷ o) r in
-    same-cond p (eqb b tilde) _ _ _ _ refl
-    (same-cond p (eqb b closer) _ _ _ _ refl
-    (same-cond p (d && eqb b blank) _ _ _ _ (same-space bytes at m o r (getElem? bytes (at + 1)))
+    same-test p (eqb b tilde) (tildeIn kindTable b) _ _ _ _ (tilde-in b) refl
+    (same-test p (eqb b closer) (closerIn kindTable b) _ _ _ _ (closer-in b) refl
+    (same-test p (d && eqb b blank) (d && blankIn kindTable b) _ _ _ _ (ap (λ (u : Bool). d && u) (blank-in b)) (same-space bytes at m o r (getElem? bytes (at + 1)))
     (same-test p (d && isDigit b) (d && digitIn kindTable b) _ _ _ _ (ap (λ (u : Bool). d && u) (digit-in b)) refl
     (same-node bytes at m (inFirst ∷ o) r true (inSecond r false ∷ o) b refl refl refl))))
-same-ended bytes at m (inSecond a t ∷ o) r d b = same-cond (place at m (inSecond a t ∷ o) r) (eqb b closer) _ _ _ _ refl refl
+same-ended bytes at m (inSecond a t ∷ o) r d b = same-test (place at m (inSecond a t ∷ o) r) (eqb b closer) (closerIn kindTable b) _ _ _ _ (closer-in b) refl refl
 
-same-size : (bytes : List ℕ) (at : ℕ) (m : Mark) (o : List Open) (r : Ref) (x : Scan) → Same (place at m o r) (sizeRead bytes (place at m o r) x) (sizeSeen bytes at m x)
+same-size : (bytes : List ℕ) (at : ℕ) (m : Mark) (o : List Open) (r : Ref) (x : Scan) → Same (place at m o r) (sizeRead bytes (place at m o r) x) (sizeSeen kindTable bytes at m x)
 same-size bytes at m o r (read v e) = go (getElem? bytes e)
   where
-    go : (x : Option ℕ) → Same (place at m o r) (sizeEnds (place at m o r) v e x) (sizeLine at m v e x)
+    go : (x : Option ℕ) → Same (place at m o r) (sizeEnds (place at m o r) v e x) (sizeLine kindTable at m v e x)
     go none = refl
-    go (some b) = same-cond (place at m o r) (eqb b lineFeed) _ _ _ _ refl refl
+    go (some b) = same-test (place at m o r) (eqb b lineFeed) (lineFeedIn kindTable b) _ _ _ _ (line-feed-in b) refl refl
 same-size bytes at m o r unread = refl
 
 same-by : (bytes : List ℕ) (at : ℕ) (m : Mark) (o : List Open) (r : Ref) (b : ℕ) → Same (place at m o r) (stepBy bytes (place at m o r) b m) (glanceBy kindTable bytes at m (topOf o) (length o) b)
-same-by bytes at start o r b = same-digit (place at start o r) b _ _ _ _ (subst (λ (x : Scan). Same (place at start o r) (sizeRead bytes (place at start o r) (numberAt bytes at b)) (sizeSeen bytes at start x)) (sym (number-by bytes at b)) (same-size bytes at start o r (numberAt bytes at b))) refl
-same-by bytes at lead o r b = same-cond (place at lead o r) (eqb b tilde) _ _ _ _ refl (same-node bytes at lead o r false o b refl refl refl)
+same-by bytes at start o r b = same-digit (place at start o r) b _ _ _ _ (subst (λ (x : Scan). Same (place at start o r) (sizeRead bytes (place at start o r) (numberAt bytes at b)) (sizeSeen kindTable bytes at start x)) (sym (number-by bytes at b)) (same-size bytes at start o r (numberAt bytes at b))) refl
+same-by bytes at lead o r b = same-test (place at lead o r) (eqb b tilde) (tildeIn kindTable b) _ _ _ _ (tilde-in b) refl (same-node bytes at lead o r false o b refl refl refl)
 same-by bytes at begins o r b = same-node bytes at begins o r false o b refl refl refl
 same-by bytes at afterDigit o r b = same-ended bytes at afterDigit o r true b
-same-by bytes at afterTwo o r b = same-cond (place at afterTwo o r) (eqb b colon) _ _ _ _ (same-colon bytes at afterTwo o r (getElem? bytes (at + 1))) (same-ended bytes at afterTwo o r false b)
+same-by bytes at afterTwo o r b = same-test (place at afterTwo o r) (eqb b colon) (colonIn kindTable b) _ _ _ _ (colon-in b) (same-colon bytes at afterTwo o r (getElem? bytes (at + 1))) (same-ended bytes at afterTwo o r false b)
 same-by bytes at afterOne o r b = same-ended bytes at afterOne o r false b
 same-by bytes at over o r b = refl
 

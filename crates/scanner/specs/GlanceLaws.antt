@@ -12,10 +12,9 @@ use Rattle.lists.specs.Lists.{decide-eq}
 use Rattle.lists.specs.Looks.{look-past, look-inside}
 use mathlib.Core.Logic.{⊎-elim, _≢_}
 use Rattle.reading.specs.Limits.{openLimit}
-use Rattle.reading.specs.Bytes.{opener, closer, tilde, blank, lineFeed}
 use Rattle.reading.specs.Causes.{wrongByte, tooDeep}
 use Rattle.reading.specs.Element.{opening, number, constant, turn, closing, storing, Mark, lead, begins, afterDigit, afterOne, Scan, read, unread}
-use Rattle.scanner.specs.Kinds.{digitIn, numberBy}
+use Rattle.scanner.specs.Kinds.{digitIn, blankIn, lineFeedIn, openerIn, closerIn, tildeIn, numberBy}
 use Rattle.scanner.specs.Glance.{Change, same, push, pop, secondPush, second, Top, Glance, gave, failed, waited, sizeLine, sizeSeen, numberSeen, storingSeen, nodeSeen, spaceSeen, colonSeen, innerSeen, glanceBy, glance}
 use Rattle.scanner.specs.Capped.{cap, capScan, capGlance}
 
@@ -37,17 +36,17 @@ storing-capped : (at : ℕ) (m : Mark) (x : Scan) → storingSeen at m (capScan 
 storing-capped at m (read v e) = refl
 storing-capped at m unread = refl
 
-size-capped : (bytes : List ℕ) (at : ℕ) (m : Mark) (x : Scan) → sizeSeen bytes at m (capScan x) ≡ capGlance (sizeSeen bytes at m x)
-size-capped bytes at m (read v e) = go (getElem? bytes e)
+size-capped : (k bytes : List ℕ) (at : ℕ) (m : Mark) (x : Scan) → sizeSeen k bytes at m (capScan x) ≡ capGlance (sizeSeen k bytes at m x)
+size-capped k bytes at m (read v e) = go (getElem? bytes e)
   where
     by : (t : Bool) → cond t (gave (number (cap v)) (e + 1) lead same) (failed at m wrongByte e) ≡ capGlance (cond t (gave (number v) (e + 1) lead same) (failed at m wrongByte e))
     by true = refl
     by false = refl
 
-    go : (o : Option ℕ) → sizeLine at m (cap v) e o ≡ capGlance (sizeLine at m v e o)
+    go : (o : Option ℕ) → sizeLine k at m (cap v) e o ≡ capGlance (sizeLine k at m v e o)
     go none = refl
-    go (some b) = by (eqb b lineFeed)
-size-capped bytes at m unread = refl
+    go (some b) = by (lineFeedIn k b)
+size-capped k bytes at m unread = refl
 
 -- t, v, e: whether the number x is read, its value and the place after it, as code holds them
 module _ (t : Bool) (v e : ℕ) (x : Scan) (h : cond t (read v e) unread ≡ capScan x) (at : ℕ) (m : Mark) where
@@ -60,8 +59,8 @@ module _ (t : Bool) (v e : ℕ) (x : Scan) (h : cond t (read v e) unread ≡ cap
   by-storing : (g : Glance) → g ≡ storingSeen at m scan → g ≡ capGlance (storingSeen at m x)
   by-storing g k = k ∙ ap (storingSeen at m) h ∙ storing-capped at m x
 
-  by-size : (bytes : List ℕ) (g : Glance) → g ≡ sizeSeen bytes at m scan → g ≡ capGlance (sizeSeen bytes at m x)
-  by-size bytes g k = k ∙ ap (sizeSeen bytes at m) h ∙ size-capped bytes at m x
+  by-size : (k bytes : List ℕ) (g : Glance) → g ≡ sizeSeen k bytes at m scan → g ≡ capGlance (sizeSeen k bytes at m x)
+  by-size k bytes g y = y ∙ ap (sizeSeen k bytes at m) h ∙ size-capped k bytes at m x
 
   pub number-waits : (c : Change) → t ≡ false → waited at m ≡ capGlance (numberSeen at m c x)
   number-waits c k = by-number c (waited at m) (rw k refl)
@@ -78,51 +77,51 @@ module _ (t : Bool) (v e : ℕ) (x : Scan) (h : cond t (read v e) unread ≡ cap
   pub storing-read : t ≡ true → gave (storing v) e afterDigit same ≡ capGlance (storingSeen at m x)
   storing-read k = by-storing (gave (storing v) e afterDigit same) (rw k refl)
 
-  pub size-waits : (bytes : List ℕ) → t ≡ false → waited at m ≡ capGlance (sizeSeen bytes at m x)
-  size-waits bytes k = by-size bytes (waited at m) (rw k refl)
+  pub size-waits : (k bytes : List ℕ) → t ≡ false → waited at m ≡ capGlance (sizeSeen k bytes at m x)
+  size-waits k bytes r = by-size k bytes (waited at m) (rw r refl)
 
-  pub size-past : (bytes : List ℕ) → t ≡ true → length bytes ≤ e → waited at m ≡ capGlance (sizeSeen bytes at m x)
-  size-past bytes k l = by-size bytes (waited at m) (rw (k, look-past bytes e l) refl)
+  pub size-past : (k bytes : List ℕ) → t ≡ true → length bytes ≤ e → waited at m ≡ capGlance (sizeSeen k bytes at m x)
+  size-past k bytes r l = by-size k bytes (waited at m) (rw (r, look-past bytes e l) refl)
 
-  pub size-line : (bytes : List ℕ) → t ≡ true → e < length bytes → getD bytes e 0 ≡ lineFeed → gave (number v) (e + 1) lead same ≡ capGlance (sizeSeen bytes at m x)
-  size-line bytes k l b = by-size bytes (gave (number v) (e + 1) lead same) (rw (k, look-inside bytes e 0 l, eq-eqb (getD bytes e 0) lineFeed b) refl)
+  pub size-line : (k bytes : List ℕ) → t ≡ true → e < length bytes → lineFeedIn k (getD bytes e 0) ≡ true → gave (number v) (e + 1) lead same ≡ capGlance (sizeSeen k bytes at m x)
+  size-line k bytes r l b = by-size k bytes (gave (number v) (e + 1) lead same) (rw (r, look-inside bytes e 0 l, b) refl)
 
-  pub size-wrong : (bytes : List ℕ) → t ≡ true → e < length bytes → (getD bytes e 0 ≡ lineFeed → ⊥) → failed at m wrongByte e ≡ capGlance (sizeSeen bytes at m x)
-  size-wrong bytes k l b = by-size bytes (failed at m wrongByte e) (rw (k, look-inside bytes e 0 l, ne-eqb (getD bytes e 0) lineFeed b) refl)
+  pub size-wrong : (k bytes : List ℕ) → t ≡ true → e < length bytes → lineFeedIn k (getD bytes e 0) ≡ false → failed at m wrongByte e ≡ capGlance (sizeSeen k bytes at m x)
+  size-wrong k bytes r l b = by-size k bytes (failed at m wrongByte e) (rw (r, look-inside bytes e 0 l, b) refl)
 
 -- ---- The ways of a glance --------------------------------------------------------------------
 
 -- k: the table of kinds that code has lent; b: the byte at the place
 module _ (k bytes : List ℕ) (at : ℕ) (m : Mark) (depth : ℕ) (b : ℕ) where
-  pub node-deep : (two : Bool) → b ≡ opener → openLimit ≤ depth → failed at m tooDeep at ≡ capGlance (nodeSeen k bytes at m depth two b)
-  node-deep two e l = rw (eq-eqb b opener e, le-ltb depth openLimit l) refl
+  pub node-deep : (two : Bool) → openerIn k b ≡ true → openLimit ≤ depth → failed at m tooDeep at ≡ capGlance (nodeSeen k bytes at m depth two b)
+  node-deep two e l = rw (e, le-ltb depth openLimit l) refl
 
-  pub node-push : (two : Bool) → b ≡ opener → depth < openLimit → gave opening (at + 1) begins (cond two secondPush push) ≡ capGlance (nodeSeen k bytes at m depth two b)
-  node-push two e l = rw (eq-eqb b opener e, lt-ltb depth openLimit l) refl
+  pub node-push : (two : Bool) → openerIn k b ≡ true → depth < openLimit → gave opening (at + 1) begins (cond two secondPush push) ≡ capGlance (nodeSeen k bytes at m depth two b)
+  node-push two e l = rw (e, lt-ltb depth openLimit l) refl
 
-  pub node-wrong : (two : Bool) → (b ≡ opener → ⊥) → digitIn k b ≡ false → failed at m wrongByte at ≡ capGlance (nodeSeen k bytes at m depth two b)
-  node-wrong two e d = rw (ne-eqb b opener e, d) refl
+  pub node-wrong : (two : Bool) → openerIn k b ≡ false → digitIn k b ≡ false → failed at m wrongByte at ≡ capGlance (nodeSeen k bytes at m depth two b)
+  node-wrong two e d = rw (e, d) refl
 
-  pub node-number : (two : Bool) → (b ≡ opener → ⊥) → digitIn k b ≡ true → capGlance (numberSeen at m (cond two (second false) same) (numberBy k bytes at b)) ≡ capGlance (nodeSeen k bytes at m depth two b)
-  node-number two e d = rw (ne-eqb b opener e, d) refl
+  pub node-number : (two : Bool) → openerIn k b ≡ false → digitIn k b ≡ true → capGlance (numberSeen at m (cond two (second false) same) (numberBy k bytes at b)) ≡ capGlance (nodeSeen k bytes at m depth two b)
+  node-number two e d = rw (e, d) refl
 
-  pub inner-turn : (d : Bool) → b ≡ tilde → gave turn (at + 1) begins (second true) ≡ capGlance (innerSeen k bytes at m depth d b)
-  inner-turn d e = rw (eq-eqb b tilde e) refl
+  pub inner-turn : (d : Bool) → tildeIn k b ≡ true → gave turn (at + 1) begins (second true) ≡ capGlance (innerSeen k bytes at m depth d b)
+  inner-turn d e = rw e refl
 
-  pub inner-close : (d : Bool) → (b ≡ tilde → ⊥) → b ≡ closer → gave closing (at + 1) afterOne pop ≡ capGlance (innerSeen k bytes at m depth d b)
-  inner-close d e f = rw (ne-eqb b tilde e, eq-eqb b closer f) refl
+  pub inner-close : (d : Bool) → tildeIn k b ≡ false → closerIn k b ≡ true → gave closing (at + 1) afterOne pop ≡ capGlance (innerSeen k bytes at m depth d b)
+  inner-close d e f = rw (e, f) refl
 
-  pub inner-node : (d : Bool) → (b ≡ tilde → ⊥) → (b ≡ closer → ⊥) → d ≡ false → capGlance (nodeSeen k bytes at m depth true b) ≡ capGlance (innerSeen k bytes at m depth d b)
-  inner-node d e f g = rw (ne-eqb b tilde e, ne-eqb b closer f, g) refl
+  pub inner-node : (d : Bool) → tildeIn k b ≡ false → closerIn k b ≡ false → d ≡ false → capGlance (nodeSeen k bytes at m depth true b) ≡ capGlance (innerSeen k bytes at m depth d b)
+  inner-node d e f g = rw (e, f, g) refl
 
-  pub inner-space : (d : Bool) → (b ≡ tilde → ⊥) → (b ≡ closer → ⊥) → d ≡ true → b ≡ blank → capGlance (spaceSeen k bytes at m (getElem? bytes (at + 1))) ≡ capGlance (innerSeen k bytes at m depth d b)
-  inner-space d e f g h = rw (ne-eqb b tilde e, ne-eqb b closer f, g, eq-eqb b blank h) refl
+  pub inner-space : (d : Bool) → tildeIn k b ≡ false → closerIn k b ≡ false → d ≡ true → blankIn k b ≡ true → capGlance (spaceSeen k bytes at m (getElem? bytes (at + 1))) ≡ capGlance (innerSeen k bytes at m depth d b)
+  inner-space d e f g h = rw (e, f, g, h) refl
 
-  pub inner-digit : (d : Bool) → (b ≡ tilde → ⊥) → (b ≡ closer → ⊥) → d ≡ true → (b ≡ blank → ⊥) → digitIn k b ≡ true → failed at m wrongByte at ≡ capGlance (innerSeen k bytes at m depth d b)
-  inner-digit d e f g h i = rw (ne-eqb b tilde e, ne-eqb b closer f, g, ne-eqb b blank h, i) refl
+  pub inner-digit : (d : Bool) → tildeIn k b ≡ false → closerIn k b ≡ false → d ≡ true → blankIn k b ≡ false → digitIn k b ≡ true → failed at m wrongByte at ≡ capGlance (innerSeen k bytes at m depth d b)
+  inner-digit d e f g h i = rw (e, f, g, h, i) refl
 
-  pub inner-after : (d : Bool) → (b ≡ tilde → ⊥) → (b ≡ closer → ⊥) → d ≡ true → (b ≡ blank → ⊥) → digitIn k b ≡ false → capGlance (nodeSeen k bytes at m depth true b) ≡ capGlance (innerSeen k bytes at m depth d b)
-  inner-after d e f g h i = rw (ne-eqb b tilde e, ne-eqb b closer f, g, ne-eqb b blank h, i) refl
+  pub inner-after : (d : Bool) → tildeIn k b ≡ false → closerIn k b ≡ false → d ≡ true → blankIn k b ≡ false → digitIn k b ≡ false → capGlance (nodeSeen k bytes at m depth true b) ≡ capGlance (innerSeen k bytes at m depth d b)
+  inner-after d e f g h i = rw (e, f, g, h, i) refl
 
 -- two ways by one test
 pub way-taken : (t : Bool) (x y : Glance) → t ≡ true → capGlance x ≡ capGlance (cond t x y)

@@ -12,10 +12,9 @@ use lib.ListN.{length, getD, set, getElem?, length-set}
 use lib.Seq.{getD-set-same, getD-set-other, set-set, set-comm}
 use borrow.Author.Tests.{ltb-true, ltb-false, lt-ltb, ne-eqb}
 use Rattle.reading.specs.Limits.{openLimit}
-use Rattle.reading.specs.Bytes.{opener, closer, tilde, colon, dot, blank, lineFeed}
 use Rattle.reading.specs.Element as T
 use Rattle.reading.specs.Reading.{isStart}
-use Rattle.scanner.specs.Kinds.{digitIn, numberBy}
+use Rattle.scanner.specs.Kinds.{digitIn, blankIn, lineFeedIn, dotIn, openerIn, closerIn, tildeIn, colonIn, numberBy}
 use Rattle.scanner.specs.Glance.{Top, topOf, Change, same, push, pop, secondPush, second, changed, Glance, sizeLine, sizeSeen, numberSeen, storingSeen, nodeSeen, spaceSeen, colonSeen, endSeen, glanceBy, glanceOn, glance, empty, inner, outer}
 use Rattle.scanner.specs.Capped.{capOutcome}
 use Rattle.scanner.specs.Cite.{refOf, openOf, insideOpen, begunOpen, opensOf, sideOf, lowAt, highAt, depthBy, secondBy, turnedBy}
@@ -162,7 +161,7 @@ module _ (k : List ℕ) (depth : ℕ) where
 
   room-node : (bytes : List ℕ) (at : ℕ) (m : T.Mark) (two : Bool) (b : ℕ) → Roomy depth (nodeSeen k bytes at m depth two b)
   room-node bytes at m two b =
-      room-cond (eqb b opener) _ _
+      room-cond (openerIn k b) _ _
       (λ _. room-cond (ltb depth openLimit) _ _ (λ e _. ltb-true _ _ e) (λ _ p. absurd p))
       (λ _. room-cond (digitIn k b) _ _ (λ _. go two) (λ _ p. absurd p))
     where
@@ -183,29 +182,29 @@ module _ (k : List ℕ) (depth : ℕ) where
       go T.unread = λ p. absurd p
 
   room-end : (bytes : List ℕ) (at : ℕ) (m : T.Mark) (top : Top) (d : Bool) (b : ℕ) → Roomy depth (endSeen k bytes at m top depth d b)
-  room-end bytes at m empty d b = room-cond (eqb b dot) _ _ (λ _ p. absurd p) (λ _ p. absurd p)
+  room-end bytes at m empty d b = room-cond (dotIn k b) _ _ (λ _ p. absurd p) (λ _ p. absurd p)
   room-end bytes at m inner d b =
-      room-cond (eqb b tilde) _ _ (λ _ p. absurd p)
-      (λ _. room-cond (eqb b closer) _ _ (λ _ p. absurd p)
-      (λ _. room-cond (d && eqb b blank) _ _ (λ _. room-space bytes at m (getElem? bytes (at + 1)))
+      room-cond (tildeIn k b) _ _ (λ _ p. absurd p)
+      (λ _. room-cond (closerIn k b) _ _ (λ _ p. absurd p)
+      (λ _. room-cond (d && blankIn k b) _ _ (λ _. room-space bytes at m (getElem? bytes (at + 1)))
       (λ _. room-cond (d && digitIn k b) _ _ (λ _ p. absurd p)
       (λ _. room-node bytes at m true b))))
-  room-end bytes at m outer d b = room-cond (eqb b closer) _ _ (λ _ p. absurd p) (λ _ p. absurd p)
+  room-end bytes at m outer d b = room-cond (closerIn k b) _ _ (λ _ p. absurd p) (λ _ p. absurd p)
 
-  room-size : (bytes : List ℕ) (at : ℕ) (m : T.Mark) (x : T.Scan) → Roomy depth (sizeSeen bytes at m x)
+  room-size : (bytes : List ℕ) (at : ℕ) (m : T.Mark) (x : T.Scan) → Roomy depth (sizeSeen k bytes at m x)
   room-size bytes at m (T.read v e) = go (getElem? bytes e)
     where
-      go : (x : Option ℕ) → Roomy depth (sizeLine at m v e x)
+      go : (x : Option ℕ) → Roomy depth (sizeLine k at m v e x)
       go none = λ p. absurd p
-      go (some b) = room-cond (eqb b lineFeed) _ _ (λ _ p. absurd p) (λ _ p. absurd p)
+      go (some b) = room-cond (lineFeedIn k b) _ _ (λ _ p. absurd p) (λ _ p. absurd p)
   room-size bytes at m T.unread = λ p. absurd p
 
   room-by : (bytes : List ℕ) (at : ℕ) (m : T.Mark) (top : Top) (b : ℕ) → Roomy depth (glanceBy k bytes at m top depth b)
   room-by bytes at T.start top b = room-cond (digitIn k b) _ _ (λ _. room-size bytes at T.start (numberBy k bytes at b)) (λ _ p. absurd p)
-  room-by bytes at T.lead top b = room-cond (eqb b tilde) _ _ (λ _ p. absurd p) (λ _. room-node bytes at T.lead false b)
+  room-by bytes at T.lead top b = room-cond (tildeIn k b) _ _ (λ _ p. absurd p) (λ _. room-node bytes at T.lead false b)
   room-by bytes at T.begins top b = room-node bytes at T.begins false b
   room-by bytes at T.afterDigit top b = room-end bytes at T.afterDigit top true b
-  room-by bytes at T.afterTwo top b = room-cond (eqb b colon) _ _ (λ _. room-colon bytes at T.afterTwo (getElem? bytes (at + 1))) (λ _. room-end bytes at T.afterTwo top false b)
+  room-by bytes at T.afterTwo top b = room-cond (colonIn k b) _ _ (λ _. room-colon bytes at T.afterTwo (getElem? bytes (at + 1))) (λ _. room-end bytes at T.afterTwo top false b)
   room-by bytes at T.afterOne top b = room-end bytes at T.afterOne top false b
   room-by bytes at T.over top b = λ p. absurd p
 
@@ -243,12 +242,12 @@ module _ (k : List ℕ) (m : T.Mark) where
   firm-cond true x y a b = a
   firm-cond false x y a b = b
 
-  firm-size : (bytes : List ℕ) (at : ℕ) (x : T.Scan) → FirmBy (sizeSeen bytes at m x)
+  firm-size : (bytes : List ℕ) (at : ℕ) (x : T.Scan) → FirmBy (sizeSeen k bytes at m x)
   firm-size bytes at (T.read v e) = go (getElem? bytes e)
     where
-      go : (x : Option ℕ) → FirmBy (sizeLine at m v e x)
+      go : (x : Option ℕ) → FirmBy (sizeLine k at m v e x)
       go none = tt
-      go (some b) = firm-cond (eqb b lineFeed) _ _ (refl, tt) tt
+      go (some b) = firm-cond (lineFeedIn k b) _ _ (refl, tt) tt
   firm-size bytes at T.unread = tt
 
   module _ (later : isStart m ≡ false) where
@@ -262,7 +261,7 @@ module _ (k : List ℕ) (m : T.Mark) where
 
     firm-node : (bytes : List ℕ) (at depth : ℕ) (two : Bool) (b : ℕ) → FirmBy (nodeSeen k bytes at m depth two b)
     firm-node bytes at depth two b =
-        firm-cond (eqb b opener) _ _
+        firm-cond (openerIn k b) _ _
         (firm-cond (ltb depth openLimit) _ _ (refl, later) tt)
         (firm-cond (digitIn k b) _ _ (firm-number at _ (numberBy k bytes at b)) tt)
 
@@ -271,14 +270,14 @@ module _ (k : List ℕ) (m : T.Mark) where
     firm-space bytes at (some b) = firm-cond (digitIn k b) _ _ (firm-number at (second false) (numberBy k bytes (at + 1) b)) tt
 
     firm-end : (bytes : List ℕ) (at : ℕ) (top : Top) (depth : ℕ) (d : Bool) (b : ℕ) → FirmBy (endSeen k bytes at m top depth d b)
-    firm-end bytes at empty depth d b = firm-cond (eqb b dot) _ _ (refl, later) tt
+    firm-end bytes at empty depth d b = firm-cond (dotIn k b) _ _ (refl, later) tt
     firm-end bytes at inner depth d b =
-        firm-cond (eqb b tilde) _ _ (refl, later)
-        (firm-cond (eqb b closer) _ _ (refl, later)
-        (firm-cond (d && eqb b blank) _ _ (firm-space bytes at (getElem? bytes (at + 1)))
+        firm-cond (tildeIn k b) _ _ (refl, later)
+        (firm-cond (closerIn k b) _ _ (refl, later)
+        (firm-cond (d && blankIn k b) _ _ (firm-space bytes at (getElem? bytes (at + 1)))
         (firm-cond (d && digitIn k b) _ _ tt
         (firm-node bytes at depth true b))))
-    firm-end bytes at outer depth d b = firm-cond (eqb b closer) _ _ (refl, later) tt
+    firm-end bytes at outer depth d b = firm-cond (closerIn k b) _ _ (refl, later) tt
 
 firm-colon : (k bytes : List ℕ) (at : ℕ) (x : Option ℕ) → FirmBy k T.afterTwo (colonSeen k bytes at T.afterTwo x)
 firm-colon k bytes at none = tt
@@ -290,10 +289,10 @@ firm-colon k bytes at (some b) = firm-cond k T.afterTwo (digitIn k b) _ _ (go (n
 
 firm-by : (k bytes : List ℕ) (at : ℕ) (m : T.Mark) (top : Top) (depth b : ℕ) → FirmBy k m (glanceBy k bytes at m top depth b)
 firm-by k bytes at T.start top depth b = firm-cond k T.start (digitIn k b) _ _ (firm-size k T.start bytes at (numberBy k bytes at b)) tt
-firm-by k bytes at T.lead top depth b = firm-cond k T.lead (eqb b tilde) _ _ (refl, refl) (firm-node k T.lead refl bytes at depth false b)
+firm-by k bytes at T.lead top depth b = firm-cond k T.lead (tildeIn k b) _ _ (refl, refl) (firm-node k T.lead refl bytes at depth false b)
 firm-by k bytes at T.begins top depth b = firm-node k T.begins refl bytes at depth false b
 firm-by k bytes at T.afterDigit top depth b = firm-end k T.afterDigit refl bytes at top depth true b
-firm-by k bytes at T.afterTwo top depth b = firm-cond k T.afterTwo (eqb b colon) _ _ (firm-colon k bytes at (getElem? bytes (at + 1))) (firm-end k T.afterTwo refl bytes at top depth false b)
+firm-by k bytes at T.afterTwo top depth b = firm-cond k T.afterTwo (colonIn k b) _ _ (firm-colon k bytes at (getElem? bytes (at + 1))) (firm-end k T.afterTwo refl bytes at top depth false b)
 firm-by k bytes at T.afterOne top depth b = firm-end k T.afterOne refl bytes at top depth false b
 firm-by k bytes at T.over top depth b = tt
 

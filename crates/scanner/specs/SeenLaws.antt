@@ -3,14 +3,12 @@ use mathlib.Core.Path.{_≡_, refl, ap, _∙_}
 use mathlib.Core.Bool.{Bool, true, false, cond, _&&_}
 use mathlib.Core.List.{List}
 use Prim.Native.Nat.{ℕ, _+_, _<_}
-use lib.Dec.{eqb}
 use lib.ListN.{length, getD}
-use Rattle.reading.specs.Bytes.{tilde, colon}
 use Rattle.reading.specs.Element as T
 use Rattle.scanner.specs.Glance as G
 use Rattle.scanner.specs.Capped.{capGlance}
 use Rattle.scanner.specs.GlanceLaws.{glance-here}
-use Rattle.scanner.specs.Kinds.{digitIn, numberBy}
+use Rattle.scanner.specs.Kinds.{and-off, digitIn, numberBy}
 use Rattle.scanner.specs.Cite.{markOf, stageOf, isAfter, plain, seenOf, gaveBy, numbered}
 use Rattle.scanner.specs.declared.Sight.the-variants as S
 use Rattle.scanner.specs.declared.Mark.{Mark}
@@ -36,14 +34,6 @@ seen-push at d false = refl
 
 -- ---- The ways by the stage -------------------------------------------------------------------
 
-and-off : (t : Bool) → (t && false) ≡ false
-and-off true = refl
-and-off false = refl
-
-and-on : (t : Bool) → (t && true) ≡ t
-and-on true = refl
-and-on false = refl
-
 pub and-left : (s t : Bool) → s ≡ false → (s && t) ≡ false
 and-left s t e = rw e refl
 
@@ -53,18 +43,18 @@ and-right s t e = rw e (and-off s)
 module _ (k bytes : List ℕ) (at : ℕ) (m : Mark) (top : G.Top) (d : ℕ) where
   -- what code goes by at a stage, at the byte b
   abbrev pub stageSeen : Stage → ℕ → G.Glance
-  stageSeen First b = cond (digitIn k b) (G.sizeSeen bytes at (markOf m) (numberBy k bytes at b)) (G.wrongAt at (markOf m))
+  stageSeen First b = cond (digitIn k b) (G.sizeSeen k bytes at (markOf m) (numberBy k bytes at b)) (G.wrongAt at (markOf m))
   stageSeen Node b = G.leadSeen k bytes at (markOf m) d b
   stageSeen Ended b = G.endedSeen k bytes at (markOf m) top d (isAfter m) b
   stageSeen Past b = G.wrongAt at (markOf m)
 
 stage-by : (k bytes : List ℕ) (at : ℕ) (m : Mark) (top : G.Top) (d b : ℕ) → stageSeen k bytes at m top d (stageOf m) b ≡ G.glanceBy k bytes at (markOf m) top d b
 stage-by k bytes at Start top d b = refl
-stage-by k bytes at Lead top d b = rw (and-on (eqb b tilde)) refl
-stage-by k bytes at Begins top d b = rw (and-off (eqb b tilde)) refl
-stage-by k bytes at AfterDigit top d b = rw (and-off (eqb b colon)) refl
-stage-by k bytes at AfterTwo top d b = rw (and-on (eqb b colon)) refl
-stage-by k bytes at AfterOne top d b = rw (and-off (eqb b colon)) refl
+stage-by k bytes at Lead top d b = refl
+stage-by k bytes at Begins top d b = refl
+stage-by k bytes at AfterDigit top d b = refl
+stage-by k bytes at AfterTwo top d b = refl
+stage-by k bytes at AfterOne top d b = refl
 stage-by k bytes at Over top d b = refl
 
 -- THE STAGE of the mark says which way a step goes.

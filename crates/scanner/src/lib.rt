@@ -1,10 +1,12 @@
 ghost use mathlib.Core.Path.{_≡_};
-ghost use mathlib.Core.Bool.{cond};
+ghost use mathlib.Core.Bool.{cond, _&&_};
 ghost use Prim.Native.Nat.{_+_, _*_, _-_, _<_, _≤_};
+ghost use lib.Dec.{eqb};
 ghost use lib.ListN.{length, getD, getElem?};
+ghost use Rattle.reading.specs.Bytes.{digitZero};
 ghost use Rattle.reading.specs.Element.{begin, step};
 ghost use Rattle.reading.specs.Reading.{isLead, isTwo};
-ghost use Rattle.scanner.specs.Kinds.{kindTable, digitIn, numberBy};
+ghost use Rattle.scanner.specs.Kinds.{kindTable, kindIn, digitIn, numberBy};
 ghost use Rattle.scanner.specs.Glance.{glance, endSeen, innerSeen, colonSeen, spaceSeen, nodeSeen, numberSeen, storingSeen, sizeSeen, leadSeen, endedSeen, wrongAt};
 ghost use Rattle.scanner.specs.Capped.{cap, capScan, capGlance, capStep};
 ghost use Rattle.scanner.specs.Cite.{outcomeIn, scanOf, markOf, topsOf, seenOf, plain, numbered, gaveBy, failedBy, waitedBy, stageOf, isAfter, insideOpen, begunOpen, sideOf, spotsOf, deepOf, lookOf, lookAt, placeOf, steppedOf};
@@ -17,7 +19,7 @@ pub const OPEN_LIMIT: usize = 32;
 // The last place among them.
 const LAST_OPEN: usize = OPEN_LIMIT - 1;
 
-// The bytes of a stream, named as their definitions are.
+// Bytes of a stream, named as their definitions are: those whose kind has another byte too, and the space, for the reader.
 const OPENER: u8 = b'(';
 
 const CLOSER: u8 = b')';
@@ -26,11 +28,7 @@ const TILDE: u8 = b'~';
 
 pub const COLON: u8 = b':';
 
-const DOT: u8 = b'.';
-
 pub const BLANK: u8 = b' ';
-
-const LINE_FEED: u8 = b'\n';
 
 const DIGIT_ZERO: u8 = b'0';
 
@@ -44,11 +42,18 @@ pub fn kinds() -> [u8; 256]
 }
 
 // k, here and below: a table of kinds, lent
-fn is_digit(k: &[u8; 256], b: u8) -> bool
-    ensures { λ r. ⌜ r ≡ digitIn (now (k .entry)) b ⌝ }
+fn is_kind(k: &[u8; 256], b: u8, n: u8) -> bool
+    ensures { λ r. ⌜ r ≡ kindIn (now (k .entry)) n b ⌝ }
 {
     let i = b as usize;
-    k[i] == kind::DIGIT
+    k[i] == n
+}
+
+// The byte a, of a kind that has two.
+fn is_one(k: &[u8; 256], b: u8, n: u8, a: u8) -> bool
+    ensures { λ r. ⌜ r ≡ (kindIn (now (k .entry)) n b && eqb b a) ⌝ }
+{
+    if is_kind(k, b, n) { b == a } else { false }
 }
 
 // ---- Elements and places
@@ -156,7 +161,7 @@ struct Num {
 }
 
 fn digit(b: u8) -> u64
-    ensures { λ r. ⌜ (r ≡ b - 48) × (r ≤ 255) ⌝ }
+    ensures { λ r. ⌜ (r ≡ b - digitZero) × (r ≤ 255) ⌝ }
 {
     if b < DIGIT_ZERO {
         return 0;
@@ -166,7 +171,7 @@ fn digit(b: u8) -> u64
 
 // One digit more; a number that does not fit stays at the largest.
 fn more(v: u64, b: u8) -> u64
-    ensures { λ r. ⌜ r ≡ cap (v * 10 + (b - 48)) ⌝ }
+    ensures { λ r. ⌜ r ≡ cap (v * 10 + (b - digitZero)) ⌝ }
 {
     if 4294967295 < v {
         return 4294967295;
@@ -197,7 +202,7 @@ fn number_at(k: &[u8; 256], s: &[u8], at: usize) -> Num
     let mut v = digit(b);
     while i < s.len() {
         let c = s[i];
-        if !is_digit(k, c) {
+        if !is_kind(k, c, kind::DIGIT) {
             return Num {
                 value: v as u32,
                 next: i,
@@ -267,7 +272,7 @@ fn waited(at: usize, m: Mark, d: usize) -> Glance
 
 // The size, whose first digit stands at the place.
 fn size_seen(k: &[u8; 256], s: &[u8], at: usize, m: Mark, d: usize) -> Glance
-    ensures { λ r. ⌜ seenOf r ≡ plain d (capGlance (sizeSeen (now (s .entry)) at (markOf m) (numberBy (now (k .entry)) (now (s .entry)) at (getD (now (s .entry)) at 0)))) ⌝ }
+    ensures { λ r. ⌜ seenOf r ≡ plain d (capGlance (sizeSeen (now (k .entry)) (now (s .entry)) at (markOf m) (numberBy (now (k .entry)) (now (s .entry)) at (getD (now (s .entry)) at 0)))) ⌝ }
 {
     let x = number_at(k, s, at);
     let done = x.done;
@@ -279,7 +284,7 @@ fn size_seen(k: &[u8; 256], s: &[u8], at: usize, m: Mark, d: usize) -> Glance
         return waited(at, m, d);
     }
     let b = s[e];
-    if b == LINE_FEED {
+    if is_kind(k, b, kind::LINE_END) {
         return gave(Sight::Number, x.value, e + 1, Mark::Lead, d, false, false);
     }
     failed(at, m, d, Cause::WrongByte, e)
@@ -328,13 +333,13 @@ fn node_seen(k: &[u8; 256], s: &[u8], at: usize, m: Mark, d: usize, two: bool) -
     ensures { λ r. ⌜ seenOf r ≡ plain d (capGlance (nodeSeen (now (k .entry)) (now (s .entry)) at (markOf m) d two (getD (now (s .entry)) at 0))) ⌝ }
 {
     let b = s[at];
-    if b == OPENER {
+    if is_one(k, b, kind::BRACKET, OPENER) {
         if OPEN_LIMIT <= d {
             return failed(at, m, d, Cause::TooDeep, at);
         }
         return gave(Sight::Opening, 0, at + 1, Mark::Begins, d + 1, two, false);
     }
-    if !is_digit(k, b) {
+    if !is_kind(k, b, kind::DIGIT) {
         return failed(at, m, d, Cause::WrongByte, at);
     }
     number_seen(k, s, at, at, m, d, two)
@@ -350,7 +355,7 @@ fn space_seen(k: &[u8; 256], s: &[u8], at: usize, m: Mark, d: usize) -> Glance
         return waited(at, m, d);
     }
     let b = s[i];
-    if !is_digit(k, b) {
+    if !is_kind(k, b, kind::DIGIT) {
         return failed(at, m, d, Cause::WrongByte, i);
     }
     number_seen(k, s, i, at, m, d, true)
@@ -366,7 +371,7 @@ fn colon_seen(k: &[u8; 256], s: &[u8], at: usize, m: Mark, d: usize) -> Glance
         return waited(at, m, d);
     }
     let b = s[i];
-    if !is_digit(k, b) {
+    if !is_kind(k, b, kind::DIGIT) {
         return failed(at, m, d, Cause::WrongByte, i);
     }
     storing_seen(k, s, i, at, m, d)
@@ -378,10 +383,10 @@ fn inner_seen(k: &[u8; 256], s: &[u8], at: usize, m: Mark, d: usize, digital: bo
     ensures { λ r. ⌜ seenOf r ≡ plain d (capGlance (innerSeen (now (k .entry)) (now (s .entry)) at (markOf m) d digital (getD (now (s .entry)) at 0))) ⌝ }
 {
     let b = s[at];
-    if b == TILDE {
+    if is_one(k, b, kind::MARK, TILDE) {
         return gave(Sight::Turn, 0, at + 1, Mark::Begins, d, true, true);
     }
-    if b == CLOSER {
+    if is_one(k, b, kind::BRACKET, CLOSER) {
         return gave(
             Sight::Closing,
             0,
@@ -393,10 +398,10 @@ fn inner_seen(k: &[u8; 256], s: &[u8], at: usize, m: Mark, d: usize, digital: bo
         );
     }
     if digital {
-        if b == BLANK {
+        if is_kind(k, b, kind::SPACE) {
             return space_seen(k, s, at, m, d);
         }
-        if is_digit(k, b) {
+        if is_kind(k, b, kind::DIGIT) {
             return failed(at, m, d, Cause::WrongByte, at);
         }
     }
@@ -426,14 +431,14 @@ fn end_seen(
     let b = s[at];
     match top {
         Top::Empty => {
-            if b == DOT {
+            if is_kind(k, b, kind::POINT) {
                 return gave(Sight::End, 0, at + 1, Mark::Over, d, false, false);
             }
             failed(at, m, d, Cause::WrongByte, at)
         }
         Top::Inner => inner_seen(k, s, at, m, d, digital),
         Top::Outer => {
-            if b == CLOSER {
+            if is_one(k, b, kind::BRACKET, CLOSER) {
                 return gave(
                     Sight::Closing,
                     0,
@@ -508,10 +513,10 @@ fn is_after(m: Mark) -> bool
 // At the size.
 fn first_seen(k: &[u8; 256], s: &[u8], at: usize, m: Mark, d: usize) -> Glance
     requires { ⌜ at < length (now s) ⌝ }
-    ensures { λ r. ⌜ seenOf r ≡ plain d (capGlance (cond (digitIn (now (k .entry)) (getD (now (s .entry)) at 0)) (sizeSeen (now (s .entry)) at (markOf m) (numberBy (now (k .entry)) (now (s .entry)) at (getD (now (s .entry)) at 0))) (wrongAt at (markOf m)))) ⌝ }
+    ensures { λ r. ⌜ seenOf r ≡ plain d (capGlance (cond (digitIn (now (k .entry)) (getD (now (s .entry)) at 0)) (sizeSeen (now (k .entry)) (now (s .entry)) at (markOf m) (numberBy (now (k .entry)) (now (s .entry)) at (getD (now (s .entry)) at 0))) (wrongAt at (markOf m)))) ⌝ }
 {
     let b = s[at];
-    if is_digit(k, b) {
+    if is_kind(k, b, kind::DIGIT) {
         return size_seen(k, s, at, m, d);
     }
     failed(at, m, d, Cause::WrongByte, at)
@@ -523,7 +528,7 @@ fn begin_seen(k: &[u8; 256], s: &[u8], at: usize, m: Mark, d: usize) -> Glance
     ensures { λ r. ⌜ seenOf r ≡ plain d (capGlance (leadSeen (now (k .entry)) (now (s .entry)) at (markOf m) d (getD (now (s .entry)) at 0))) ⌝ }
 {
     let b = s[at];
-    if b == TILDE {
+    if is_one(k, b, kind::MARK, TILDE) {
         if is_lead(m) {
             return gave(Sight::Turn, 0, at + 1, Mark::Begins, d, false, false);
         }
@@ -537,8 +542,8 @@ fn ended_seen(k: &[u8; 256], s: &[u8], at: usize, m: Mark, top: Top, d: usize) -
     ensures { λ r. ⌜ seenOf r ≡ plain d (capGlance (endedSeen (now (k .entry)) (now (s .entry)) at (markOf m) (topsOf top) d (isAfter m) (getD (now (s .entry)) at 0))) ⌝ }
 {
     let b = s[at];
-    if b == COLON {
-        if is_two(m) {
+    if is_two(m) {
+        if is_one(k, b, kind::MARK, COLON) {
             return colon_seen(k, s, at, m, d);
         }
     }

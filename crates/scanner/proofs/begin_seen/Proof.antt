@@ -4,13 +4,11 @@ use mathlib.Core.Path.{_≡_, sym, ap, _∙_}
 use mathlib.Core.Bool.{false, _&&_}
 use mathlib.Core.Logic.{⊎-elim}
 use Prim.Native.Nat.{_+_}
-use lib.Dec.{eqb}
 use lib.ListN.{getD}
-use borrow.Author.Tests.{eq-eqb, ne-eqb}
 use Rattle.lists.specs.Lists.{and-true}
-use Rattle.reading.specs.Bytes.{tilde}
 use Rattle.reading.specs.Reading.{isLead}
 use Rattle.reading.specs.Element.{turn, begins}
+use Rattle.scanner.specs.Kinds.{tildeIn}
 use Rattle.scanner.specs.Glance.{same, gave, nodeSeen}
 use Rattle.scanner.specs.SeenLaws.{and-left, and-right}
 use Rattle.scanner.specs.Cite.{markOf, seenOf, plain}
@@ -21,6 +19,9 @@ use Rattle.scanner.proofs.begin_seen.Tie as tie
 
 shared-slice-read-b : tie.Need-shared-slice-read-b
 shared-slice-read-b c = search needs
+
+is-one-requires : tie.Need-is-one-requires
+is-one-requires c κs = search needs
 
 is-lead-requires : tie.Need-is-lead-requires
 is-lead-requires c κs = search needs
@@ -33,38 +34,41 @@ gave-requires c κs = search needs
 
 returns : tie.Need-returns
 returns c =
-    let a = c .before .before .before .before .before .before .args in
+    let q = c .before .before .before .before in
+    let a = q .before .before .before .args in
     let k = a .k .now in
     let s = a .s .now in
     let m = markOf (a .m) in
     let b = getD s (a .at) 0 in
     ap seenOf (c .gave .ensures)
-    ∙ ap (plain (a .d)) (G.way-taken (eqb b tilde && isLead m) (gave turn (a .at + 1) begins same) (nodeSeen k s (a .at) m (a .d) false b)
-    (and-true (eq-eqb b tilde (c .before .before .before .if1 .taken)) (sym (c .before .before .is-lead .ensures) ∙ c .before .if2 .taken)))
+    ∙ ap (plain (a .d)) (G.way-taken (isLead m && tildeIn k b) (gave turn (a .at + 1) begins same) (nodeSeen k s (a .at) m (a .d) false b)
+    (and-true (sym (c .before .before .is-lead .ensures) ∙ c .before .if2 .taken) (sym (q .is-one .ensures) ∙ c .before .before .before .if1 .taken)))
 
 node-seen-requires : tie.Need-node-seen-requires
 node-seen-requires c κs = search needs
 
 returns-2 : tie.Need-returns-2
 returns-2 c =
-    let a = c .before .before .before .before .args in
+    let q = c .before .before in
+    let a = q .before .before .before .args in
     let k = a .k .now in
     let s = a .s .now in
     let m = markOf (a .m) in
     let b = getD s (a .at) 0 in
-    let other : (eqb b tilde && isLead m) ≡ false
+    let other : (isLead m && tildeIn k b) ≡ false
     = ⊎-elim
-    (λ w. and-right (eqb b tilde) (isLead m) (sym (w .1 .ensures) ∙ w .2 .left))
-    (λ w. and-left (eqb b tilde) (isLead m) (ne-eqb b tilde (w .left)))
+    (λ w. and-left (isLead m) (tildeIn k b) (sym (w .1 .ensures) ∙ w .2 .left))
+    (λ w. and-right (isLead m) (tildeIn k b) (sym (q .is-one .ensures) ∙ w .left))
     (c .before .if1 .came) in
     c .node-seen .ensures
-    ∙ ap (plain (a .d)) (G.way-left (eqb b tilde && isLead m) (gave turn (a .at + 1) begins same) (nodeSeen k s (a .at) m (a .d) false b) other)
+    ∙ ap (plain (a .d)) (G.way-left (isLead m && tildeIn k b) (gave turn (a .at + 1) begins same) (nodeSeen k s (a .at) m (a .d) false b) other)
 
 pub begin-seen-spec : {M : Type 1} → statement M
 begin-seen-spec =
     tie.close
     (tie.spec
     shared-slice-read-b
+    is-one-requires
     is-lead-requires
     add-gave
     gave-requires

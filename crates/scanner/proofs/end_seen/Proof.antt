@@ -3,11 +3,9 @@
 use mathlib.Core.Path.{sym, ap, _∙_}
 use mathlib.Core.Bool.{false}
 use Prim.Native.Nat.{ℕ, _+_}
-use lib.Dec.{eqb}
 use lib.ListN.{getD}
-use borrow.Author.Tests.{eq-eqb, ne-eqb}
-use Rattle.reading.specs.Bytes.{closer, dot}
 use Rattle.reading.specs.Element.{end, closing, over, afterTwo}
+use Rattle.scanner.specs.Kinds.{dotIn, closerIn}
 use Rattle.scanner.specs.Glance.{same, pop, gave, wrongAt, endSeen}
 use Rattle.scanner.specs.Capped.{capGlance}
 use Rattle.scanner.specs.Cite.{markOf, topsOf, seenOf, plain, gaveBy}
@@ -25,6 +23,9 @@ shared-slice-read-b c = search needs
 enum-told : tie.Need-enum-told
 enum-told c = search needs
 
+is-kind-requires : tie.Need-is-kind-requires
+is-kind-requires c κs = search needs
+
 add-gave : tie.Need-add-gave
 add-gave c = search needs
 
@@ -33,14 +34,15 @@ gave-requires c κs = search needs
 
 returns : tie.Need-returns
 returns c =
-    let a = c .before .before .before .before .before .before .args in
+    let q = c .before .before in
+    let a = q .before .before .before .before .before .args in
     let k = a .k .now in
     let s = a .s .now in
     let m = markOf (a .m) in
     let b = getD s (a .at) 0 in
     ap seenOf (c .gave .ensures)
-    ∙ ap (plain (a .d)) (G.way-taken (eqb b dot) (gave end (a .at + 1) over same) (wrongAt (a .at) m) (eq-eqb b dot (c .before .if1 .taken)))
-    ∙ ap (λ (t : Top). plain (a .d) (capGlance (endSeen k s (a .at) m (topsOf t) (a .d) (a .digital) b))) (sym (c .before .before .enum-told .given .1))
+    ∙ ap (plain (a .d)) (G.way-taken (dotIn k b) (gave end (a .at + 1) over same) (wrongAt (a .at) m) (sym (q .is-kind .ensures) ∙ c .before .if1 .taken))
+    ∙ ap (λ (t : Top). plain (a .d) (capGlance (endSeen k s (a .at) m (topsOf t) (a .d) (a .digital) b))) (sym (q .before .enum-told .given .1))
 
 failed-requires : tie.Need-failed-requires
 failed-requires c κs = search needs
@@ -54,6 +56,9 @@ inner-seen-requires c κs = search needs
 enum-told-3 : tie.Need-enum-told-3
 enum-told-3 c = search needs
 
+is-one-requires : tie.Need-is-one-requires
+is-one-requires c κs = search needs
+
 add-gave-2 : tie.Need-add-gave-2
 add-gave-2 c = search needs
 
@@ -65,29 +70,31 @@ gave-requires-2 c κs = search needs
 
 returns-2 : tie.Need-returns-2
 returns-2 c =
-    let a = c .before .before .before .before .before .before .before .args in
+    let q = c .before .before .before in
+    let a = q .before .before .before .before .before .args in
     let k = a .k .now in
     let s = a .s .now in
     let m = markOf (a .m) in
     let b = getD s (a .at) 0 in
     ap seenOf (c .gave2 .ensures)
     ∙ ap (λ (n : ℕ). seenOf (gaveBy Closing 0 (a .at + 1) AfterTwo n false false)) (c .before .less .ensures)
-    ∙ ap (plain (a .d)) (G.way-taken (eqb b closer) (gave closing (a .at + 1) afterTwo pop) (wrongAt (a .at) m) (eq-eqb b closer (c .before .before .if2 .taken)))
-    ∙ ap (λ (t : Top). plain (a .d) (capGlance (endSeen k s (a .at) m (topsOf t) (a .d) (a .digital) b))) (sym (c .before .before .before .enum-told3 .given .1))
+    ∙ ap (plain (a .d)) (G.way-taken (closerIn k b) (gave closing (a .at + 1) afterTwo pop) (wrongAt (a .at) m) (sym (q .is-one .ensures) ∙ c .before .before .if2 .taken))
+    ∙ ap (λ (t : Top). plain (a .d) (capGlance (endSeen k s (a .at) m (topsOf t) (a .d) (a .digital) b))) (sym (q .before .enum-told3 .given .1))
 
 failed-requires-2 : tie.Need-failed-requires-2
 failed-requires-2 c κs = search needs
 
 returns-3 : tie.Need-returns-3
 returns-3 c =
-    let a = c .before .before .before .before .before .before .args in
+    let q = c .before .before in
+    let a = q .before .before .before .before .before .args in
     let k = a .k .now in
     let s = a .s .now in
     let m = markOf (a .m) in
     let b = getD s (a .at) 0 in
     ap seenOf (c .failed .ensures)
-    ∙ ap (plain (a .d)) (G.way-left (eqb b dot) (gave end (a .at + 1) over same) (wrongAt (a .at) m) (ne-eqb b dot (c .before .if1 .left)))
-    ∙ ap (λ (t : Top). plain (a .d) (capGlance (endSeen k s (a .at) m (topsOf t) (a .d) (a .digital) b))) (sym (c .before .before .enum-told .given .1))
+    ∙ ap (plain (a .d)) (G.way-left (dotIn k b) (gave end (a .at + 1) over same) (wrongAt (a .at) m) (sym (q .is-kind .ensures) ∙ c .before .if1 .left))
+    ∙ ap (λ (t : Top). plain (a .d) (capGlance (endSeen k s (a .at) m (topsOf t) (a .d) (a .digital) b))) (sym (q .before .enum-told .given .1))
 
 returns-4 : tie.Need-returns-4
 returns-4 c =
@@ -101,14 +108,15 @@ returns-4 c =
 
 returns-5 : tie.Need-returns-5
 returns-5 c =
-    let a = c .before .before .before .before .before .before .args in
+    let q = c .before .before in
+    let a = q .before .before .before .before .before .args in
     let k = a .k .now in
     let s = a .s .now in
     let m = markOf (a .m) in
     let b = getD s (a .at) 0 in
     ap seenOf (c .failed2 .ensures)
-    ∙ ap (plain (a .d)) (G.way-left (eqb b closer) (gave closing (a .at + 1) afterTwo pop) (wrongAt (a .at) m) (ne-eqb b closer (c .before .if2 .left)))
-    ∙ ap (λ (t : Top). plain (a .d) (capGlance (endSeen k s (a .at) m (topsOf t) (a .d) (a .digital) b))) (sym (c .before .before .enum-told3 .given .1))
+    ∙ ap (plain (a .d)) (G.way-left (closerIn k b) (gave closing (a .at + 1) afterTwo pop) (wrongAt (a .at) m) (sym (q .is-one .ensures) ∙ c .before .if2 .left))
+    ∙ ap (λ (t : Top). plain (a .d) (capGlance (endSeen k s (a .at) m (topsOf t) (a .d) (a .digital) b))) (sym (q .before .enum-told3 .given .1))
 
 pub end-seen-spec : {M : Type 1} → statement M
 end-seen-spec =
@@ -116,6 +124,7 @@ end-seen-spec =
     (tie.spec
     shared-slice-read-b
     enum-told
+    is-kind-requires
     add-gave
     gave-requires
     returns
@@ -123,6 +132,7 @@ end-seen-spec =
     enum-told-2
     inner-seen-requires
     enum-told-3
+    is-one-requires
     add-gave-2
     less-requires
     gave-requires-2

@@ -4,12 +4,10 @@ use mathlib.Core.Path.{_≡_, sym, ap, _∙_}
 use mathlib.Core.Bool.{Bool, false, _&&_}
 use mathlib.Core.Logic.{⊎-elim}
 use Prim.Native.Nat.{_+_}
-use lib.Dec.{eqb}
 use lib.ListN.{getD, getElem?}
-use borrow.Author.Tests.{eq-eqb, ne-eqb}
 use Rattle.lists.specs.Lists.{and-true}
-use Rattle.reading.specs.Bytes.{colon}
 use Rattle.reading.specs.Reading.{isTwo}
+use Rattle.scanner.specs.Kinds.{colonIn}
 use Rattle.scanner.specs.Glance.{colonSeen, endSeen}
 use Rattle.scanner.specs.Capped.{capGlance}
 use Rattle.scanner.specs.SeenLaws.{and-left, and-right}
@@ -25,19 +23,23 @@ shared-slice-read-b c = search needs
 is-two-requires : tie.Need-is-two-requires
 is-two-requires c κs = search needs
 
+is-one-requires : tie.Need-is-one-requires
+is-one-requires c κs = search needs
+
 colon-seen-requires : tie.Need-colon-seen-requires
 colon-seen-requires c κs = search needs
 
 returns : tie.Need-returns
 returns c =
-    let a = c .before .before .before .before .before .before .args in
+    let q = c .before .before .before .before in
+    let a = q .before .before .before .args in
     let k = a .k .now in
     let s = a .s .now in
     let m = markOf (a .m) in
     let b = getD s (a .at) 0 in
     c .colon-seen .ensures
-    ∙ ap (plain (a .d)) (G.way-taken (eqb b colon && isTwo m) (colonSeen k s (a .at) m (getElem? s (a .at + 1))) (endSeen k s (a .at) m (topsOf (a .top)) (a .d) (isAfter (a .m)) b)
-    (and-true (eq-eqb b colon (c .before .before .before .if1 .taken)) (sym (c .before .before .is-two .ensures) ∙ c .before .if2 .taken)))
+    ∙ ap (plain (a .d)) (G.way-taken (isTwo m && colonIn k b) (colonSeen k s (a .at) m (getElem? s (a .at + 1))) (endSeen k s (a .at) m (topsOf (a .top)) (a .d) (isAfter (a .m)) b)
+    (and-true (sym (q .is-two .ensures) ∙ c .before .before .before .if1 .taken) (sym (c .before .before .is-one .ensures) ∙ c .before .if2 .taken)))
 
 is-after-requires : tie.Need-is-after-requires
 is-after-requires c κs = search needs
@@ -47,20 +49,20 @@ end-seen-requires c κs = search needs
 
 returns-2 : tie.Need-returns-2
 returns-2 c =
-    let a2 = c .before .before .before .before .before .args in
-    let a = a2 in
+    let q = c .before .before .before in
+    let a = q .before .before .before .args in
     let k = a .k .now in
     let s = a .s .now in
     let m = markOf (a .m) in
     let b = getD s (a .at) 0 in
-    let other : (eqb b colon && isTwo m) ≡ false
+    let other : (isTwo m && colonIn k b) ≡ false
     = ⊎-elim
-    (λ w. and-right (eqb b colon) (isTwo m) (sym (w .1 .ensures) ∙ w .2 .left))
-    (λ w. and-left (eqb b colon) (isTwo m) (ne-eqb b colon (w .left)))
+    (λ w. and-right (isTwo m) (colonIn k b) (sym (w .1 .ensures) ∙ w .2 .left))
+    (λ w. and-left (isTwo m) (colonIn k b) (sym (q .is-two .ensures) ∙ w .left))
     (c .before .before .if1 .came) in
     c .end-seen .ensures
     ∙ ap (λ (t : Bool). plain (a .d) (capGlance (endSeen k s (a .at) m (topsOf (a .top)) (a .d) t b))) (c .before .is-after .ensures)
-    ∙ ap (plain (a .d)) (G.way-left (eqb b colon && isTwo m) (colonSeen k s (a .at) m (getElem? s (a .at + 1))) (endSeen k s (a .at) m (topsOf (a .top)) (a .d) (isAfter (a .m)) b) other)
+    ∙ ap (plain (a .d)) (G.way-left (isTwo m && colonIn k b) (colonSeen k s (a .at) m (getElem? s (a .at + 1))) (endSeen k s (a .at) m (topsOf (a .top)) (a .d) (isAfter (a .m)) b) other)
 
 pub ended-seen-spec : {M : Type 1} → statement M
 ended-seen-spec =
@@ -68,6 +70,7 @@ ended-seen-spec =
     (tie.spec
     shared-slice-read-b
     is-two-requires
+    is-one-requires
     colon-seen-requires
     returns
     is-after-requires

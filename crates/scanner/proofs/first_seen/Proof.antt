@@ -13,8 +13,8 @@ use Rattle.scanner.proofs.first_seen.Tie as tie
 shared-slice-read-b : tie.Need-shared-slice-read-b
 shared-slice-read-b c = search needs
 
-is-digit-requires : tie.Need-is-digit-requires
-is-digit-requires c κs = search needs
+is-kind-requires : tie.Need-is-kind-requires
+is-kind-requires c κs = search needs
 
 size-seen-requires : tie.Need-size-seen-requires
 size-seen-requires c κs = search needs
@@ -28,7 +28,7 @@ returns c =
     let m = markOf (a .m) in
     let b = getD s (a .at) 0 in
     c .size-seen .ensures
-    ∙ ap (plain (a .d)) (G.way-taken (digitIn k b) (sizeSeen s (a .at) m (numberBy k s (a .at) b)) (wrongAt (a .at) m) (sym (c .before .before .is-digit .ensures) ∙ c .before .if1 .taken))
+    ∙ ap (plain (a .d)) (G.way-taken (digitIn k b) (sizeSeen k s (a .at) m (numberBy k s (a .at) b)) (wrongAt (a .at) m) (sym (c .before .before .is-kind .ensures) ∙ c .before .if1 .taken))
 
 failed-requires : tie.Need-failed-requires
 failed-requires c κs = search needs
@@ -42,14 +42,14 @@ returns-2 c =
     let m = markOf (a .m) in
     let b = getD s (a .at) 0 in
     ap seenOf (c .failed .ensures)
-    ∙ ap (plain (a .d)) (G.way-left (digitIn k b) (sizeSeen s (a .at) m (numberBy k s (a .at) b)) (wrongAt (a .at) m) (sym (c .before .before .is-digit .ensures) ∙ c .before .if1 .left))
+    ∙ ap (plain (a .d)) (G.way-left (digitIn k b) (sizeSeen k s (a .at) m (numberBy k s (a .at) b)) (wrongAt (a .at) m) (sym (c .before .before .is-kind .ensures) ∙ c .before .if1 .left))
 
 pub first-seen-spec : {M : Type 1} → statement M
 first-seen-spec =
     tie.close
     (tie.spec
     shared-slice-read-b
-    is-digit-requires
+    is-kind-requires
     size-seen-requires
     returns
     failed-requires

@@ -16,6 +16,9 @@ use Rattle.scanner.proofs.inner_seen.Tie as tie
 shared-slice-read-b : tie.Need-shared-slice-read-b
 shared-slice-read-b c = search needs
 
+is-one-requires : tie.Need-is-one-requires
+is-one-requires c κs = search needs
+
 add-gave : tie.Need-add-gave
 add-gave c = search needs
 
@@ -24,12 +27,16 @@ gave-requires c κs = search needs
 
 returns : tie.Need-returns
 returns c =
-    let a = c .before .before .before .before .args in
+    let p = c .before .before in
+    let a = p .before .before .before .args in
     let k = a .k .now in
     let s = a .s .now in
     ap seenOf (c .gave .ensures)
     ∙ ap (plain (a .d)) (G.inner-turn k s (a .at) (markOf (a .m)) (a .d) (getD s (a .at) 0) (a .digital)
-    (c .before .if1 .taken))
+    (sym (p .is-one .ensures) ∙ c .before .if1 .taken))
+
+is-one-requires-2 : tie.Need-is-one-requires-2
+is-one-requires-2 c κs = search needs
 
 add-gave-2 : tie.Need-add-gave-2
 add-gave-2 c = search needs
@@ -42,59 +49,73 @@ gave-requires-2 c κs = search needs
 
 returns-2 : tie.Need-returns-2
 returns-2 c =
-    let a = c .before .before .before .before .before .before .args in
+    let q = c .before .before .before in
+    let p = q .before .before in
+    let a = p .before .before .before .args in
     let k = a .k .now in
     let s = a .s .now in
     ap seenOf (c .gave2 .ensures)
     ∙ ap (λ (n : ℕ). seenOf (gaveBy Closing 0 (a .at + 1) AfterOne n false false)) (c .before .less .ensures)
     ∙ ap (plain (a .d)) (G.inner-close k s (a .at) (markOf (a .m)) (a .d) (getD s (a .at) 0) (a .digital)
-    (c .before .before .before .if1 .left) (c .before .before .if2 .taken))
+    (sym (p .is-one .ensures) ∙ q .before .if1 .left) (sym (q .is-one2 .ensures) ∙ c .before .before .if2 .taken))
+
+is-kind-requires : tie.Need-is-kind-requires
+is-kind-requires c κs = search needs
 
 space-seen-requires : tie.Need-space-seen-requires
 space-seen-requires c κs = search needs
 
 returns-3 : tie.Need-returns-3
 returns-3 c =
-    let a = c .before .before .before .before .before .before .before .args in
+    let r = c .before .before in
+    let q = r .before .before .before in
+    let p = q .before .before in
+    let a = p .before .before .before .args in
     let k = a .k .now in
     let s = a .s .now in
     c .space-seen .ensures
     ∙ ap (plain (a .d)) (G.inner-space k s (a .at) (markOf (a .m)) (a .d) (getD s (a .at) 0) (a .digital)
-    (c .before .before .before .before .if1 .left) (c .before .before .before .if2 .left) (c .before .before .if3 .taken) (c .before .if4 .taken))
+    (sym (p .is-one .ensures) ∙ q .before .if1 .left) (sym (q .is-one2 .ensures) ∙ r .before .before .if2 .left)
+    (r .before .if3 .taken) (sym (r .is-kind .ensures) ∙ c .before .if4 .taken))
 
-is-digit-requires : tie.Need-is-digit-requires
-is-digit-requires c κs = search needs
+is-kind-requires-2 : tie.Need-is-kind-requires-2
+is-kind-requires-2 c κs = search needs
 
 failed-requires : tie.Need-failed-requires
 failed-requires c κs = search needs
 
 returns-4 : tie.Need-returns-4
 returns-4 c =
-    let before = c .before .before .before .before in
-    let if4 = c .before .before .before .if4 in
-    let w = before in
-    let a = w .before .before .before .before .before .args in
+    let t = c .before .before in
+    let r = t .before .before in
+    let q = r .before .before .before in
+    let p = q .before .before in
+    let a = p .before .before .before .args in
     let k = a .k .now in
     let s = a .s .now in
     ap seenOf (c .failed .ensures)
     ∙ ap (plain (a .d)) (G.inner-digit k s (a .at) (markOf (a .m)) (a .d) (getD s (a .at) 0) (a .digital)
-    (w .before .before .if1 .left) (w .before .if2 .left) (w .if3 .taken) (if4 .left) (sym (c .before .before .is-digit .ensures) ∙ c .before .if5 .taken))
+    (sym (p .is-one .ensures) ∙ q .before .if1 .left) (sym (q .is-one2 .ensures) ∙ r .before .before .if2 .left)
+    (r .before .if3 .taken) (sym (r .is-kind .ensures) ∙ t .before .if4 .left) (sym (t .is-kind2 .ensures) ∙ c .before .if5 .taken))
 
 node-seen-requires : tie.Need-node-seen-requires
 node-seen-requires c κs = search needs
 
 returns-5 : tie.Need-returns-5
 returns-5 c =
-    let a = c .before .before .before .before .before .before .args in
+    let q = c .before .before .before in
+    let p = q .before .before in
+    let a = p .before .before .before .args in
     let k = a .k .now in
     let s = a .s .now in
     let b = getD s (a .at) 0 in
     c .node-seen .ensures
     ∙ ap (plain (a .d)) (⊎-elim
     (λ w. G.inner-after k s (a .at) (markOf (a .m)) (a .d) b (a .digital)
-    (c .before .before .before .if1 .left) (c .before .before .if2 .left) (w .0 .taken) (w .1 .left) (sym (w .2 .ensures) ∙ w .3 .left))
+    (sym (p .is-one .ensures) ∙ q .before .if1 .left) (sym (q .is-one2 .ensures) ∙ c .before .before .if2 .left)
+    (w .0 .taken) (sym (w .1 .ensures) ∙ w .2 .left) (sym (w .3 .ensures) ∙ w .4 .left))
     (λ w. G.inner-node k s (a .at) (markOf (a .m)) (a .d) b (a .digital)
-    (c .before .before .before .if1 .left) (c .before .before .if2 .left) (w .left))
+    (sym (p .is-one .ensures) ∙ q .before .if1 .left) (sym (q .is-one2 .ensures) ∙ c .before .before .if2 .left) (w .left))
     (c .before .if3 .came))
 
 pub inner-seen-spec : {M : Type 1} → statement M
@@ -102,16 +123,19 @@ inner-seen-spec =
     tie.close
     (tie.spec
     shared-slice-read-b
+    is-one-requires
     add-gave
     gave-requires
     returns
+    is-one-requires-2
     add-gave-2
     less-requires
     gave-requires-2
     returns-2
+    is-kind-requires
     space-seen-requires
     returns-3
-    is-digit-requires
+    is-kind-requires-2
     failed-requires
     returns-4
     node-seen-requires

@@ -15,16 +15,20 @@ use Rattle.scanner.proofs.node_seen.Tie as tie
 shared-slice-read-b : tie.Need-shared-slice-read-b
 shared-slice-read-b c = search needs
 
+is-one-requires : tie.Need-is-one-requires
+is-one-requires c κs = search needs
+
 failed-requires : tie.Need-failed-requires
 failed-requires c κs = search needs
 
 returns : tie.Need-returns
 returns c =
-    let a = c .before .before .before .before .before .args in
+    let q = c .before .before .before in
+    let a = q .before .before .before .args in
     let k = a .k .now in
     let s = a .s .now in
     ap seenOf (c .failed .ensures)
-    ∙ ap (plain (a .d)) (G.node-deep k s (a .at) (markOf (a .m)) (a .d) (getD s (a .at) 0) (a .two) (c .before .before .if1 .taken) (c .before .if2 .taken))
+    ∙ ap (plain (a .d)) (G.node-deep k s (a .at) (markOf (a .m)) (a .d) (getD s (a .at) 0) (a .two) (sym (q .is-one .ensures) ∙ c .before .before .if1 .taken) (c .before .if2 .taken))
 
 add-gave : tie.Need-add-gave
 add-gave c = search needs
@@ -37,54 +41,54 @@ gave-requires c κs = search needs
 
 returns-2 : tie.Need-returns-2
 returns-2 c =
-    let a = c .before .before .before .before .before .args in
+    let q = c .before .before .before in
+    let a = q .before .before .before .args in
     let k = a .k .now in
     let s = a .s .now in
     ap seenOf (c .gave .ensures)
     ∙ seen-push (a .at + 1) (a .d) (a .two)
-    ∙ ap (plain (a .d)) (G.node-push k s (a .at) (markOf (a .m)) (a .d) (getD s (a .at) 0) (a .two) (c .before .before .if1 .taken) (omega arith))
+    ∙ ap (plain (a .d)) (G.node-push k s (a .at) (markOf (a .m)) (a .d) (getD s (a .at) 0) (a .two) (sym (q .is-one .ensures) ∙ c .before .before .if1 .taken) (omega arith))
 
-is-digit-requires : tie.Need-is-digit-requires
-is-digit-requires c κs = search needs
+is-kind-requires : tie.Need-is-kind-requires
+is-kind-requires c κs = search needs
 
 failed-requires-2 : tie.Need-failed-requires-2
 failed-requires-2 c κs = search needs
 
 returns-3 : tie.Need-returns-3
 returns-3 c =
-    let a2 = c .before .before .before .before .before .before .args in
-    let if1 = c .before .before .before .if1 in
-    let a = a2 in
+    let q = c .before .before .before in
+    let a = q .before .before .before .before .args in
     let k = a .k .now in
     let s = a .s .now in
     ap seenOf (c .failed2 .ensures)
-    ∙ ap (plain (a .d)) (G.node-wrong k s (a .at) (markOf (a .m)) (a .d) (getD s (a .at) 0) (a .two) (if1 .left) (sym (c .before .before .is-digit .ensures) ∙ not-true _ (c .before .if3 .taken)))
+    ∙ ap (plain (a .d)) (G.node-wrong k s (a .at) (markOf (a .m)) (a .d) (getD s (a .at) 0) (a .two) (sym (q .before .is-one .ensures) ∙ q .if1 .left) (sym (c .before .before .is-kind .ensures) ∙ not-true _ (c .before .if3 .taken)))
 
 number-seen-requires : tie.Need-number-seen-requires
 number-seen-requires c κs = search needs
 
 returns-4 : tie.Need-returns-4
 returns-4 c =
-    let a2 = c .before .before .before .before .before .before .args in
-    let if1 = c .before .before .before .if1 in
-    let a = a2 in
+    let q = c .before .before .before in
+    let a = q .before .before .before .before .args in
     let k = a .k .now in
     let s = a .s .now in
     c .number-seen .ensures
-    ∙ ap (plain (a .d)) (G.node-number k s (a .at) (markOf (a .m)) (a .d) (getD s (a .at) 0) (a .two) (if1 .left) (sym (c .before .before .is-digit .ensures) ∙ not-false _ (c .before .if3 .left)))
+    ∙ ap (plain (a .d)) (G.node-number k s (a .at) (markOf (a .m)) (a .d) (getD s (a .at) 0) (a .two) (sym (q .before .is-one .ensures) ∙ q .if1 .left) (sym (c .before .before .is-kind .ensures) ∙ not-false _ (c .before .if3 .left)))
 
 pub node-seen-spec : {M : Type 1} → statement M
 node-seen-spec =
     tie.close
     (tie.spec
     shared-slice-read-b
+    is-one-requires
     failed-requires
     returns
     add-gave
     add-gave-2
     gave-requires
     returns-2
-    is-digit-requires
+    is-kind-requires
     failed-requires-2
     returns-3
     number-seen-requires

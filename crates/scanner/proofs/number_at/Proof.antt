@@ -45,8 +45,8 @@ loop-holds c =
 shared-slice-read-c : tie.Need-shared-slice-read-c Inv-loop μ-loop
 shared-slice-read-c c = search needs
 
-is-digit-requires : tie.Need-is-digit-requires Inv-loop μ-loop
-is-digit-requires c κs = search needs
+is-kind-requires : tie.Need-is-kind-requires Inv-loop μ-loop
+is-kind-requires c κs = search needs
 
 cast-t17 : tie.Need-cast-t17 Inv-loop μ-loop
 cast-t17 c = omega (arith, c .before .before .before .before .loop .inv .0)
@@ -56,7 +56,7 @@ returns-3 c =
     let k = c .before .before .before .before .before .before .before .before .before .before .args .k .now in
     let s = c .before .before .before .before .before .before .before .before .before .before .args .s .now in
     let l = c .before .before .before .before .loop in
-    let d : digitIn k (getD s (l .i) 0) ≡ false = sym (c .before .is-digit .ensures) ∙ not-true _ (c .if3 .taken) in
+    let d : digitIn k (getD s (l .i) 0) ≡ false = sym (c .before .is-kind .ensures) ∙ not-true _ (c .if3 .taken) in
     sym (on-stop k s (l .i) (l .v) (omega arith) d) ∙ l .inv .1
 
 more-requires : tie.Need-more-requires Inv-loop μ-loop
@@ -73,7 +73,7 @@ loop-again c =
     let k = c .before .before .before .before .before .before .before .before .before .before .before .args .k .now in
     let s = c .before .before .before .before .before .before .before .before .before .before .before .args .s .now in
     let l = c .before .before .before .before .before .loop in
-    let d : digitIn k (getD s (l .i) 0) ≡ true = sym (c .before .before .is-digit .ensures) ∙ not-false _ (c .before .if3 .left) in
+    let d : digitIn k (getD s (l .i) 0) ≡ true = sym (c .before .before .is-kind .ensures) ∙ not-false _ (c .before .if3 .left) in
     let e : c .more .result ≡ cap (l .v * 10 + (getD s (l .i) 0 - 48)) = c .more .ensures in
     (omega arith, ap (λ (y : ℕ). cappedOn k (drop (l .i + 1) s) y (l .i + 1)) e ∙ sym (on-digit k s (l .i) (l .v) (omega arith) d) ∙ l .inv .1)
 
@@ -97,7 +97,7 @@ number-at-spec =
     digit-requires
     loop-holds
     shared-slice-read-c
-    is-digit-requires
+    is-kind-requires
     cast-t17
     returns-3
     more-requires

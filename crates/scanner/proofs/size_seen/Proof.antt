@@ -1,6 +1,6 @@
 -- Each way is that of the size by what scanning its number gave.
 -- Assumes nothing.
-use mathlib.Core.Path.{ap, _∙_}
+use mathlib.Core.Path.{sym, ap, _∙_}
 use native.Mathlib.Omega.{arith}
 use lib.ListN.{getD}
 use borrow.Author.Tests.{not-true, not-false}
@@ -25,7 +25,7 @@ returns c =
     let s = a .s .now in
     let x = numberBy k s (a .at) (getD s (a .at) 0) in
     ap seenOf (c .waited .ensures)
-    ∙ ap (plain (a .d)) (G.size-waits (n .result .done) (n .result .value) (n .result .next) x (n .ensures) (a .at) (markOf (a .m)) s (not-true _ (c .before .if1 .taken)))
+    ∙ ap (plain (a .d)) (G.size-waits (n .result .done) (n .result .value) (n .result .next) x (n .ensures) (a .at) (markOf (a .m)) k s (not-true _ (c .before .if1 .taken)))
 
 waited-requires-2 : tie.Need-waited-requires-2
 waited-requires-2 c κs = search needs
@@ -40,10 +40,13 @@ returns-2 c =
     let s = a .s .now in
     let x = numberBy k s (a .at) (getD s (a .at) 0) in
     ap seenOf (c .waited2 .ensures)
-    ∙ ap (plain (a .d)) (G.size-past (n .result .done) (n .result .value) (n .result .next) x (n .ensures) (a .at) (markOf (a .m)) s (not-false _ (c .before .before .if1 .left)) (c .before .if2 .taken))
+    ∙ ap (plain (a .d)) (G.size-past (n .result .done) (n .result .value) (n .result .next) x (n .ensures) (a .at) (markOf (a .m)) k s (not-false _ (c .before .before .if1 .left)) (c .before .if2 .taken))
 
 shared-slice-read-b : tie.Need-shared-slice-read-b
 shared-slice-read-b c = search needs
+
+is-kind-requires : tie.Need-is-kind-requires
+is-kind-requires c κs = search needs
 
 add-gave : tie.Need-add-gave
 add-gave c = search needs
@@ -53,32 +56,28 @@ gave-requires c κs = search needs
 
 returns-3 : tie.Need-returns-3
 returns-3 c =
-    let a2 = c .before .before .before .before .before .before .before .args in
-    let numberat = c .before .before .before .before .before .number-at in
-    let if1 = c .before .before .before .before .if1 in
-    let a = a2 in
-    let n = numberat in
+    let q = c .before .before .before .before in
+    let a = q .before .before .before .before .args in
+    let n = q .before .before .number-at in
     let k = a .k .now in
     let s = a .s .now in
     let x = numberBy k s (a .at) (getD s (a .at) 0) in
     ap seenOf (c .gave .ensures)
-    ∙ ap (plain (a .d)) (G.size-line (n .result .done) (n .result .value) (n .result .next) x (n .ensures) (a .at) (markOf (a .m)) s (not-false _ (if1 .left)) (omega arith) (c .before .if3 .taken))
+    ∙ ap (plain (a .d)) (G.size-line (n .result .done) (n .result .value) (n .result .next) x (n .ensures) (a .at) (markOf (a .m)) k s (not-false _ (q .before .if1 .left)) (omega arith) (sym (c .before .before .is-kind .ensures) ∙ c .before .if3 .taken))
 
 failed-requires : tie.Need-failed-requires
 failed-requires c κs = search needs
 
 returns-4 : tie.Need-returns-4
 returns-4 c =
-    let a2 = c .before .before .before .before .before .before .before .args in
-    let numberat = c .before .before .before .before .before .number-at in
-    let if1 = c .before .before .before .before .if1 in
-    let a = a2 in
-    let n = numberat in
+    let q = c .before .before .before .before in
+    let a = q .before .before .before .before .args in
+    let n = q .before .before .number-at in
     let k = a .k .now in
     let s = a .s .now in
     let x = numberBy k s (a .at) (getD s (a .at) 0) in
     ap seenOf (c .failed .ensures)
-    ∙ ap (plain (a .d)) (G.size-wrong (n .result .done) (n .result .value) (n .result .next) x (n .ensures) (a .at) (markOf (a .m)) s (not-false _ (if1 .left)) (omega arith) (c .before .if3 .left))
+    ∙ ap (plain (a .d)) (G.size-wrong (n .result .done) (n .result .value) (n .result .next) x (n .ensures) (a .at) (markOf (a .m)) k s (not-false _ (q .before .if1 .left)) (omega arith) (sym (c .before .before .is-kind .ensures) ∙ c .before .if3 .left))
 
 pub size-seen-spec : {M : Type 1} → statement M
 size-seen-spec =
@@ -90,6 +89,7 @@ size-seen-spec =
     waited-requires-2
     returns-2
     shared-slice-read-b
+    is-kind-requires
     add-gave
     gave-requires
     returns-3
