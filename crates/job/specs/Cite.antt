@@ -13,6 +13,7 @@ use Rattle.job.specs.declared.Field.{Field}
 use Rattle.job.specs.declared.Field.the-variants.{Value, Nothing}
 use Rattle.job.specs.declared.Heading.{Heading}
 use Rattle.job.specs.declared.Lines.{Lines}
+use Rattle.job.specs.declared.NamedOperator.{NamedOperator}
 
 abbrev pub fieldOf : Field → Option ℕ
 fieldOf (Value v) = some v
@@ -85,11 +86,11 @@ lines-other s l e h =
 
 -- ---- The table of the named operators --------------------------------------------------------
 
--- how long the name is, the operator, the name in four bytes
-abbrev pub rowOf : Named → List ℕ
-rowOf o = let x = text (o .name) in length x ∷ o .op ∷ (x ++ replicate (4 - length x) 0)
+-- the name in four bytes, its length, the operator
+abbrev pub rowOf : Named → NamedOperator
+rowOf o = let x = text (o .name) in record { name = x ++ replicate (4 - length x) 0; length = length x; operator = o .op }
 
-abbrev pub operatorRows : List (List ℕ)
+abbrev pub operatorRows : List NamedOperator
 operatorRows = map rowOf operatorNames
 
 -- operator k of the table, and its name

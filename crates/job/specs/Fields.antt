@@ -18,6 +18,7 @@ use Rattle.reading.specs.Bytes.{digitZero, digitNine, isDigit, text}
 use Rattle.claims.specs.Numerals.{digit-true, digit-range}
 use Rattle.writing.specs.Join.{sameBytes, Named, named, operatorNames, operatorOf, valueOn, numberOf}
 use Rattle.job.specs.Cite.{rowOf, operatorRows, namedAt, nameAt}
+use Rattle.job.specs.declared.NamedOperator.{NamedOperator}
 
 -- ---- Numbers ---------------------------------------------------------------------------------
 
@@ -157,15 +158,12 @@ map-at f [] k d e h = absurd (omega arith)
 map-at f (x ∷ l) zero d e h = refl
 map-at f (x ∷ l) (suc k) d e h = map-at f l k d e (omega arith)
 
-pub row-at : (t : List (List ℕ)) (k j : ℕ) → t ≡ operatorRows → k < 8 → getD (getD t k []) j 0 ≡ getD (rowOf (namedAt k)) j 0
-row-at t k j e h =
-    ap (λ (r : List (List ℕ)). getD (getD r k []) j 0) e ∙ ap (λ (r : List ℕ). getD r j 0) (map-at rowOf operatorNames k (named "" 0) [] h)
+pub row-at : (t : List NamedOperator) (k : ℕ) (d : NamedOperator) → t ≡ operatorRows → k < 8 → getD t k d ≡ rowOf (namedAt k)
+row-at t k d e h = ap (λ (r : List NamedOperator). getD r k d) e ∙ map-at rowOf operatorNames k (named "" 0) d h
 
 -- a byte of a name
-pub row-name : (o : Named) (j : ℕ) → getD (rowOf o) (j + 2) 0 ≡ getD (text (o .name)) j 0
-row-name o j =
-    let e : j + 2 ≡ suc (suc j) = omega arith in
-    ap (λ (i : ℕ). getD (rowOf o) i 0) e ∙ getD-pad (text (o .name)) (4 - length (text (o .name))) j 0
+pub row-name : (o : Named) (j : ℕ) → getD (rowOf o .name) j 0 ≡ getD (text (o .name)) j 0
+row-name o j = getD-pad (text (o .name)) (4 - length (text (o .name))) j 0
 
 -- names have at most four
 short-at : (os : List Named) (k : ℕ) → All (λ (o : Named). length (text (o .name)) ≤ 4) os → length (text (getD os k (named "" 0) .name)) ≤ 4

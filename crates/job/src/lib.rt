@@ -1,7 +1,7 @@
 // The job of the program `join`, read from its text.
 ghost use mathlib.Core.Path.{_≡_};
 ghost use mathlib.Core.List.{[], _∷_};
-ghost use lib.ListN.{length, getD};
+ghost use lib.ListN.{length};
 ghost use Prim.Native.Nat.{_<_, _≤_};
 ghost use Rattle.reading.specs.Bytes.{isDigit, lineFeed, blank};
 ghost use Rattle.writing.specs.Join.{pieces, sameBytes, operatorNames, operatorOf, valueOn, numberOf, fiveLines};
@@ -129,30 +129,69 @@ fn number(l: &[u8]) -> Field
     value(l)
 }
 
-// The named operators: how long the name is, the operator, the name
-const OPERATORS: [[u8; 6]; 8] = [
-    [3, 1, b'N', b'O', b'R', 0],
-    [3, 3, b'N', b'O', b'T', 0],
-    [3, 4, b'B', b'U', b'T', 0],
-    [3, 6, b'X', b'O', b'R', 0],
-    [4, 7, b'N', b'A', b'N', b'D'],
-    [3, 8, b'A', b'N', b'D', 0],
-    [4, 9, b'X', b'N', b'O', b'R'],
-    [2, 14, b'O', b'R', 0, 0],
+// A named operator: the first bytes of `name`, as many as `length` says, are its name.
+struct NamedOperator {
+    name: [u8; 4],
+    length: usize,
+    operator: u32,
+}
+
+const OPERATORS: [NamedOperator; 8] = [
+    NamedOperator {
+        name: [b'N', b'O', b'R', 0],
+        length: 3,
+        operator: 1,
+    },
+    NamedOperator {
+        name: [b'N', b'O', b'T', 0],
+        length: 3,
+        operator: 3,
+    },
+    NamedOperator {
+        name: [b'B', b'U', b'T', 0],
+        length: 3,
+        operator: 4,
+    },
+    NamedOperator {
+        name: [b'X', b'O', b'R', 0],
+        length: 3,
+        operator: 6,
+    },
+    NamedOperator {
+        name: [b'N', b'A', b'N', b'D'],
+        length: 4,
+        operator: 7,
+    },
+    NamedOperator {
+        name: [b'A', b'N', b'D', 0],
+        length: 3,
+        operator: 8,
+    },
+    NamedOperator {
+        name: [b'X', b'N', b'O', b'R'],
+        length: 4,
+        operator: 9,
+    },
+    NamedOperator {
+        name: [b'O', b'R', 0, 0],
+        length: 2,
+        operator: 14,
+    },
 ];
 
-fn operators() -> [[u8; 6]; 8]
+fn operators() -> [NamedOperator; 8]
     ensures { λ r. ⌜ r ≡ operatorRows ⌝ }
 {
     OPERATORS
 }
 
-fn entry(k: usize, j: usize) -> u8
-    requires { ⌜ (k < 8) × (j < 6) ⌝ }
-    ensures { λ r. ⌜ r ≡ getD (rowOf (namedAt k)) j 0 ⌝ }
+// Operator k of the table
+fn entry(k: usize) -> NamedOperator
+    requires { ⌜ k < 8 ⌝ }
+    ensures { λ r. ⌜ r ≡ rowOf (namedAt k) ⌝ }
 {
     let t = operators();
-    t[k][j]
+    t[k]
 }
 
 // The field is the name of operator k of the table.
@@ -160,12 +199,14 @@ fn is_named(l: &[u8], k: usize) -> bool
     requires { ⌜ k < 8 ⌝ }
     ensures { λ r. ⌜ r ≡ sameBytes (nameAt k) (now (l .entry)) ⌝ }
 {
-    if l.len() != entry(k, 0) as usize {
+    let o = entry(k);
+    if l.len() != o.length {
         return false;
     }
+    let name = o.name;
     let mut j = 0;
     while j < l.len() {
-        if l[j] != entry(k, j + 2) {
+        if l[j] != name[j] {
             return false;
         }
         j += 1;
@@ -179,7 +220,8 @@ fn operator(l: &[u8]) -> Field
     let mut k = 0;
     while k < 8 {
         if is_named(l, k) {
-            return Field::Value(entry(k, 1) as u32);
+            let o = entry(k);
+            return Field::Value(o.operator);
         }
         k += 1;
     }

@@ -11,15 +11,11 @@ operators-requires c κs = search needs
 mul-result : tie.Need-mul-result
 mul-result c = search needs
 
-index-1-result : tie.Need-index-1-result
-index-1-result c = search needs
-
-index-2-result : tie.Need-index-2-result
-index-2-result c = search needs
+array-copy-out-result : tie.Need-array-copy-out-result
+array-copy-out-result c = search needs
 
 returns : tie.Need-returns
-returns c = row-at _ (c .before .before .args .k) (c .before .before .args .j) (c .before .operators .ensures) (c .before .before .pre .0)
+returns c = row-at _ (c .before .before .args .k) _ (c .before .operators .ensures) (c .before .before .pre)
 
 pub entry-spec : {M : Type 1} → statement M
-entry-spec =
-    tie.close (tie.spec operators-requires mul-result index-1-result index-2-result returns)
+entry-spec = tie.close (tie.spec operators-requires mul-result array-copy-out-result returns)

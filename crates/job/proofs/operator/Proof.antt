@@ -5,10 +5,11 @@ use Rattle.job.proofs.operator.Statement.{statement}
 use Rattle.job.proofs.operator.Tie as tie
 use mathlib.Core.Path.{_≡_, refl, sym, ap, _∙_}
 use mathlib.Core.Option.{some}
-use Prim.Native.Nat.{ℕ, _-_, _≤_}
+use Prim.Native.Nat.{_-_, _≤_}
 use native.Mathlib.Omega.{arith}
 use lib.ListN.{drop}
 use Rattle.writing.specs.Join.{operatorNames, operatorOf}
+use Rattle.job.specs.declared.NamedOperator.{NamedOperator}
 use Rattle.job.specs.Fields.{operator-hit, operator-miss, operator-end}
 
 abbrev Inv-loop : tie.InvT-loop
@@ -26,12 +27,9 @@ is-named-requires c κs = search needs
 entry-requires : tie.Need-entry-requires Inv-loop μ-loop
 entry-requires c κs = search needs
 
-cast-t6 : tie.Need-cast-t6 Inv-loop μ-loop
-cast-t6 c = search needs
-
 returns : tie.Need-returns Inv-loop μ-loop
 returns c = let x = c .before .before .before .before .before .before .args .l .now in let l = c .before .before .before .before .loop in
-    ap (λ (v : ℕ). some v) (c .entry .ensures) ∙ sym (l .inv .1 ∙ operator-hit x (l .k) (c .before .before .before .loop-test .taken) (sym (c .before .before .is-named .ensures) ∙ c .before .if1 .taken))
+    ap (λ (o : NamedOperator). some (o .operator)) (c .entry .ensures) ∙ sym (l .inv .1 ∙ operator-hit x (l .k) (c .before .before .before .loop-test .taken) (sym (c .before .before .is-named .ensures) ∙ c .before .if1 .taken))
 
 add-k : tie.Need-add-k Inv-loop μ-loop
 add-k c = search needs
@@ -55,7 +53,6 @@ operator-spec =
     loop-holds
     is-named-requires
     entry-requires
-    cast-t6
     returns
     add-k
     loop-less
