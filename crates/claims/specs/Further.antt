@@ -22,11 +22,11 @@ use Rattle.reading.specs.CauseSeven as G
 use Rattle.writing.specs.UniqueTable.{start}
 use Rattle.writing.specs.Rules.{part}
 use Rattle.writing.specs.Run.{runText, writtenBytes, outputAfter, outputFull, answerOf}
+use Rattle.writing.specs.PaperRows as R
+use Rattle.writing.specs.PaperRows.{Row, rows, Holds}
 use Rattle.writing.specs.Queue as Q
 use Rattle.writing.specs.Grows as W
 use Rattle.writing.specs.Output as O
-use Rattle.claims.specs.PaperRows as R
-use Rattle.claims.specs.PaperRows.{Row, rows, Holds}
 
 -- ---- The examples marked P -------------------------------------------------------------------
 

@@ -8,7 +8,6 @@ pub mod Terms
 pub mod Refused
 pub mod LentMemory
 pub mod Runs
-pub mod PaperRows
 pub mod Claims
 pub mod Further
 pub mod Examples

@@ -1,5 +1,5 @@
--- Written streams computed: P1 to P7 of document 01, its program's example, and rows that tell the definitions from near misses of them
--- (the edits in must-fail/ each break one).
+-- Written streams computed, beside those of `PaperRows`: document 01's example of a program, and rows that tell the definitions from near misses of
+-- them (the edits in must-fail/ each break one).
 use mathlib.Core.Path.{_≡_, refl}
 use mathlib.Core.Bool.{Bool, true, false, _&&_}
 use mathlib.Core.List.{[], _∷_}
@@ -15,39 +15,6 @@ use Rattle.writing.specs.Calls.{combineAnswer}
 -- binary digit w of x: the decision at word w
 abbrev byNumber : ℕ → ℕ → Bool
 byNumber x w = eqb (x / 2 ^ w % 2) 1
-
--- ---- P1 to P7 --------------------------------------------------------------------------------
-
-always-no : runText 0 0 1 (byNumber 0) ≡ text "0\n0."
-unfolding runText text
-always-no = refl
-
-the-option : runText 1 1 2 (byNumber 2) ≡ text "1\n(0~0):1."
-unfolding runText text
-the-option = refl
-
-odd : runText 3 3 8 (byNumber 150) ≡ text "3\n(((0~0):1~1):2~2):3."
-unfolding runText text
-odd = refl
-
--- two or more set
-majority-enough : runText 3 4 8 (byNumber 232) ≡ text "4\n((0(0~0):1):2(1~0):3):4."
-unfolding runText text
-majority-enough = refl
-
--- The halves both show number 2, which changed hands between them: rule 2's "not given out again since either half got it".
-majority-recycled : runText 3 2 8 (byNumber 232) ≡ text "2\n((0(0~0):1):2(1~0):2)."
-unfolding runText text
-majority-recycled = refl
-
--- The one number is the new node's own child.
-majority-child : runText 3 1 8 (byNumber 232) ≡ text "1\n((0(0~0):1)(1~0))."
-unfolding runText text
-majority-child = refl
-
-majority-none : runText 3 0 8 (byNumber 232) ≡ text "0\n((0(0~0))((0~0)~0))."
-unfolding runText text
-majority-none = refl
 
 -- ---- The queue -------------------------------------------------------------------------------
 

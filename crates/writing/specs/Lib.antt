@@ -6,6 +6,7 @@ pub mod Run
 pub mod Calls
 pub mod Join
 pub mod JoinExample
+pub mod PaperRows
 pub mod Examples
 -- The table, the queue and the rules
 pub mod ConstantPart

@@ -44,8 +44,8 @@ rows =
     ∷ writes 1 1 (λ w. eqb w 1) "1\n(0~0):1."  -- P2: n 1, the option
     ∷ writes 3 3 odd "3\n(((0~0):1~1):2~2):3."  -- P3: n 3, odd, size 3
     ∷ writes 3 4 twoSet "4\n((0(0~0):1):2(1~0):3):4."  -- P4 to P7: n 3, two or more set, sizes 4, 2, 1, 0
-    ∷ writes 3 2 twoSet "2\n((0(0~0):1):2(1~0):2)."
-    ∷ writes 3 1 twoSet "1\n((0(0~0):1)(1~0))."
+    ∷ writes 3 2 twoSet "2\n((0(0~0):1):2(1~0):2)."  -- both halves show 2, which changed hands between them
+    ∷ writes 3 1 twoSet "1\n((0(0~0):1)(1~0))."  -- the one number is the new node's own child
     ∷ writes 3 0 twoSet "0\n((0(0~0))((0~0)~0))."
     ∷ checks 3 "4\n((0(0~0):1):2" (done (record { size = 4; covered = 4; extent = cut }))  -- P8: covers 4
     ∷ checks 1 "1\n(1~0)." (refusedAt notInTable 3)  -- P9: 10 at byte 3
