@@ -3,6 +3,7 @@ use mathlib.Core.Bool.{false, cond, _||_}
 use mathlib.Core.List.{List}
 use Prim.Native.Nat.{ℕ}
 use lib.Dec.{ltb}
+use Rattle.reading.specs.Limits.{optionLimit, levelLimit}
 use Rattle.writing.specs.Run.{operate}
 use Rattle.engine.specs.Engine as E
 use Rattle.engine.specs.Applying.{Source}
@@ -18,5 +19,5 @@ recalledOf r t out w μ = record { walked = walkedOf r t out w; memo = μ }
 -- the part of level i with d options left, as far as a rule may have so many
 abbrev pub applied : ℕ → ℕ → ℕ → ℕ → ℕ → List Source → List (List ℕ) → List (List ℕ) → List ℕ → List ℕ → E.Pen → Recalled
 applied op size d i m xs μ t out w pen =
-    cond (ltb 32 d || ltb 33 i) (unnoted (E.kept (E.constantHalf false) t out w pen) μ)
+    cond (ltb optionLimit d || ltb levelLimit i) (unnoted (E.kept (E.constantHalf false) t out w pen) μ)
     (recallIn slotOf (operate op) size d i m xs μ t out w pen)

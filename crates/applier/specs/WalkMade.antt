@@ -8,6 +8,7 @@ use lib.Dec.{eqb, ltb}
 use lib.ListN.{getD, set}
 use borrow.Author.Tests.{le-ltb}
 use Rattle.lists.specs.Lists.{differ, bit}
+use Rattle.reading.specs.Limits.{optionLimit, levelLimit}
 use Rattle.reading.specs.Nodes.{Node, node, stamp}
 use Rattle.reading.specs.Bytes.{opener}
 use Rattle.writing.specs.Texts.{tildeIf}
@@ -60,7 +61,7 @@ pub one-asks : (d : ℕ) → (d ≡ 0 → ⊥) → 1 ≤ d
 one-asks d h = omega (arith, h)
 
 -- what each half of a part of d options at level i asks; t: the measure
-pub half-asks : (d i t : ℕ) → (d ≡ t) × (i + d ≤ 65) → (d ≡ 0 → ⊥) → (d - 1 < t) × (i + 1 + (d - 1) ≤ 65)
+pub half-asks : (d i t : ℕ) → (d ≡ t) × (i + d ≤ optionLimit + levelLimit) → (d ≡ 0 → ⊥) → (d - 1 < t) × (i + 1 + (d - 1) ≤ optionLimit + levelLimit)
 half-asks d i t p h = (omega (arith, p, h), omega (arith, p, h))
 
 -- ---- What is returned ------------------------------------------------------------------------
@@ -88,17 +89,17 @@ again-in r g h x v t out w μ e f = ap (λ (w : E.Walked). record { walked = w; 
 
 -- past the options or levels of a rule
 pub applied-past : (op size d i m : ℕ) (xs : List Source) (μ t : List (List ℕ)) (out w : List ℕ) (pen : E.Pen) (b : Bool)
-    → (ltb 32 d || ltb 33 i) ≡ b → b ≡ true
+    → (ltb optionLimit d || ltb levelLimit i) ≡ b → b ≡ true
     → unnoted (E.kept (E.constantHalf false) t out w pen) μ ≡ applied op size d i m xs μ t out w pen
 applied-past op size d i m xs μ t out w pen b e f =
     sym (ap (λ (b : Bool). cond b (unnoted (E.kept (E.constantHalf false) t out w pen) μ)
     (recallIn slotOf (operate op) size d i m xs μ t out w pen)) (e ∙ f))
 
-pub applied-within : (op size d i m : ℕ) (xs : List Source) (μ t : List (List ℕ)) (out w : List ℕ) (pen : E.Pen) → d ≤ 32 → i ≤ 33
+pub applied-within : (op size d i m : ℕ) (xs : List Source) (μ t : List (List ℕ)) (out w : List ℕ) (pen : E.Pen) → d ≤ optionLimit → i ≤ levelLimit
     → recallIn slotOf (operate op) size d i m xs μ t out w pen ≡ applied op size d i m xs μ t out w pen
 applied-within op size d i m xs μ t out w pen h k =
     sym (ap (λ (b : Bool). cond b (unnoted (E.kept (E.constantHalf false) t out w pen) μ)
-    (recallIn slotOf (operate op) size d i m xs μ t out w pen)) (ap₂ _||_ (le-ltb 32 d h) (le-ltb 33 i k)))
+    (recallIn slotOf (operate op) size d i m xs μ t out w pen)) (ap₂ _||_ (le-ltb optionLimit d h) (le-ltb levelLimit i k)))
 
 -- a part of e options, d + 1 of them; r₁, r₂: the records of the inputs' numbers, k: its key, s: the place of that
 module _ (op size d i m : ℕ) (x y : Edge) (t₁ t₂ μ t : List (List ℕ)) (out w : List ℕ) (pen : E.Pen) (e : ℕ) (n : e ≡ suc d)

@@ -3,6 +3,7 @@ ghost use mathlib.Core.Path.{_≡_};
 ghost use mathlib.Core.Bool.{false, not, _&&_};
 ghost use mathlib.Core.List.{[], _∷_};
 ghost use Prim.Native.Nat.{_+_, _≤_};
+ghost use Rattle.reading.specs.Limits.{optionLimit, levelLimit};
 ghost use Rattle.writing.specs.Run.{operate};
 ghost use Rattle.engine.specs.Memo.{slotOf};
 ghost use Rattle.engine.specs.Recalling.{recallIn};
@@ -75,7 +76,7 @@ fn walk(
     c: &mut [[u32; 9]],
     pen: Pen,
 ) -> Walked
-    requires { ⌜ i + d ≤ 65 ⌝ }
+    requires { ⌜ i + d ≤ optionLimit + levelLimit ⌝ }
     ensures { λ r. ⌜ recalledOf r (now (t .exit)) (now (out .exit)) (now (w .exit)) (now (c .exit)) ≡ recallIn slotOf (operate op) size d i m (edgeIn x (now (t1 .entry)) ∷ edgeIn y (now (t2 .entry)) ∷ []) (now (c .entry)) (now (t .entry)) (now (out .entry)) (now (w .entry)) (penOf pen) ⌝ }
 {
     if d == 0 {
@@ -121,7 +122,7 @@ fn walk(
     both
 }
 
-// COMBINING STORED NODES: a part as a rule of up to 32 options has it; past that nothing is walked.
+// COMBINING STORED NODES: a part as a rule within the option limit has it; past that nothing is walked.
 pub fn apply(
     op: u32,
     size: u32,

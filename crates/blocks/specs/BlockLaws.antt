@@ -10,6 +10,7 @@ use native.Mathlib.Omega.{arith}
 use lib.ListN.{length}
 use borrow.Author.Tests.{lt-ltb}
 use Rattle.lists.specs.Lists.{decide-le}
+use Rattle.reading.specs.Limits.{optionLimit, tableLimit}
 use Rattle.reading.specs.Nodes.{node}
 use Rattle.reading.specs.Reading.{State, Reading, level, isStart, reading}
 use Rattle.reading.specs.Deciding.{Decision, undecided, decided, complemented, options, Trace, traceOn, trace, decisionOf, decision}
@@ -155,7 +156,7 @@ abbrev pub StandsAt : ℕ → List ℕ → ReadCursor → List (List ℕ) → Ty
 StandsAt n bytes c t = Stands n bytes (c .run) (c .opens) t
 
 -- So the first one, whatever the table holds.
-pub first-stands : (n : ℕ) (bytes : List ℕ) (t : List (List ℕ)) → 1024 ≤ length t → StandsAt n bytes firstCursor t
+pub first-stands : (n : ℕ) (bytes : List ℕ) (t : List (List ℕ)) → tableLimit ≤ length t → StandsAt n bytes firstCursor t
 first-stands n bytes t h = stands-first n bytes t h
 
 -- It covers no more words than the stream does.
@@ -165,7 +166,7 @@ stands-read n bytes c t h =
     omega (arith, at-all n bytes (h .steps) (stateAt (c .run) (c .opens) t) (h .here), trace-covered n bytes)
 
 -- b, u: the next block of a cursor that stands where reading does, and the table after it
-module _ (n : ℕ) (bytes : List ℕ) (few : n ≤ 32) (c : ReadCursor) (t : List (List ℕ)) (h : StandsAt n bytes c t) (b : ReadBlock) (u : List (List ℕ)) (called : record { block = b; table = u } ≡ nextBlock n bytes c t) where
+module _ (n : ℕ) (bytes : List ℕ) (few : n ≤ optionLimit) (c : ReadCursor) (t : List (List ℕ)) (h : StandsAt n bytes c t) (b : ReadBlock) (u : List (List ℕ)) (called : record { block = b; table = u } ≡ nextBlock n bytes c t) where
   abbrev z : ReadTo
   z = readAll n bytes (c .run .covered) (c .run) (c .opens) t
 

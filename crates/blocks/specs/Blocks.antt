@@ -8,6 +8,7 @@ use native.Mathlib.Omega.{arith}
 use lib.ListN.{length, getD}
 use borrow.Author.Tests.{lt-ltb}
 use Rattle.lists.specs.Lists.{differ}
+use Rattle.reading.specs.Limits.{openLimit}
 use Rattle.reading.specs.Nodes.{Node, child}
 use Rattle.reading.specs.Element as T
 use Rattle.reading.specs.Deciding.{complemented, options, trace}
@@ -89,11 +90,11 @@ word-passed n bytes w r u h e =
 
 -- ---- The complements around a place ----------------------------------------------------------
 
--- i is how many open nodes are read: 32 of more, or all
-pub deep-past : (d i : ℕ) → i ≡ 32 → i < d → i ≡ deepOf d
-deep-past d i e h = let l : 32 < d = omega (arith, e, h) in rw (lt-ltb 32 d l) e
+-- i is how many open nodes are read: openLimit of more, or all
+pub deep-past : (d i : ℕ) → i ≡ openLimit → i < d → i ≡ deepOf d
+deep-past d i e h = let l : openLimit < d = omega (arith, e, h) in rw (lt-ltb openLimit d l) e
 
-pub deep-all : (d i : ℕ) → i ≤ d → i ≤ 32 → d ≤ i → i ≡ deepOf d
+pub deep-all : (d i : ℕ) → i ≤ d → i ≤ openLimit → d ≤ i → i ≡ deepOf d
 deep-all d i h k l = let e : i ≡ d = omega (arith, h, l) in e ∙ sym (deep-self d (omega (arith, k, l)))
 
 pub parity-none : (ns : List Open) → false ≡ parity (opensOf ns 0)

@@ -8,6 +8,7 @@ use native.Mathlib.Omega.{arith}
 use lib.Dec.{eqb, ltb}
 use lib.ListN.{length, replicate}
 use borrow.Author.Tests.{lt-ltb, le-ltb}
+use Rattle.reading.specs.Limits.{optionLimit, openLimit, tableLimit, wordLimit}
 use Rattle.reading.specs.Causes as C
 use Rattle.reading.specs.Calls as R
 use Rattle.reading.specs.Deciding.{ended}
@@ -61,34 +62,34 @@ loadOf z =
 unfoldable pub load : ℕ → List ℕ → List (List ℕ) → LoadTo
 unfolding readOn
 load n bytes t =
-    cond (ltb 32 n) (refusedLoad C.optionCount t)
-    (cond (ltb (length t) 1024) (refusedLoad C.workTable t) (loadOf (readAll n bytes 4294967296 firstRun firstOpens t)))
+    cond (ltb optionLimit n) (refusedLoad C.optionCount t)
+    (cond (ltb (length t) tableLimit) (refusedLoad C.workTable t) (loadOf (readAll n bytes wordLimit firstRun firstOpens t)))
 
 -- ---- The ways through code -------------------------------------------------------------------
 
 module _ (n : ℕ) (bytes : List ℕ) (t : List (List ℕ)) where
-  pub load-options : (x : LoadTo) → 32 < n → x ≡ refusedLoad C.optionCount t → x ≡ load n bytes t
+  pub load-options : (x : LoadTo) → optionLimit < n → x ≡ refusedLoad C.optionCount t → x ≡ load n bytes t
   unfolding load
-  load-options x h e = rw (lt-ltb 32 n h) e
+  load-options x h e = rw (lt-ltb optionLimit n h) e
 
-  pub load-table : (x : LoadTo) → n ≤ 32 → length t < 1024 → x ≡ refusedLoad C.workTable t → x ≡ load n bytes t
+  pub load-table : (x : LoadTo) → n ≤ optionLimit → length t < tableLimit → x ≡ refusedLoad C.workTable t → x ≡ load n bytes t
   unfolding load
-  load-table x few h e = rw (le-ltb 32 n few, lt-ltb (length t) 1024 h) e
+  load-table x few h e = rw (le-ltb optionLimit n few, lt-ltb (length t) tableLimit h) e
 
   -- where the stream is read
-  pub load-on : n ≤ 32 → 1024 ≤ length t → load n bytes t ≡ loadOf (readAll n bytes 4294967296 firstRun firstOpens t)
+  pub load-on : n ≤ optionLimit → tableLimit ≤ length t → load n bytes t ≡ loadOf (readAll n bytes wordLimit firstRun firstOpens t)
   unfolding load
-  load-on few room = rw (le-ltb 32 n few, le-ltb (length t) 1024 room) refl
+  load-on few room = rw (le-ltb optionLimit n few, le-ltb (length t) tableLimit room) refl
 
   -- y, u: what the loop reaches, and the table after it; b, a, w: the block, the answer and whether it is whole, as code has them
-  pub load-made : n ≤ 32 → 1024 ≤ length t → (c : Cursor) → c ≡ startCursor → (y : ReadReached) (u : List (List ℕ))
-      → record { reached = y; table = u } ≡ readFrom n bytes 4294967296 (cursorIn c (replicate 32 (replicate 4 0))) t → (b : ReadBlock) → b ≡ blockOf y
+  pub load-made : n ≤ optionLimit → tableLimit ≤ length t → (c : Cursor) → c ≡ startCursor → (y : ReadReached) (u : List (List ℕ))
+      → record { reached = y; table = u } ≡ readFrom n bytes wordLimit (cursorIn c (replicate openLimit (replicate 4 0))) t → (b : ReadBlock) → b ≡ blockOf y
       → (a : C.Result R.Checked) → a ≡ checkedBy y → (w : Bool) → w ≡ wholeBy y u
       → record { answer = a; whole = w; size = b .cursor .run .size; number = b .number; turned = b .turned; table = u } ≡ load n bytes t
   load-made few room c ce y u k b be a ae w we =
       ap (λ (b : ReadBlock). record { answer = a; whole = w; size = b .cursor .run .size; number = b .number; turned = b .turned; table = u }) be
       ∙ rw (ae, we) refl
       ∙ ap loadOf (k
-      ∙ ap (λ (c : Cursor). readFrom n bytes 4294967296 (cursorIn c (replicate 32 (replicate 4 0))) t) ce
-      ∙ read-within n bytes few 4294967296 (omega arith) firstCursor t (stands-first n bytes t room))
+      ∙ ap (λ (c : Cursor). readFrom n bytes wordLimit (cursorIn c (replicate openLimit (replicate 4 0))) t) ce
+      ∙ read-within n bytes few wordLimit (omega arith) firstCursor t (stands-first n bytes t room))
       ∙ sym (load-on few room)

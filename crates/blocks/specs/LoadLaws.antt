@@ -10,6 +10,7 @@ use lib.Dec.{eqb}
 use lib.ListN.{length}
 use borrow.Author.Tests.{eqb-true}
 use Rattle.lists.specs.Lists.{differ, decide-le}
+use Rattle.reading.specs.Limits.{optionLimit, tableLimit, wordLimit}
 use Rattle.reading.specs.Nodes.{Node, child, node, bars}
 use Rattle.reading.specs.Causes as C
 use Rattle.reading.specs.Element as T
@@ -107,21 +108,21 @@ module _ (n : ℕ) (bytes : List ℕ) (y : ReadReached) (u : List (List ℕ)) (h
 
 module _ (n : ℕ) (bytes : List ℕ) (t : List (List ℕ)) where
   abbrev z : ReadTo
-  z = readAll n bytes 4294967296 firstRun firstOpens t
+  z = readAll n bytes wordLimit firstRun firstOpens t
 
-  reads : n ≤ 32 → 1024 ≤ length t → Reads n bytes (z .reached) (z .table)
-  reads few room = all-reads n bytes (z .reached) (z .table) few (read-reaches n bytes few 4294967296 firstRun firstOpens t (stands-first n bytes t room) (omega arith))
+  reads : n ≤ optionLimit → tableLimit ≤ length t → Reads n bytes (z .reached) (z .table)
+  reads few room = all-reads n bytes (z .reached) (z .table) few (read-reaches n bytes few wordLimit firstRun firstOpens t (stands-first n bytes t room) (omega arith))
 
   -- the three ways
-  load-ways : (P : LoadTo → Type 0) → (32 < n → P (refusedLoad C.optionCount t)) → (n ≤ 32 → length t < 1024 → P (refusedLoad C.workTable t))
-      → (n ≤ 32 → 1024 ≤ length t → P (loadOf z)) → P (load n bytes t)
+  load-ways : (P : LoadTo → Type 0) → (optionLimit < n → P (refusedLoad C.optionCount t)) → (n ≤ optionLimit → length t < tableLimit → P (refusedLoad C.workTable t))
+      → (n ≤ optionLimit → tableLimit ≤ length t → P (loadOf z)) → P (load n bytes t)
   load-ways P many short on = ⊎-elim
-      (λ (few : n ≤ 32). ⊎-elim
-      (λ (room : 1024 ≤ length t). subst P (sym (load-on n bytes t few room)) (on few room))
-      (λ (h : length t < 1024). subst P (load-table n bytes t (refusedLoad C.workTable t) few h refl) (short few h))
-      (decide-le 1024 (length t)))
-      (λ (h : 32 < n). subst P (load-options n bytes t (refusedLoad C.optionCount t) h refl) (many h))
-      (decide-le n 32)
+      (λ (few : n ≤ optionLimit). ⊎-elim
+      (λ (room : tableLimit ≤ length t). subst P (sym (load-on n bytes t few room)) (on few room))
+      (λ (h : length t < tableLimit). subst P (load-table n bytes t (refusedLoad C.workTable t) few h refl) (short few h))
+      (decide-le tableLimit (length t)))
+      (λ (h : optionLimit < n). subst P (load-options n bytes t (refusedLoad C.optionCount t) h refl) (many h))
+      (decide-le n optionLimit)
 
   -- LOADING ANSWERS as checking does.
   pub load-answer : load n bytes t .answer ≡ R.check noRecord n bytes t .answer
@@ -134,13 +135,13 @@ module _ (n : ℕ) (bytes : List ℕ) (t : List (List ℕ)) where
   -- The table is as long as it was.
   pub load-length : length (load n bytes t .table) ≡ length t
   load-length = load-ways (λ (x : LoadTo). length (x .table) ≡ length t) (λ h. refl) (λ few h. refl)
-      (λ few room. read-length (suc (length bytes)) n bytes 4294967296 firstRun firstOpens 0 0 t)
+      (λ few room. read-length (suc (length bytes)) n bytes wordLimit firstRun firstOpens 0 0 t)
 
 -- x: what a call comes to, which is whole
 module _ (n : ℕ) (bytes : List ℕ) (t : List (List ℕ)) (x : LoadTo) (called : x ≡ load n bytes t) (whole : x .whole ≡ true) where
   -- what holds of what was read
   abbrev Holds : (LoadTo → Type 0) → Type 0
-  Holds P = n ≤ 32 → Reads n bytes (z n bytes t .reached) (z n bytes t .table) → Whole (z n bytes t .reached) (z n bytes t .table) → P (loadOf (z n bytes t))
+  Holds P = n ≤ optionLimit → Reads n bytes (z n bytes t .reached) (z n bytes t .table) → Whole (z n bytes t .reached) (z n bytes t .table) → P (loadOf (z n bytes t))
 
   by-whole : (P : LoadTo → Type 0) → Holds P → P x
   by-whole P k = subst P (sym called) (load-ways n bytes t (λ (x : LoadTo). x .whole ≡ true → P x)

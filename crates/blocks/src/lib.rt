@@ -21,6 +21,7 @@ use scanner::OPEN_LIMIT;
 use work_table::Edge;
 use work_table::OPTION_LIMIT;
 use work_table::TABLE_LIMIT;
+use work_table::WORD_LIMIT;
 use work_table::differs;
 use work_table::get;
 
@@ -192,7 +193,7 @@ pub fn load(n: u32, s: &[u8], t: &mut [[u32; 6]]) -> Loaded
         return not_loaded(Cause::WorkTable);
     }
     let mut o = [[0u32; 4]; OPEN_LIMIT];
-    let r = read_on(n, s, t, &mut o, first_cursor(), 4294967296);
+    let r = read_on(n, s, t, &mut o, first_cursor(), WORD_LIMIT);
     let w = is_whole(t, r);
     let b = block_of(r, &o);
     Loaded {

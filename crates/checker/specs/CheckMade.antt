@@ -7,6 +7,7 @@ use Prim.Native.Nat.{ℕ, suc, min, _<_, _≤_}
 use native.Mathlib.Omega.{arith}
 use lib.ListN.{length, replicate, drop}
 use borrow.Author.Tests.{lt-ltb, le-ltb}
+use Rattle.reading.specs.Limits.{optionLimit, tableLimit, wordLimit}
 use Rattle.reading.specs.Causes as C
 use Rattle.reading.specs.Reading.{Fault, Reading, reading}
 use Rattle.reading.specs.Calls as R
@@ -82,13 +83,13 @@ module _ (n : ℕ) (bytes : List ℕ) where
   halted-reads stop r u h e = halts-reads r u (h .stands .steps) (h .stands .here) (subst (Ends n bytes stop r u (h .stands .steps)) e (h .ends) .1)
 
   -- So has a loop whose stop no stream gets past.
-  pub all-reads : (r : ReadReached) (u : List (List ℕ)) → n ≤ 32 → ReachedBy n bytes 4294967296 r u → Reads n bytes r u
+  pub all-reads : (r : ReadReached) (u : List (List ℕ)) → n ≤ optionLimit → ReachedBy n bytes wordLimit r u → Reads n bytes r u
   all-reads r u few h = go (r .halted) refl
     where
       go : (b : Bool) → r .halted ≡ b → Reads n bytes r u
-      go true e = halted-reads 4294967296 r u h e
+      go true e = halted-reads wordLimit r u h e
       go false e =
-          let k = subst (Ends n bytes 4294967296 r u (h .stands .steps)) e (h .ends) in
+          let k = subst (Ends n bytes wordLimit r u (h .stands .steps)) e (h .ends) in
           absurd (omega (arith, k .0, at-covered n bytes (h .stands .steps) (stateAt (r .run) (r .opens) u) few (h .stands .here)))
 
   -- Without a fault of the loop the stream has none.
@@ -124,21 +125,21 @@ module _ (n : ℕ) (bytes : List ℕ) where
 -- ---- Checking --------------------------------------------------------------------------------
 
 module _ (n : ℕ) (bytes : List ℕ) (t : List (List ℕ)) where
-  pub check-options : (a : C.Result R.Checked) → 32 < n → a ≡ C.refused (C.refusal C.optionCount 0 0) → record { answer = a; table = t } ≡ R.check noRecord n bytes t
+  pub check-options : (a : C.Result R.Checked) → optionLimit < n → a ≡ C.refused (C.refusal C.optionCount 0 0) → record { answer = a; table = t } ≡ R.check noRecord n bytes t
   unfolding R.check R.checkAnswer C.gate C.tableAfter
-  check-options a h e = rw (e, lt-ltb 32 n h) refl
+  check-options a h e = rw (e, lt-ltb optionLimit n h) refl
 
-  pub check-table : (a : C.Result R.Checked) → n ≤ 32 → length t < 1024 → a ≡ C.refused (C.refusal C.workTable 0 0) → record { answer = a; table = t } ≡ R.check noRecord n bytes t
+  pub check-table : (a : C.Result R.Checked) → n ≤ optionLimit → length t < tableLimit → a ≡ C.refused (C.refusal C.workTable 0 0) → record { answer = a; table = t } ≡ R.check noRecord n bytes t
   unfolding R.check R.checkAnswer C.gate C.tableAfter
-  check-table a few h e = rw (e, le-ltb 32 n few, lt-ltb (length t) 1024 h) refl
+  check-table a few h e = rw (e, le-ltb optionLimit n few, lt-ltb (length t) tableLimit h) refl
 
-  check-answer : (r : ReadReached) (u : List (List ℕ)) → n ≤ 32 → 1024 ≤ length t → Reads n bytes r u → R.checkAnswer n bytes (length t) ≡ checkedBy r
+  check-answer : (r : ReadReached) (u : List (List ℕ)) → n ≤ optionLimit → tableLimit ≤ length t → Reads n bytes r u → R.checkAnswer n bytes (length t) ≡ checkedBy r
   unfolding R.checkAnswer C.gate
   check-answer r u few room h =
-      rw (le-ltb 32 n few, le-ltb (length t) 1024 room)
+      rw (le-ltb optionLimit n few, le-ltb (length t) tableLimit room)
       (unless-read n bytes r u h (record { size = r .run .size; covered = r .run .covered; extent = R.extent (markOf (r .run .mark)) }) (λ (x : Reading). R.checkedOf (x .state)) refl)
 
-  pub check-made : (a : C.Result R.Checked) (z : List (List ℕ)) (r : ReadReached) (u : List (List ℕ)) → n ≤ 32 → 1024 ≤ length t → Reads n bytes r u → a ≡ checkedBy r → z ≡ C.cleared noRecord t
+  pub check-made : (a : C.Result R.Checked) (z : List (List ℕ)) (r : ReadReached) (u : List (List ℕ)) → n ≤ optionLimit → tableLimit ≤ length t → Reads n bytes r u → a ≡ checkedBy r → z ≡ C.cleared noRecord t
       → record { answer = a; table = z } ≡ R.check noRecord n bytes t
   unfolding R.check
   check-made a z r u few room h e k =

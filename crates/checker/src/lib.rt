@@ -17,6 +17,7 @@ use scanner::Mark;
 use scanner::OPEN_LIMIT;
 use work_table::OPTION_LIMIT;
 use work_table::TABLE_LIMIT;
+use work_table::WORD_LIMIT;
 use work_table::clear;
 
 // Why a call is turned down: the cause, the stream (0: none) and the byte.
@@ -102,7 +103,7 @@ pub fn check(n: u32, s: &[u8], t: &mut [[u32; 6]]) -> Checking
         return Checking::Refused(early(Cause::WorkTable));
     }
     let mut o = [[0u32; 4]; OPEN_LIMIT];
-    let r = read_on(n, s, t, &mut o, first_cursor(), 4294967296);
+    let r = read_on(n, s, t, &mut o, first_cursor(), WORD_LIMIT);
     let z = t.len();
     clear(t, z);
     checked_at(r)

@@ -7,6 +7,8 @@ use native.Mathlib.Nat.{pow-suc}
 use native.Mathlib.Omega.{arith}
 use lib.ListN.{length, drop, getD}
 use Rattle.lists.specs.Lists.{All}
+use Rattle.reading.specs.Limits.{truthTableLeast}
+use Rattle.reading.specs.LimitLaws.{truth-bytes}
 use Rattle.reading.specs.Causes.{Result, refused, done, tableAfter, unlessRefused}
 use Rattle.reading.specs.Deciding.{decision, trace}
 use Rattle.reading.specs.Calls.{check, checkAnswer, decide, decideAnswer, digitOf, verdictOf, bytesFrom, fill, fillAnswer}
@@ -118,7 +120,7 @@ module _ {R : Type 0} (z : R) (n : ℕ) (x old : List ℕ) (t : List R) where
   filled c e =
       let b = fill-by n x old (length t) .unless c .0 e in
       let p = truths-after c e in
-      let l : 3 ≤ n = not-above 3 n (λ h. b .0 .0 (inl h)) in (
+      let l : 3 ≤ n = omega (arith, truth-bytes, not-above truthTableLeast n (λ h. b .0 .0 (inl h))) in (
         b .1,
         subst⁻¹ (All (λ b. b < 256)) p (filled-bytes (2 ^ n / 8) n (trace n x) 0),
         λ w h. ap (λ (s : List ℕ). getD s (w / 8) 0 / 2 ^ (w % 8) % 2) p ∙ filled-word (2 ^ n / 8) n x w h (byte-inside n w l h),

@@ -10,6 +10,7 @@ use lib.Dec.{ltb, eqb}
 use lib.ListN.{length, getD, drop, set, replicate, getElem?}
 use borrow.Author.Tests.{eq-eqb, ne-eqb, lt-ltb, le-ltb}
 use Rattle.reading.specs.Limits.{optionLimit, openLimit, tableLimit}
+use Rattle.reading.specs.LimitLaws.{open-options}
 use Rattle.reading.specs.Bytes.{opener, closer, tilde, colon, dot, blank, lineFeed, isDigit}
 use Rattle.reading.specs.Nodes.{Ref, terminal, entry, temporary, isKept, child, Node, newNode, noNode, node, stamp, bars}
 use Rattle.reading.specs.Causes.{notStorable}
@@ -118,11 +119,11 @@ module _ (n a : ℕ) (z : State) (d : Drawing) (bytes : List ℕ) where
   pub open-step : (m : Mark) (u : List Open) (bs : List ℕ) → Starts m u → n ≤ optionLimit → length u < n → drop a bytes ≡ opener ∷ bs
       → nextTrace n bytes (standing a m u z d) ≡ standing (a + 1) begins (inFirst ∷ aroundOf m (z .place .last) u) z d
   unfolding isDigit
-  open-step lead u bs atLead h l e = next-at n bytes (here a lead u z) d opener bs e refl ∙ open-node (here a lead u z) u (lt-ltb (length u) optionLimit (omega arith)) (le-ltb n (length u + 1) (omega arith))
-  open-step begins u bs atBegins h l e = next-at n bytes (here a begins u z) d opener bs e refl ∙ open-node (here a begins u z) u (lt-ltb (length u) optionLimit (omega arith)) (le-ltb n (length u + 1) (omega arith))
-  open-step afterDigit (inFirst ∷ o) bs onDigit h l e = next-at n bytes (here a afterDigit (inFirst ∷ o) z) d opener bs e refl ∙ open-node (here a afterDigit (inFirst ∷ o) z) (second (z .place .last) (inFirst ∷ o)) (lt-ltb (suc (length o)) optionLimit (omega arith)) (le-ltb n (suc (length o) + 1) (omega arith))
-  open-step afterTwo (inFirst ∷ o) bs onTwo h l e = next-at n bytes (here a afterTwo (inFirst ∷ o) z) d opener bs e refl ∙ open-node (here a afterTwo (inFirst ∷ o) z) (second (z .place .last) (inFirst ∷ o)) (lt-ltb (suc (length o)) optionLimit (omega arith)) (le-ltb n (suc (length o) + 1) (omega arith))
-  open-step afterOne (inFirst ∷ o) bs onOne h l e = next-at n bytes (here a afterOne (inFirst ∷ o) z) d opener bs e refl ∙ open-node (here a afterOne (inFirst ∷ o) z) (second (z .place .last) (inFirst ∷ o)) (lt-ltb (suc (length o)) optionLimit (omega arith)) (le-ltb n (suc (length o) + 1) (omega arith))
+  open-step lead u bs atLead h l e = next-at n bytes (here a lead u z) d opener bs e refl ∙ open-node (here a lead u z) u (lt-ltb (length u) openLimit (omega (arith, open-options))) (le-ltb n (length u + 1) (omega arith))
+  open-step begins u bs atBegins h l e = next-at n bytes (here a begins u z) d opener bs e refl ∙ open-node (here a begins u z) u (lt-ltb (length u) openLimit (omega (arith, open-options))) (le-ltb n (length u + 1) (omega arith))
+  open-step afterDigit (inFirst ∷ o) bs onDigit h l e = next-at n bytes (here a afterDigit (inFirst ∷ o) z) d opener bs e refl ∙ open-node (here a afterDigit (inFirst ∷ o) z) (second (z .place .last) (inFirst ∷ o)) (lt-ltb (suc (length o)) openLimit (omega (arith, open-options))) (le-ltb n (suc (length o) + 1) (omega arith))
+  open-step afterTwo (inFirst ∷ o) bs onTwo h l e = next-at n bytes (here a afterTwo (inFirst ∷ o) z) d opener bs e refl ∙ open-node (here a afterTwo (inFirst ∷ o) z) (second (z .place .last) (inFirst ∷ o)) (lt-ltb (suc (length o)) openLimit (omega (arith, open-options))) (le-ltb n (suc (length o) + 1) (omega arith))
+  open-step afterOne (inFirst ∷ o) bs onOne h l e = next-at n bytes (here a afterOne (inFirst ∷ o) z) d opener bs e refl ∙ open-node (here a afterOne (inFirst ∷ o) z) (second (z .place .last) (inFirst ∷ o)) (lt-ltb (suc (length o)) openLimit (omega (arith, open-options))) (le-ltb n (suc (length o) + 1) (omega arith))
 
   -- `~`
   pub turn-step : (m : Mark) (o : List Open) (bs : List ℕ) → Ends m → drop a bytes ≡ tilde ∷ bs → nextTrace n bytes (standing a m (inFirst ∷ o) z d) ≡ standing (a + 1) begins (inSecond (z .place .last) true ∷ o) z d

@@ -13,6 +13,7 @@ use lib.ListN.{length, take}
 use borrow.Author.Tests.{ltb-false, eqb-true}
 use Rattle.lists.specs.Prefixes.{Begins}
 use Rattle.reading.specs.Limits.{optionLimit, tableLimit, truthTableMost}
+use Rattle.reading.specs.LimitLaws.{truth-options}
 use Rattle.reading.specs.Causes.{Result, done, unlessRefused}
 use Rattle.reading.specs.Reading.{reading}
 use Rattle.reading.specs.Deciding.{Decision, decided, decision}
@@ -226,7 +227,7 @@ wrote z n size truths out t r e =
     }
   where
     small : (n : ℕ) → (notThreeToSixteen n → ⊥) → n ≤ optionLimit
-    small n h = let m = not-above n truthTableMost (λ k. h (inr k)) in omega (arith, m)
+    small n h = let m = not-above n truthTableMost (λ k. h (inr k)) in omega (arith, m, truth-options)
 
 module _ (n size : ℕ) (truths out : List ℕ) (r : Answer) (t : List ℕ) (h : Wrote n size truths out r t) where
   pub wrote-gets : Gets n (2 ^ n) (runText n size (2 ^ n) (truthAt truths)) out r t

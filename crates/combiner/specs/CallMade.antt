@@ -6,9 +6,11 @@ use Prim.Native.Nat.{ℕ, _≤_, _^_}
 use lib.Dec.{eqb}
 use lib.ListN.{length, replicate, length-replicate}
 use Rattle.lists.specs.Lists.{differ}
+use Rattle.reading.specs.Limits.{optionLimit, openLimit, tableLimit}
 use Rattle.reading.specs.Causes.{done}
 use Rattle.writing.specs.Run.{whole, inputEnded, outputFull, Answer}
 use Rattle.writing.specs.Calls.{combine}
+use Rattle.engine.specs.Pending.{waitingLimit}
 use Rattle.engine.specs.Engine.{Sent}
 use Rattle.engine.specs.Taping as T
 use Rattle.engine.specs.Memo.{slotOf, cacheRows}
@@ -55,7 +57,7 @@ module _ (v : Bool) (s : List ℕ) (b : ReadBlock) (x : LoadTo) (begun : T.Feed 
 
 -- cells for the open nodes, all zero
 abbrev pub noOpens : List (List ℕ)
-noOpens = replicate 32 (replicate 4 0)
+noOpens = replicate openLimit (replicate 4 0)
 
 -- an input as code has it enters; l: what loading came to, u: the table then, v: as code tests whether it is asked
 enters : (n : ℕ) (s : List ℕ) (l : Loaded) (u : List (List ℕ)) (v w : Bool) → v ≡ w → (φ : T.Feed Tape)
@@ -65,15 +67,15 @@ enters n s l u v w e φ h =
     h ∙ ap₂ (λ (v : Bool) (f : T.Feed Tape). entered v s (blockIn (l .block) noOpens) (loadIn l u) f) e (begun-zero n s u)
 
 -- past the tests; a and b: what loading came to, u₁ and u₂: the tables then
-module _ (n op size : ℕ) (x y out : List ℕ) (t₁ t₂ t : List (List ℕ)) (few : n ≤ 32) (code : op ≤ 15) (fits : size ≤ 1024)
-    (room₁ : 1024 ≤ length t₁) (room₂ : 1024 ≤ length t₂) (room : 1024 ≤ length t) (a b : Loaded) (u₁ u₂ : List (List ℕ))
+module _ (n op size : ℕ) (x y out : List ℕ) (t₁ t₂ t : List (List ℕ)) (few : n ≤ optionLimit) (code : op ≤ 15) (fits : size ≤ tableLimit)
+    (room₁ : tableLimit ≤ length t₁) (room₂ : tableLimit ≤ length t₂) (room : tableLimit ≤ length t) (a b : Loaded) (u₁ u₂ : List (List ℕ))
     (h₁ : loadIn a u₁ ≡ load n x t₁) (h₂ : loadIn b u₂ ≡ load n y t₂) where
   -- i₁, i₂: as code tests what the operator does not ask; φ, ψ: the inputs where they enter; s: what the run sends, r: its answer
   pub ran : (c : ℕ) → done c ≡ bothIn (checkingOf (a .checking)) (checkingOf (b .checking)) → (i₁ i₂ : Bool) → i₁ ≡ ignoresFirst op
       → i₂ ≡ ignoresSecond op → (φ ψ : T.Feed Tape) → φ ≡ entered i₁ x (blockIn (a .block) noOpens) (loadIn a u₁) (begunFrom n x noOpens u₁)
       → ψ ≡ entered i₂ y (blockIn (b .block) noOpens) (loadIn b u₂) (begunFrom n y noOpens u₂) → (t₀ : List (List ℕ))
       → t₀ ≡ replicate (length t) (replicate 12 0) → (s : Sent)
-      → s ≡ streamBy (record { n = n; op = op; size = size; covered = c }) (φ ∷ ψ ∷ []) (emptyRows cacheRows 9) t₀ out (replicate 2400 0)
+      → s ≡ streamBy (record { n = n; op = op; size = size; covered = c }) (φ ∷ ψ ∷ []) (emptyRows cacheRows 9) t₀ out (replicate waitingLimit 0)
       → (r : Answer)
       → r ≡ record { written = s .written; covered = c; ending = cond (s .full) outputFull (cond (eqb c (2 ^ n)) whole inputEnded) }
       → (v₁ v₂ v : List (List ℕ)) → v₁ ≡ replicate (length t₁) (replicate 6 0) → v₂ ≡ replicate (length t₂) (replicate 6 0)
@@ -81,8 +83,8 @@ module _ (n op size : ℕ) (x y out : List ℕ) (t₁ t₂ t : List (List ℕ)) 
       → record { answer = done r; first = v₁; second = v₂; third = v; output = s .output }
       ≡ combine (replicate 6 0) (replicate 12 0) n op size x y out t₁ t₂ t
   ran c clean i₁ i₂ ie₁ ie₂ φ ψ φe ψe t₀ zero s sent =
-      let w : List ℕ = replicate 2400 0 in
+      let w : List ℕ = replicate waitingLimit 0 in
       entered-made n op size x y out t₁ t₂ t few code fits room₁ room₂ room (loadIn a u₁) (loadIn b u₂) h₁ h₂ slotOf cacheRows 9 c clean w
-      (length-replicate {A = ℕ} 2400 0) (blockIn (a .block) noOpens) (blockIn (b .block) noOpens) refl refl φ ψ
+      (length-replicate {A = ℕ} waitingLimit 0) (blockIn (a .block) noOpens) (blockIn (b .block) noOpens) refl refl φ ψ
       (enters n x a u₁ i₁ (ignoresFirst op) ie₁ φ φe) (enters n y b u₂ i₂ (ignoresSecond op) ie₂ ψ ψe) (emptyRows cacheRows 9) t₀ refl zero s
       (sent ∙ stream-within (record { n = n; op = op; size = size; covered = c }) (φ ∷ ψ ∷ []) (emptyRows cacheRows 9) t₀ out w few)

@@ -4,6 +4,7 @@ ghost use mathlib.Core.Bool.{cond};
 ghost use lib.Dec.{eqb};
 ghost use lib.ListN.{length, replicate};
 ghost use Prim.Native.Nat.{min, _≤_, _^_};
+ghost use Rattle.reading.specs.Limits.{optionLimit};
 ghost use Rattle.reading.specs.Causes.{refusal, refused, done};
 ghost use Rattle.scanner.specs.Cite.{causeOf};
 ghost use Rattle.checker.specs.Answers.{refusalOf, checkingOf};
@@ -28,6 +29,7 @@ use feeds::begin;
 use meeting::Writing;
 use meeting::Written;
 use meeting::ending_of;
+use operation_cache::CACHE_ROWS;
 use pending_text::Sent;
 use pending_text::WAITING_LIMIT;
 use scanner::Cause;
@@ -41,7 +43,7 @@ use work_table::clear as clear_table;
 use work_table::differs;
 
 fn answer(n: u32, covered: u64, x: Sent) -> Written
-    requires { ⌜ n ≤ 32 ⌝ }
+    requires { ⌜ n ≤ optionLimit ⌝ }
     ensures { λ r. ⌜ writtenOf r ≡ record { written = x .written; covered = covered; ending = cond (x .full) outputFull (cond (eqb covered (2 ^ n)) whole inputEnded) } ⌝ }
 {
     Written {
@@ -244,7 +246,7 @@ pub fn combine(
     let f = enter(n, x, t1, &mut o1, a, ignores_first(op));
     let g = enter(n, y, t2, &mut o2, b, ignores_second(op));
     let mut w = [0u8; WAITING_LIMIT];
-    let mut m = [[0u32; 9]; 2048];
+    let mut m = [[0u32; 9]; CACHE_ROWS];
     let r = stream(
         k,
         x,

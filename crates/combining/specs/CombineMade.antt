@@ -9,6 +9,7 @@ use native.Mathlib.Omega.{arith}
 use lib.Dec.{eqb}
 use lib.ListN.{length, replicate}
 use borrow.Author.Tests.{lt-ltb, le-ltb, lt-leb, le-leb}
+use Rattle.reading.specs.Limits.{optionLimit, tableLimit}
 use Rattle.reading.specs.Causes.{optionCount, operatorCode, sizeToWrite, workTable, keepsOutput, causeRow}
 use Rattle.reading.specs.Causes.{Result, refused, done, Refusal, refusal, gate, tableAfter, unlessRefused}
 use Rattle.reading.specs.Reading.{Fault, reading}
@@ -90,12 +91,12 @@ fault-late n k x a h = go (reading n x .fault) refl
     go (some f) e = fault-leaves n x f e
 
 -- the check of a stream, past its tests
-module _ (n : ℕ) (x : List ℕ) (t u : List (List ℕ)) (A : Result Checked) (few : n ≤ 32) (room : 1024 ≤ length t)
+module _ (n : ℕ) (x : List ℕ) (t u : List (List ℕ)) (A : Result Checked) (few : n ≤ optionLimit) (room : tableLimit ≤ length t)
     (h : record { answer = A; table = u } ≡ check (replicate 6 0) n x t) where
   -- its fault, else what was read
   check-past : checkAnswer n x (length t) ≡ unlessFault 1 (reading n x .fault) (done (checkedOf (reading n x .state)))
   unfolding checkAnswer gate
-  check-past = rw (le-ltb 32 n few, le-ltb (length t) 1024 room) refl
+  check-past = rw (le-ltb optionLimit n few, le-ltb (length t) tableLimit room) refl
 
   -- so it was answered
   check-is : A ≡ unlessFault 1 (reading n x .fault) (done (checkedOf (reading n x .state)))
@@ -129,61 +130,61 @@ sent-answer n c y out s w =
 
 module _ (n op size : ℕ) (x y out : List ℕ) (t₁ t₂ t : List (List ℕ)) where
   -- too many options
-  pub combine-options : 32 < n
+  pub combine-options : optionLimit < n
       → record { answer = refused (refusal optionCount 0 0); first = t₁; second = t₂; third = t; output = out }
       ≡ combine (replicate 6 0) (replicate 12 0) n op size x y out t₁ t₂ t
   unfolding combine combineAnswer gate tableAfter unlessRefused
-  combine-options h = rw (lt-ltb 32 n h) refl
+  combine-options h = rw (lt-ltb optionLimit n h) refl
 
   -- no such operator
-  pub combine-operator : n ≤ 32 → 15 < op
+  pub combine-operator : n ≤ optionLimit → 15 < op
       → record { answer = refused (refusal operatorCode 0 0); first = t₁; second = t₂; third = t; output = out }
       ≡ combine (replicate 6 0) (replicate 12 0) n op size x y out t₁ t₂ t
   unfolding combine combineAnswer gate tableAfter unlessRefused
-  combine-operator few h = rw (le-ltb 32 n few, le-leb 16 op h) refl
+  combine-operator few h = rw (le-ltb optionLimit n few, le-leb 16 op h) refl
 
   -- the size is too large
-  pub combine-size : n ≤ 32 → op ≤ 15 → 1024 < size
+  pub combine-size : n ≤ optionLimit → op ≤ 15 → tableLimit < size
       → record { answer = refused (refusal sizeToWrite 0 0); first = t₁; second = t₂; third = t; output = out }
       ≡ combine (replicate 6 0) (replicate 12 0) n op size x y out t₁ t₂ t
   unfolding combine combineAnswer gate tableAfter unlessRefused
-  combine-size few code h = rw (le-ltb 32 n few, lt-leb 16 op (omega (arith, code)), lt-ltb 1024 size h) refl
+  combine-size few code h = rw (le-ltb optionLimit n few, lt-leb 16 op (omega (arith, code)), lt-ltb tableLimit size h) refl
 
   -- the first work table is too short
-  pub combine-first : n ≤ 32 → op ≤ 15 → size ≤ 1024 → length t₁ < 1024
+  pub combine-first : n ≤ optionLimit → op ≤ 15 → size ≤ tableLimit → length t₁ < tableLimit
       → record { answer = refused (refusal workTable 0 0); first = t₁; second = t₂; third = t; output = out }
       ≡ combine (replicate 6 0) (replicate 12 0) n op size x y out t₁ t₂ t
   unfolding combine combineAnswer gate tableAfter unlessRefused
   combine-first few code fits h =
-      rw (le-ltb 32 n few, lt-leb 16 op (omega (arith, code)), le-ltb 1024 size fits, lt-ltb (length t₁) 1024 h) refl
+      rw (le-ltb optionLimit n few, lt-leb 16 op (omega (arith, code)), le-ltb tableLimit size fits, lt-ltb (length t₁) tableLimit h) refl
 
   -- the second
-  pub combine-second : n ≤ 32 → op ≤ 15 → size ≤ 1024 → 1024 ≤ length t₁ → length t₂ < 1024
+  pub combine-second : n ≤ optionLimit → op ≤ 15 → size ≤ tableLimit → tableLimit ≤ length t₁ → length t₂ < tableLimit
       → record { answer = refused (refusal workTable 0 0); first = t₁; second = t₂; third = t; output = out }
       ≡ combine (replicate 6 0) (replicate 12 0) n op size x y out t₁ t₂ t
   unfolding combine combineAnswer gate tableAfter unlessRefused
   combine-second few code fits room₁ h =
       rw (
-        le-ltb 32 n few,
+        le-ltb optionLimit n few,
         lt-leb 16 op (omega (arith, code)),
-        le-ltb 1024 size fits,
-        le-ltb (length t₁) 1024 room₁,
-        lt-ltb (length t₂) 1024 h,
+        le-ltb tableLimit size fits,
+        le-ltb (length t₁) tableLimit room₁,
+        lt-ltb (length t₂) tableLimit h,
       ) refl
 
   -- the third
-  pub combine-third : n ≤ 32 → op ≤ 15 → size ≤ 1024 → 1024 ≤ length t₁ → 1024 ≤ length t₂ → length t < 1024
+  pub combine-third : n ≤ optionLimit → op ≤ 15 → size ≤ tableLimit → tableLimit ≤ length t₁ → tableLimit ≤ length t₂ → length t < tableLimit
       → record { answer = refused (refusal workTable 0 0); first = t₁; second = t₂; third = t; output = out }
       ≡ combine (replicate 6 0) (replicate 12 0) n op size x y out t₁ t₂ t
   unfolding combine combineAnswer gate tableAfter unlessRefused
   combine-third few code fits room₁ room₂ h =
       rw (
-        le-ltb 32 n few,
+        le-ltb optionLimit n few,
         lt-leb 16 op (omega (arith, code)),
-        le-ltb 1024 size fits,
-        le-ltb (length t₁) 1024 room₁,
-        le-ltb (length t₂) 1024 room₂,
-        lt-ltb (length t) 1024 h,
+        le-ltb tableLimit size fits,
+        le-ltb (length t₁) tableLimit room₁,
+        le-ltb (length t₂) tableLimit room₂,
+        lt-ltb (length t) tableLimit h,
       ) refl
 
   -- ---- Past the tests ------------------------------------------------------------------------
@@ -192,20 +193,20 @@ module _ (n op size : ℕ) (x y out : List ℕ) (t₁ t₂ t : List (List ℕ)) 
   abbrev answer : Answer
   answer = answerOf n (runCovered n (inputOf n x ∷ inputOf n y ∷ [])) (combineText n op size (x ∷ y ∷ [])) out
 
-  module _ (few : n ≤ 32) (code : op ≤ 15) (fits : size ≤ 1024) (room₁ : 1024 ≤ length t₁) (room₂ : 1024 ≤ length t₂)
-      (room : 1024 ≤ length t) where
+  module _ (few : n ≤ optionLimit) (code : op ≤ 15) (fits : size ≤ tableLimit) (room₁ : tableLimit ≤ length t₁) (room₂ : tableLimit ≤ length t₂)
+      (room : tableLimit ≤ length t) where
     -- a fault, else that
     combine-past : combineAnswer n op size (x ∷ y ∷ []) out (length t₁ ∷ length t₂ ∷ length t ∷ [])
         ≡ unlessFault 1 (reading n x .fault) (unlessFault 2 (reading n y .fault) (done answer))
     unfolding combineAnswer gate unlessFaults
     combine-past =
         rw (
-          le-ltb 32 n few,
+          le-ltb optionLimit n few,
           lt-leb 16 op (omega (arith, code)),
-          le-ltb 1024 size fits,
-          le-ltb (length t₁) 1024 room₁,
-          le-ltb (length t₂) 1024 room₂,
-          le-ltb (length t) 1024 room,
+          le-ltb tableLimit size fits,
+          le-ltb (length t₁) tableLimit room₁,
+          le-ltb (length t₂) tableLimit room₂,
+          le-ltb (length t) tableLimit room,
         ) refl
 
     module _ (A B : Result Checked) (u₁ u₂ : List (List ℕ))

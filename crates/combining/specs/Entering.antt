@@ -9,6 +9,7 @@ use native.Mathlib.Omega.{arith}
 use lib.Dec.{eqb}
 use lib.ListN.{length, replicate, length-replicate}
 use Rattle.lists.specs.Lists.{differ, and-l, and-r}
+use Rattle.reading.specs.Limits.{optionLimit, tableLimit}
 use Rattle.reading.specs.Causes.{Refusal, Result, refused, done}
 use Rattle.reading.specs.Reading.{reading}
 use Rattle.reading.specs.Deciding.{complemented, options}
@@ -18,6 +19,7 @@ use Rattle.reading.specs.Calls.{Checked, check}
 use Rattle.writing.specs.Run.{Input, runCovered, operate, joint, runText, runOf, whole, inputEnded, outputFull, Answer}
 use Rattle.writing.specs.Grows.{run-stable}
 use Rattle.writing.specs.Calls.{inputOf, combineText, combine}
+use Rattle.engine.specs.Pending.{waitingLimit}
 use Rattle.engine.specs.Cells.{zero-wide, zero-cell}
 use Rattle.engine.specs.Engine.{Sent}
 use Rattle.engine.specs.Taping.{Feed}
@@ -89,10 +91,10 @@ enters-covered true false x = refl
 enters-covered false v x = refl
 
 -- b: a block whose run has the size that was read; c: how many words are asked for
-module _ (n : ℕ) (few : n ≤ 32) (c : ℕ) (some : 0 < c) (s : List ℕ) (t : List (List ℕ)) (room : 1024 ≤ length t) (x : LoadTo)
+module _ (n : ℕ) (few : n ≤ optionLimit) (c : ℕ) (some : 0 < c) (s : List ℕ) (t : List (List ℕ)) (room : tableLimit ≤ length t) (x : LoadTo)
     (called : x ≡ load n s t) (clean : reading n s .fault ≡ none) (enough : c ≤ inputOf n s .covered) (b : ReadBlock)
     (size : b .cursor .run .size ≡ x .size) (v : Bool) where
-  long : 1024 ≤ length (x .table)
+  long : tableLimit ≤ length (x .table)
   long = omega (arith, room, ap (λ (x : LoadTo). length (x .table)) called, load-length n s t)
 
   blind-fed : x .whole ≡ true → Fed deepOf sourceOf (nextTape n) n (Reads n c) 1 n 0 (blindFeed s b x) (blind (inputOf n s))
@@ -164,8 +166,8 @@ module _ (op : ℕ) (u₁ u₂ : Bool) (x y : Input) where
 -- ---- The call --------------------------------------------------------------------------------
 
 -- past the tests and the reading of both streams; X and Y: what loading them came to
-module _ (n op size : ℕ) (x y out : List ℕ) (t₁ t₂ t : List (List ℕ)) (few : n ≤ 32) (code : op ≤ 15) (fits : size ≤ 1024)
-    (room₁ : 1024 ≤ length t₁) (room₂ : 1024 ≤ length t₂) (room : 1024 ≤ length t) (X Y : LoadTo) (loaded₁ : X ≡ load n x t₁)
+module _ (n op size : ℕ) (x y out : List ℕ) (t₁ t₂ t : List (List ℕ)) (few : n ≤ optionLimit) (code : op ≤ 15) (fits : size ≤ tableLimit)
+    (room₁ : tableLimit ≤ length t₁) (room₂ : tableLimit ≤ length t₂) (room : tableLimit ≤ length t) (X Y : LoadTo) (loaded₁ : X ≡ load n x t₁)
     (loaded₂ : Y ≡ load n y t₂) where
   -- as checking them has it
   checked : (s : List ℕ) (t : List (List ℕ)) (Z : LoadTo) → Z ≡ load n s t
@@ -193,7 +195,7 @@ module _ (n op size : ℕ) (x y out : List ℕ) (t₁ t₂ t : List (List ℕ)) 
 
   -- b₁, b₂: blocks whose runs have the sizes that were read; the table for writing has k records, the cache g rows of j cells, all zero;
   -- w: where bytes wait
-  entered-wrote : (hash : List ℕ → ℕ) (k g j c : ℕ) (w : List ℕ) → 1024 ≤ k → length w ≡ 2400 → done c ≡ bothIn (X .answer) (Y .answer)
+  entered-wrote : (hash : List ℕ → ℕ) (k g j c : ℕ) (w : List ℕ) → tableLimit ≤ k → length w ≡ waitingLimit → done c ≡ bothIn (X .answer) (Y .answer)
       → (b₁ b₂ : ReadBlock) → b₁ .cursor .run .size ≡ X .size → b₂ .cursor .run .size ≡ Y .size
       → Wrote out (combineText n op size (x ∷ y ∷ [])) (mergeIn deepOf sourceOf (nextTape n) hash (operate op) n c size
       (entered (ignoresFirst op) x b₁ X (begunFeed n x (X .table)) ∷ entered (ignoresSecond op) y b₂ Y (begunFeed n y (Y .table)) ∷ [])
@@ -227,7 +229,7 @@ module _ (n op size : ℕ) (x y out : List ℕ) (t₁ t₂ t : List (List ℕ)) 
       )))
 
   -- THE RUN AND ITS ANSWER; φ, ψ: the inputs where they enter, μ: the cache
-  pub entered-made : (hash : List ℕ → ℕ) (g j c : ℕ) → done c ≡ bothIn (X .answer) (Y .answer) → (w : List ℕ) → length w ≡ 2400
+  pub entered-made : (hash : List ℕ → ℕ) (g j c : ℕ) → done c ≡ bothIn (X .answer) (Y .answer) → (w : List ℕ) → length w ≡ waitingLimit
       → (b₁ b₂ : ReadBlock) → b₁ .cursor .run .size ≡ X .size → b₂ .cursor .run .size ≡ Y .size → (φ ψ : Feed Tape)
       → φ ≡ entered (ignoresFirst op) x b₁ X (begunFeed n x (X .table)) → ψ ≡ entered (ignoresSecond op) y b₂ Y (begunFeed n y (Y .table))
       → (μ t₀ : List (List ℕ)) → μ ≡ emptyRows g j → t₀ ≡ replicate (length t) (replicate 12 0) → (s : Sent)

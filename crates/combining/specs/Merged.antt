@@ -9,6 +9,7 @@ use native.Mathlib.Omega.{arith}
 use lib.ListN.{length, getD, replicate, length-replicate, getD-replicate, List·getD-eq-default}
 use Rattle.lists.specs.Lists.{decide-le}
 use Rattle.lists.specs.Maps.{getD-replicate-same}
+use Rattle.reading.specs.Limits.{optionLimit, tableLimit}
 use Rattle.reading.specs.Reading.{reading}
 use Rattle.writing.specs.Run.{Input, runCovered}
 use Rattle.writing.specs.Calls.{inputOf}
@@ -38,8 +39,8 @@ unfolding runCovered
 covered-both n c x y e = (omega (arith, e), omega (arith, e))
 
 -- an input that is read from its beginning is fed at the outermost node
-pub begun-fed : (n : ℕ) → n ≤ 32 → (c : ℕ) → 0 < c → (s : List ℕ) (t : List (List ℕ)) → reading n s .fault ≡ none
-    → c ≤ inputOf n s .covered → 1024 ≤ length t
+pub begun-fed : (n : ℕ) → n ≤ optionLimit → (c : ℕ) → 0 < c → (s : List ℕ) (t : List (List ℕ)) → reading n s .fault ≡ none
+    → c ≤ inputOf n s .covered → tableLimit ≤ length t
     → Fed deepOf sourceOf (nextTape n) n (Reads n c) 1 n 0 (begunFeed n s t) (inputOf n s)
 begun-fed n few c some s t clean enough room =
     let none : Source = record { table = []; number = 0; turned = false } in
@@ -48,8 +49,8 @@ begun-fed n few c some s t clean enough room =
     (reads-first n few c s t clean enough some room) (omega arith)
 
 -- an input that is read from its beginning sits at the outermost node, if it is at an edge
-pub begun-seated : (n : ℕ) → n ≤ 32 → (c : ℕ) → 0 < c → (s : List ℕ) (t : List (List ℕ)) → reading n s .fault ≡ none
-    → c ≤ inputOf n s .covered → 1024 ≤ length t → Seated deepOf sourceOf (nextTape n) 1 (begunFeed n s t)
+pub begun-seated : (n : ℕ) → n ≤ optionLimit → (c : ℕ) → 0 < c → (s : List ℕ) (t : List (List ℕ)) → reading n s .fault ≡ none
+    → c ≤ inputOf n s .covered → tableLimit ≤ length t → Seated deepOf sourceOf (nextTape n) 1 (begunFeed n s t)
 begun-seated n few c some s t clean enough room =
     let none : Source = record { table = []; number = 0; turned = false } in
     settle-seated deepOf sourceOf (nextTape n) n c (Reads n c) (reads-deep n few c) (reads-aligned n few c) (reads-shows n few c)

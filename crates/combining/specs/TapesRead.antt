@@ -7,6 +7,7 @@ use mathlib.Core.Option.{none}
 use Prim.Native.Nat.{ℕ, _+_, _-_, _*_, _<_, _≤_, _^_}
 use native.Mathlib.Omega.{arith}
 use lib.ListN.{length}
+use Rattle.reading.specs.Limits.{optionLimit, tableLimit}
 use Rattle.reading.specs.Reading.{isStart, reading}
 use Rattle.reading.specs.Deciding.{Decision, decided, options, decision}
 use Rattle.reading.specs.Covered.{covered-decided, covered-most}
@@ -60,7 +61,7 @@ input-decides n bytes w h =
 
 -- ---- The block -------------------------------------------------------------------------------
 
-module _ (n : ℕ) (few : n ≤ 32) (bytes : List ℕ) (τ : Tape) (at : ℕ) (h : ReadsOf n bytes τ at) where
+module _ (n : ℕ) (few : n ≤ optionLimit) (bytes : List ℕ) (τ : Tape) (at : ℕ) (h : ReadsOf n bytes τ at) where
   -- the block begins with word `at`
   of-from : τ .block .from ≡ at
   of-from = block-from n bytes few (h .cursor) (h .lent) (h .stands) (τ .block) (τ .table) (h .called) (h .goes-on) ∙ h .begins
@@ -109,7 +110,7 @@ module _ (n : ℕ) (few : n ≤ 32) (bytes : List ℕ) (τ : Tape) (at : ℕ) (h
 -- ---- The next block --------------------------------------------------------------------------
 
 -- its table lasts till the next block, if there is one
-of-lasts : (n : ℕ) → n ≤ 32 → (bytes : List ℕ) (τ : Tape) (at : ℕ) → ReadsOf n bytes τ at
+of-lasts : (n : ℕ) → n ≤ optionLimit → (bytes : List ℕ) (τ : Tape) (at : ℕ) → ReadsOf n bytes τ at
     → nextBlock n bytes (τ .block .cursor) (τ .table) .block .halted ≡ false
     → Lasts (sourceOf τ .table) (sourceOf (tapeAt bytes (nextBlock n bytes (τ .block .cursor) (τ .table))) .table)
 of-lasts n few bytes τ at h e =
@@ -118,7 +119,7 @@ of-lasts n few bytes τ at h e =
     (of-later n few bytes τ at h)
 
 -- Where more words are covered than a cursor has passed, there is a next block.
-more-blocks : (n : ℕ) → n ≤ 32 → (bytes : List ℕ) → reading n bytes .fault ≡ none → (c : ReadCursor) (t : List (List ℕ))
+more-blocks : (n : ℕ) → n ≤ optionLimit → (bytes : List ℕ) → reading n bytes .fault ≡ none → (c : ReadCursor) (t : List (List ℕ))
     → StandsAt n bytes c t → c .run .covered < reading n bytes .state .covered → nextBlock n bytes c t .block .halted ≡ false
 more-blocks n few bytes clean c t h l = go (y .block .halted) refl
   where
@@ -130,7 +131,7 @@ more-blocks n few bytes clean c t h l = go (y .block .halted) refl
     go false e = e
 
 -- the tape at it
-tape-reads : (n c : ℕ) → n ≤ 32 → (bytes : List ℕ) → reading n bytes .fault ≡ none → (x : Input) → x ≡ inputOf n bytes
+tape-reads : (n c : ℕ) → n ≤ optionLimit → (bytes : List ℕ) → reading n bytes .fault ≡ none → (x : Input) → x ≡ inputOf n bytes
     → c ≤ x .covered → (y : ReadCursor) (t : List (List ℕ)) → StandsAt n bytes y t → (at : ℕ) → y .run .covered ≡ at → at < c
     → Reads n c (tapeAt bytes (nextBlock n bytes y t)) at x
 tape-reads n c few bytes clean x e k y t h at i l = record {
@@ -154,7 +155,7 @@ tape-reads n c few bytes clean x e k y t h at i l = record {
 
 -- ---- What the walk over texts asks -----------------------------------------------------------
 
-module _ (n : ℕ) (few : n ≤ 32) (c : ℕ) where
+module _ (n : ℕ) (few : n ≤ optionLimit) (c : ℕ) where
   -- A block's level is no deeper than there are options,
   pub reads-deep : (τ : Tape) (at : ℕ) (x : Input) → Reads n c τ at x → deepOf τ ≤ n
   reads-deep τ at x h = of-deep n few (h .bytes) τ at (h .here)
@@ -205,6 +206,6 @@ module _ (n : ℕ) (few : n ≤ 32) (c : ℕ) where
 
   -- So the first block of a stream without a fault.
   pub reads-first : (bytes : List ℕ) (t : List (List ℕ)) → reading n bytes .fault ≡ none → c ≤ inputOf n bytes .covered → 0 < c
-      → 1024 ≤ length t → Reads n c (firstTape n bytes t) 0 (inputOf n bytes)
+      → tableLimit ≤ length t → Reads n c (firstTape n bytes t) 0 (inputOf n bytes)
   reads-first bytes t clean k l room =
       tape-reads n c few bytes clean (inputOf n bytes) refl k firstCursor t (first-stands n bytes t room) 0 refl l

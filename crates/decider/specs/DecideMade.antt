@@ -8,6 +8,7 @@ use native.Mathlib.Omega.{arith}
 use lib.ListN.{length}
 use lib.Pow.{pow-mono}
 use borrow.Author.Tests.{lt-ltb, le-ltb, lt-leb, le-leb}
+use Rattle.reading.specs.Limits.{optionLimit, openLimit, tableLimit, wordLimit}
 use Rattle.reading.specs.Causes as C
 use Rattle.reading.specs.Reading.{Reading}
 use Rattle.reading.specs.Deciding.{trace}
@@ -25,32 +26,32 @@ abbrev pub decidedBy : ReadReached → R.Verdict → C.Result R.Verdict
 decidedBy r v = cond (r .faulty) (C.refused (lateOf r)) (C.done v)
 
 -- A word fits in as many bits as there are options.
-pub word-most : (n w : ℕ) → n ≤ 32 → w < 2 ^ n → w ≤ 4294967296
-word-most n w few l = omega (arith, l, pow-mono {i = n} {j = 32} few)
+pub word-most : (n w : ℕ) → n ≤ optionLimit → w < 2 ^ n → w ≤ wordLimit
+word-most n w few l = omega (arith, l, pow-mono {i = n} {j = optionLimit} few)
 
 -- what the loop's last element passed, inside how many nodes
-pub passed-bounds : (n : ℕ) (bytes : List ℕ) (stop : ℕ) (r : ReadReached) (u : List (List ℕ)) → ReachedBy n bytes stop r u → r .halted ≡ false → (r .deep ≤ 32) × (r .from ≤ stop)
+pub passed-bounds : (n : ℕ) (bytes : List ℕ) (stop : ℕ) (r : ReadReached) (u : List (List ℕ)) → ReachedBy n bytes stop r u → r .halted ≡ false → (r .deep ≤ openLimit) × (r .from ≤ stop)
 passed-bounds n bytes stop r u h e = let k = subst (Ends n bytes stop r u (h .stands .steps)) e (h .ends) in (k .1 .shallow, k .1 .low)
 
 module _ (n : ℕ) (bytes : List ℕ) (t : List (List ℕ)) where
-  pub decide-options : (w : ℕ) (a : C.Result R.Verdict) → 32 < n → a ≡ C.refused (C.refusal C.optionCount 0 0) → record { answer = a; table = t } ≡ R.decide noRecord n bytes w t
+  pub decide-options : (w : ℕ) (a : C.Result R.Verdict) → optionLimit < n → a ≡ C.refused (C.refusal C.optionCount 0 0) → record { answer = a; table = t } ≡ R.decide noRecord n bytes w t
   unfolding R.decide R.decideAnswer C.gate C.tableAfter
-  decide-options w a h e = rw (e, lt-ltb 32 n h) refl
+  decide-options w a h e = rw (e, lt-ltb optionLimit n h) refl
 
-  pub decide-table : (w : ℕ) (a : C.Result R.Verdict) → n ≤ 32 → length t < 1024 → a ≡ C.refused (C.refusal C.workTable 0 0) → record { answer = a; table = t } ≡ R.decide noRecord n bytes w t
+  pub decide-table : (w : ℕ) (a : C.Result R.Verdict) → n ≤ optionLimit → length t < tableLimit → a ≡ C.refused (C.refusal C.workTable 0 0) → record { answer = a; table = t } ≡ R.decide noRecord n bytes w t
   unfolding R.decide R.decideAnswer C.gate C.tableAfter
-  decide-table w a few h e = rw (e, le-ltb 32 n few, lt-ltb (length t) 1024 h) refl
+  decide-table w a few h e = rw (e, le-ltb optionLimit n few, lt-ltb (length t) tableLimit h) refl
 
-  pub decide-word : (w : ℕ) (a : C.Result R.Verdict) → n ≤ 32 → 1024 ≤ length t → 2 ^ n ≤ w → a ≡ C.refused (C.refusal C.wordRange 0 0) → record { answer = a; table = t } ≡ R.decide noRecord n bytes w t
+  pub decide-word : (w : ℕ) (a : C.Result R.Verdict) → n ≤ optionLimit → tableLimit ≤ length t → 2 ^ n ≤ w → a ≡ C.refused (C.refusal C.wordRange 0 0) → record { answer = a; table = t } ≡ R.decide noRecord n bytes w t
   unfolding R.decide R.decideAnswer C.gate C.tableAfter
-  decide-word w a few room h e = rw (e, le-ltb 32 n few, le-ltb (length t) 1024 room, le-leb (2 ^ n) w h) refl
+  decide-word w a few room h e = rw (e, le-ltb optionLimit n few, le-ltb (length t) tableLimit room, le-leb (2 ^ n) w h) refl
 
   -- v: the verdict, which counts where there is no fault
-  decide-answer : (w : ℕ) (r : ReadReached) (u : List (List ℕ)) (v : R.Verdict) → n ≤ 32 → 1024 ≤ length t → w < 2 ^ n → Reads n bytes r u → (r .faulty ≡ false → R.verdict n (trace n bytes) w ≡ v)
+  decide-answer : (w : ℕ) (r : ReadReached) (u : List (List ℕ)) (v : R.Verdict) → n ≤ optionLimit → tableLimit ≤ length t → w < 2 ^ n → Reads n bytes r u → (r .faulty ≡ false → R.verdict n (trace n bytes) w ≡ v)
       → R.decideAnswer n bytes w (length t) ≡ decidedBy r v
   unfolding R.decideAnswer C.gate
   decide-answer w r u v few room l h known =
-      rw (le-ltb 32 n few, le-ltb (length t) 1024 room, lt-leb (2 ^ n) w l)
+      rw (le-ltb optionLimit n few, le-ltb (length t) tableLimit room, lt-leb (2 ^ n) w l)
       (ap (λ (y : Reading). R.unlessFault 1 (y .fault) (C.done (R.verdict n (trace n bytes) w))) (trace-reading n bytes ∙ h .same) ∙ go (r .faulty) known)
     where
       go : (b : Bool) → (b ≡ false → R.verdict n (trace n bytes) w ≡ v)
@@ -58,7 +59,7 @@ module _ (n : ℕ) (bytes : List ℕ) (t : List (List ℕ)) where
       go true k = refl
       go false k = ap C.done (k refl)
 
-  pub decide-made : (w : ℕ) (a : C.Result R.Verdict) (z : List (List ℕ)) (r : ReadReached) (u : List (List ℕ)) (v : R.Verdict) → n ≤ 32 → 1024 ≤ length t → w < 2 ^ n → Reads n bytes r u
+  pub decide-made : (w : ℕ) (a : C.Result R.Verdict) (z : List (List ℕ)) (r : ReadReached) (u : List (List ℕ)) (v : R.Verdict) → n ≤ optionLimit → tableLimit ≤ length t → w < 2 ^ n → Reads n bytes r u
       → (r .faulty ≡ false → R.verdict n (trace n bytes) w ≡ v) → a ≡ decidedBy r v → z ≡ C.cleared noRecord t → record { answer = a; table = z } ≡ R.decide noRecord n bytes w t
   unfolding R.decide
   decide-made w a z r u v few room l h known e k =

@@ -7,6 +7,7 @@ use Prim.Native.Nat.{ℕ, suc, _+_, _-_, _*_, _%_, _^_, _<_, _≤_}
 use native.Mathlib.Omega.{arith}
 use borrow.Author.Tests.{ne-eqb, lt-ltb, le-ltb}
 use Rattle.lists.specs.Lists.{decide-le}
+use Rattle.reading.specs.Limits.{optionLimit}
 use Rattle.reading.specs.Nodes.{Node, node}
 use Rattle.reading.specs.Deciding.{options, Decision, undecided, decided, complemented}
 use Rattle.reading.specs.Words.{options-low, options-high, complemented-twice}
@@ -66,7 +67,7 @@ module _ (t : List (List ℕ)) (z i : ℕ) (e : Edge) (x : Row) (some : e .numbe
       (decide-le (x .level) i)
 
   -- A WORD BELOW THE HALF goes on in the first child, any other in the second. half: as code has 2 ^ (m - 1)
-  module _ (m w : ℕ) (more : m ≡ 0 → ⊥) (most : m ≤ 32) where
+  module _ (m w : ℕ) (more : m ≡ 0 → ⊥) (most : m ≤ optionLimit) where
     abbrev half : ℕ
     half = 1 * 2 ^ (m - 1) % 18446744073709551616
 
@@ -79,12 +80,12 @@ module _ (t : List (List ℕ)) (z i : ℕ) (e : Edge) (x : Row) (some : e .numbe
     walk-low f child h =
         ap (λ (g : Edge). edgeWalk (tableOf t z) (i + 1) g (options (m - 1) w)) child
         ∙ sym (walk-first (options (m - 1) w))
-        ∙ ap (edgeWalk (tableOf t z) i e) (sym (options-low (m - 1) w (omega (arith, few-words m 1 most, h))) ∙ ap (λ (k : ℕ). options k w) one-more)
+        ∙ ap (edgeWalk (tableOf t z) i e) (sym (options-low (m - 1) w (omega (arith, few-words m 1 (omega (arith, most)), h))) ∙ ap (λ (k : ℕ). options k w) one-more)
 
     pub walk-high : (f : Edge) → f ≡ secondEdge x i e → half ≤ w
         → edgeWalk (tableOf t z) (i + 1) f (options (m - 1) (w - half)) ≡ edgeWalk (tableOf t z) i e (options m w)
     walk-high f child h =
         ap (λ (g : Edge). edgeWalk (tableOf t z) (i + 1) g (options (m - 1) (w - half))) child
-        ∙ ap (λ (k : ℕ). edgeWalk (tableOf t z) (i + 1) (secondEdge x i e) (options (m - 1) (w - k))) (few-words m 1 most)
+        ∙ ap (λ (k : ℕ). edgeWalk (tableOf t z) (i + 1) (secondEdge x i e) (options (m - 1) (w - k))) (few-words m 1 (omega (arith, most)))
         ∙ sym (walk-second (options (m - 1) (w - 2 ^ (m - 1))))
-        ∙ ap (edgeWalk (tableOf t z) i e) (sym (options-high (m - 1) w (omega (arith, few-words m 1 most, h))) ∙ ap (λ (k : ℕ). options k w) one-more)
+        ∙ ap (edgeWalk (tableOf t z) i e) (sym (options-high (m - 1) w (omega (arith, few-words m 1 (omega (arith, most)), h))) ∙ ap (λ (k : ℕ). options k w) one-more)

@@ -2,6 +2,7 @@
 ghost use mathlib.Core.Path.{_≡_};
 ghost use mathlib.Core.List.{[]};
 ghost use Prim.Native.Nat.{_+_, _≤_};
+ghost use Rattle.reading.specs.Limits.{optionLimit, openLimit};
 ghost use Rattle.reading.specs.Deciding.{decided, complemented, options};
 ghost use Rattle.reading.specs.Calls.{verdictOf, Decides};
 ghost use Rattle.reading.specs.TableWalk.{rowWalk};
@@ -25,6 +26,7 @@ use scanner::OPEN_LIMIT;
 use work_table::Edge;
 use work_table::OPTION_LIMIT;
 use work_table::TABLE_LIMIT;
+use work_table::WORD_LIMIT;
 use work_table::clear;
 use work_table::first_edge;
 use work_table::get;
@@ -50,7 +52,7 @@ fn verdict_of(b: bool) -> Verdict
 
 // The word w of the node of level i, m options below it, that e stands for. z: how many numbers there are
 fn walk_down(t: &[[u32; 6]], z: u32, m: u32, i: u32, e: Edge, w: u64) -> Verdict
-    requires { ⌜ (m ≤ 32) × (i + m ≤ 64) ⌝ }
+    requires { ⌜ (m ≤ optionLimit) × (i + m ≤ openLimit + optionLimit) ⌝ }
     ensures { λ r. ⌜ verdictsOf r ≡ verdictOf (complemented (e .turned) (rowWalk (tableOf (now (t .entry)) z) i (e .number) (options m w))) ⌝ }
 {
     if e.number == 0 {
@@ -79,7 +81,7 @@ fn decided_at(r: Reached, v: Verdict) -> Deciding
 
 // The word w, which the loop's last element passed.
 fn word_at(t: &[[u32; 6]], o: &[[u32; 4]; OPEN_LIMIT], n: u32, r: Reached, w: u64) -> Verdict
-    requires { ⌜ (n ≤ 32) × ((r .deep ≤ 32) × (r .from ≤ w)) ⌝ }
+    requires { ⌜ (n ≤ optionLimit) × ((r .deep ≤ openLimit) × (r .from ≤ w)) ⌝ }
     ensures { λ x. ⌜ verdictsOf x ≡ wordAt (now (t .entry)) n (reachedIn r (now (o .entry))) w ⌝ }
 {
     let q = r.run;
@@ -115,7 +117,7 @@ pub fn decide(n: u32, s: &[u8], w: u64, t: &mut [[u32; 6]]) -> Deciding
         run: q,
         depth: r.depth,
     };
-    let e = read_on(n, s, t, &mut o, c, 4294967296);
+    let e = read_on(n, s, t, &mut o, c, WORD_LIMIT);
     let z = t.len();
     clear(t, z);
     decided_at(e, v)

@@ -5,16 +5,18 @@ use mathlib.Core.Logic.{_≢_, _⊎_, inl, inr, ⊎-elim}
 use mathlib.Core.Bool.{Bool, true, false, not, cond, _&&_, true≢false, false≢true}
 use mathlib.Core.List.{List, [], _∷_, _++_}
 use Prim.Native.Nat.{ℕ, zero, suc, _≤_, _<_}
+use native.Mathlib.Nat.{mod-lt}
 use native.Mathlib.Omega.{arith}
 use lib.Dec.{eqb, leb}
 use lib.ListN.{length, getD}
 use borrow.Author.Tests.{eqb-true, eqb-false, leb-true, not-true, eq-eqb, ne-eqb, le-leb}
 use Rattle.lists.specs.Lists.{and-l, and-r, and-true, or-left, or-right, is-false, decide-eq, All, has, has-append, has-last, all-has}
 use Rattle.reading.specs.Limits.{tableLimit}
+use Rattle.reading.specs.LimitLaws.{some-record}
 use Rattle.writing.specs.UniqueTable.{without}
 use Rattle.writing.specs.Links.{Links, leaves, joins, firstOf, after, before, Chain, Holds, among-without-same, among-without, holds-head, holds-next, holds-none, holds-leaves, holds-joins}
 use Rattle.engine.specs.Cells.{cell, putCell, Wide, length-put, wide-put, cell-same, cell-number, cell-other}
-use Rattle.engine.specs.Recycling.{Lane, leaveIn, joinIn, bucketOf, bucketAt, fitsAt, searchIn, findIn, endsTo, shelveIn, unshelveIn}
+use Rattle.engine.specs.Recycling.{Lane, leaveIn, joinIn, mixOf, bucketOf, bucketAt, fitsAt, searchIn, findIn, endsTo, shelveIn, unshelveIn}
 use Rattle.engine.specs.Lanes.{column, column-cell, column-length, column-same, linksOf, links-same, links-leave, links-join, leave-wide, leave-length, leave-other, leave-next, leave-prev, join-wide, join-length, join-other, join-next, join-prev}
 use Rattle.engine.specs.BucketLinks.{has-all, has-before, distinct-length, holds-same, holds-prev, holds-last}
 
@@ -36,7 +38,7 @@ Buckets t z j = (h : ℕ) → 0 < h → h ≤ tableLimit → Bucket t z j h
 
 -- it is the place of a record
 pub bucket-range : (i a b c : ℕ) → (0 < bucketOf i a b c) × (bucketOf i a b c ≤ tableLimit)
-bucket-range i a b c = (omega arith, omega arith)
+bucket-range i a b c = (omega arith, omega (arith, mod-lt (mixOf i a b c) some-record))
 
 -- ---- The numbers in a bucket -----------------------------------------------------------------
 

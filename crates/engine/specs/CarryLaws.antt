@@ -12,14 +12,14 @@ use borrow.Author.Tests.{leb-true, leb-false}
 use Rattle.lists.specs.Lists.{differ, or-r, decide-le, pow-pos}
 use Rattle.reading.specs.Bytes.{opener}
 use Rattle.reading.specs.Nodes.{Node, stamp}
-use Rattle.reading.specs.Limits.{tableLimit}
+use Rattle.reading.specs.Limits.{optionLimit, tableLimit}
 use Rattle.reading.specs.Lasting.{Lasts}
 use Rattle.writing.specs.UniqueTable.{State}
 use Rattle.writing.specs.Texts.{tildeIf}
 use Rattle.writing.specs.Run.{Input, runCovered, decisions}
 use Rattle.writing.specs.Online.{Went, waiting, online}
 use Rattle.writing.specs.OnlineRuns.{cut}
-use Rattle.engine.specs.Pending.{Waiting, pushAll}
+use Rattle.engine.specs.Pending.{Waiting, pushAll, levelRoom, endRoom}
 use Rattle.engine.specs.Engine.{Pen, Walked, meetIn, secondIn}
 use Rattle.engine.specs.Leading.{Stands, Leads}
 use Rattle.engine.specs.Walking.{online-stamp, Ready, partIn, push-ready, second-ready, halves-lead, first-at, second-at}
@@ -69,18 +69,18 @@ module _ {Tape : Type 0} (deepOf : Tape → ℕ) (sourceOf : Tape → Source) (n
   Wholes hash op size d i o =
       (k at m : ℕ) (T p w : List ℕ) (fs : List (Feed Tape)) (xs : List Input) (f : ℕ → Bool) (μ : List (List ℕ)) (t : List (List ℕ))
       (out : List ℕ) (pen : Pen) (s : State) → at ≡ k * 2 ^ d → at + 2 ^ d ≤ c → Stands n size o T t out pen s → take m w ≡ p
-      → m + 70 * d + 144 ≤ length w → ((j : ℕ) → stamp (s .table) j + 2 ^ d ≤ 4294967296)
+      → m + levelRoom * d + endRoom ≤ length w → ((j : ℕ) → stamp (s .table) j + 2 ^ d ≤ 4294967296)
       → AllFed deepOf sourceOf next n Reads i d at fs xs → AllSeated deepOf sourceOf next i fs → Joins op c d at xs f
       → Memory n op (tables (tapesOf fs)) s μ
       → Carries deepOf sourceOf next n Reads op size i m (at + 2 ^ d) o T p w fs xs
       (carryIn deepOf sourceOf next hash op c size d i at m fs μ t out w pen) (online size d i at p f s)
 
   -- all inputs at edges
-  edges-lead : (hash : List ℕ → ℕ) (op : List Bool → Bool) (size d i : ℕ) (o : List ℕ) → 0 < i → i + d ≡ suc n → n ≤ 32
+  edges-lead : (hash : List ℕ → ℕ) (op : List Bool → Bool) (size d i : ℕ) (o : List ℕ) → 0 < i → i + d ≡ suc n → n ≤ optionLimit
       → size ≤ tableLimit
       → (at m : ℕ) (T p w : List ℕ) (fs : List (Feed Tape)) (xs : List Input) (f : ℕ → Bool) (μ : List (List ℕ)) (t : List (List ℕ))
       (out : List ℕ) (pen : Pen) (s : State) → anyText fs ≡ false → at + 2 ^ d ≤ c → Stands n size o T t out pen s
-      → take m w ≡ p → m + 70 * d + 144 ≤ length w → ((j : ℕ) → stamp (s .table) j + 2 ^ d ≤ 4294967296)
+      → take m w ≡ p → m + levelRoom * d + endRoom ≤ length w → ((j : ℕ) → stamp (s .table) j + 2 ^ d ≤ 4294967296)
       → AllFed deepOf sourceOf next n Reads i d at fs xs → AllSeated deepOf sourceOf next i fs → Joins op c d at xs f
       → Memory n op (tables (tapesOf fs)) s μ
       → Carries deepOf sourceOf next n Reads op size i m (at + 2 ^ d) o T p w fs xs
@@ -109,7 +109,7 @@ module _ {Tape : Type 0} (deepOf : Tape → ℕ) (sourceOf : Tape → Source) (n
   Cuts hash op size d i o =
       (k at m : ℕ) (T p w : List ℕ) (fs : List (Feed Tape)) (xs : List Input) (f : ℕ → Bool) (μ : List (List ℕ)) (t : List (List ℕ))
       (out : List ℕ) (pen : Pen) (s : State) → at ≡ k * 2 ^ d → at < c → c < at + 2 ^ d → at + 2 ^ d ≤ 2 ^ n → runCovered n xs ≤ c
-      → Stands n size o T t out pen s → take m w ≡ p → m + 70 * d + 144 ≤ length w
+      → Stands n size o T t out pen s → take m w ≡ p → m + levelRoom * d + endRoom ≤ length w
       → ((j : ℕ) → stamp (s .table) j + 2 ^ d ≤ 4294967296) → AllFed deepOf sourceOf next n Reads i d at fs xs
       → AllSeated deepOf sourceOf next i fs → Joins op c d at xs f → Memory n op (tables (tapesOf fs)) s μ
       → Cutly o T (cut c size d i at p f s) (carryIn deepOf sourceOf next hash op c size d i at m fs μ t out w pen .applied)
@@ -118,10 +118,10 @@ module _ {Tape : Type 0} (deepOf : Tape → ℕ) (sourceOf : Tape → Source) (n
 
   -- half: the walk over a covered half
   module _ (hash : List ℕ → ℕ) (op : List Bool → Bool) (size d i : ℕ) (o : List ℕ) (real : 0 < i) (deep : i + suc d ≡ suc n)
-      (small : n ≤ 32) (few : size ≤ tableLimit) (half : Wholes hash op size d (suc i) o) (k at m : ℕ) (T p w : List ℕ)
+      (small : n ≤ optionLimit) (few : size ≤ tableLimit) (half : Wholes hash op size d (suc i) o) (k at m : ℕ) (T p w : List ℕ)
       (fs : List (Feed Tape)) (xs : List Input) (f : ℕ → Bool) (μ : List (List ℕ)) (t : List (List ℕ)) (out : List ℕ) (pen : Pen)
       (s : State) (z : at ≡ k * 2 ^ suc d) (st : Stands n size o T t out pen s) (here : take m w ≡ p)
-      (room : m + 70 * suc d + 144 ≤ length w) (young : (j : ℕ) → stamp (s .table) j + 2 ^ suc d ≤ 4294967296)
+      (room : m + levelRoom * suc d + endRoom ≤ length w) (young : (j : ℕ) → stamp (s .table) j + 2 ^ suc d ≤ 4294967296)
       (fed : AllFed deepOf sourceOf next n Reads i (suc d) at fs xs) (seat : AllSeated deepOf sourceOf next i fs)
       (mk : Joins op c (suc d) at xs f) (mem : Memory n op (tables (tapesOf fs)) s μ) where
     -- the next level
@@ -192,7 +192,7 @@ module _ {Tape : Type 0} (deepOf : Tape → ℕ) (sourceOf : Tape → Source) (n
     abbrev joined : Bool → Bool → Bool → Carried Tape
     joined h l r = cond h a′ (cond l (carried (endedAt a) (a′ .memo)) (cond r b′ (carried (wentOn met (b .tapes)) (b′ .memo))))
 
-    long : m + 214 ≤ length w
+    long : m + levelRoom + endRoom ≤ length w
     long = omega (arith, room)
 
     -- where inputs stand at the first half
@@ -244,7 +244,7 @@ module _ {Tape : Type 0} (deepOf : Tape → ℕ) (sourceOf : Tape → Source) (n
           (h .memory g)
 
       -- what waits
-      before : Ready w (m + 70) p₂ (mid turn)
+      before : Ready w (m + levelRoom) p₂ (mid turn)
       before =
           second-ready n size d i at m o T p w f s (st .sound) (st .normal) real deep small here long (a .walked) (h .wholly .leads) g
 
@@ -446,7 +446,7 @@ module _ {Tape : Type 0} (deepOf : Tape → ℕ) (sourceOf : Tape → Source) (n
   -- ---- Each part that is covered --------------------------------------------------------------
 
   -- each part
-  wholes : (hash : List ℕ → ℕ) (op : List Bool → Bool) (size d i : ℕ) (o : List ℕ) → 0 < i → i + d ≡ suc n → n ≤ 32
+  wholes : (hash : List ℕ → ℕ) (op : List Bool → Bool) (size d i : ℕ) (o : List ℕ) → 0 < i → i + d ≡ suc n → n ≤ optionLimit
       → size ≤ tableLimit → Wholes hash op size d i o
   unfolding carryIn
   wholes hash op size zero i o real deep small few = λ k at m T p w fs xs f μ t out pen s z cov st here room young fed seat mk mem.
@@ -461,8 +461,8 @@ module _ {Tape : Type 0} (deepOf : Tape → ℕ) (sourceOf : Tape → Source) (n
   -- a part that is covered leads to what the walk of Online knows
   pub carry-leads : (hash : List ℕ → ℕ) (op : List Bool → Bool) (size d i at k m : ℕ) (o T p w : List ℕ) (fs : List (Feed Tape))
       (xs : List Input) (f : ℕ → Bool) (μ : List (List ℕ)) (t : List (List ℕ)) (out : List ℕ) (pen : Pen) (s : State)
-      → 0 < i → i + d ≡ suc n → n ≤ 32 → size ≤ tableLimit → at ≡ k * 2 ^ d → at + 2 ^ d ≤ c → Stands n size o T t out pen s
-      → take m w ≡ p → m + 70 * d + 144 ≤ length w → ((j : ℕ) → stamp (s .table) j + 2 ^ d ≤ 4294967296)
+      → 0 < i → i + d ≡ suc n → n ≤ optionLimit → size ≤ tableLimit → at ≡ k * 2 ^ d → at + 2 ^ d ≤ c → Stands n size o T t out pen s
+      → take m w ≡ p → m + levelRoom * d + endRoom ≤ length w → ((j : ℕ) → stamp (s .table) j + 2 ^ d ≤ 4294967296)
       → AllFed deepOf sourceOf next n Reads i d at fs xs → AllSeated deepOf sourceOf next i fs
       → ((w : ℕ) → at ≤ w → w < at + 2 ^ d → w < c → f w ≡ op (decisions xs w))
       → Memory n op (tables (tapesOf fs)) s μ
@@ -474,7 +474,7 @@ module _ {Tape : Type 0} (deepOf : Tape → ℕ) (sourceOf : Tape → Source) (n
   -- ---- Each part within which the covered words end -------------------------------------------
 
   -- by the options left
-  cuts : (hash : List ℕ → ℕ) (op : List Bool → Bool) (size d i : ℕ) (o : List ℕ) → 0 < i → i + d ≡ suc n → n ≤ 32
+  cuts : (hash : List ℕ → ℕ) (op : List Bool → Bool) (size d i : ℕ) (o : List ℕ) → 0 < i → i + d ≡ suc n → n ≤ optionLimit
       → size ≤ tableLimit → Cuts hash op size d i o
   cuts hash op size zero i o real deep small few =
       λ k at m T p w fs xs f μ t out pen s z start over fits least st here room young fed seat mk mem. absurd (omega (arith, start, over))
@@ -488,8 +488,8 @@ module _ {Tape : Type 0} (deepOf : Tape → ℕ) (sourceOf : Tape → Source) (n
   -- a part within which the covered words end, as many as the inputs all cover, sends what a cut run sends
   pub carry-cut : (hash : List ℕ → ℕ) (op : List Bool → Bool) (size d i at k m : ℕ) (o T p w : List ℕ) (fs : List (Feed Tape))
       (xs : List Input) (f : ℕ → Bool) (μ : List (List ℕ)) (t : List (List ℕ)) (out : List ℕ) (pen : Pen) (s : State)
-      → 0 < i → i + d ≡ suc n → n ≤ 32 → size ≤ tableLimit → at ≡ k * 2 ^ d → at < c → c < at + 2 ^ d → at + 2 ^ d ≤ 2 ^ n
-      → runCovered n xs ≤ c → Stands n size o T t out pen s → take m w ≡ p → m + 70 * d + 144 ≤ length w
+      → 0 < i → i + d ≡ suc n → n ≤ optionLimit → size ≤ tableLimit → at ≡ k * 2 ^ d → at < c → c < at + 2 ^ d → at + 2 ^ d ≤ 2 ^ n
+      → runCovered n xs ≤ c → Stands n size o T t out pen s → take m w ≡ p → m + levelRoom * d + endRoom ≤ length w
       → ((j : ℕ) → stamp (s .table) j + 2 ^ d ≤ 4294967296) → AllFed deepOf sourceOf next n Reads i d at fs xs
       → AllSeated deepOf sourceOf next i fs → ((w : ℕ) → at ≤ w → w < at + 2 ^ d → w < c → f w ≡ op (decisions xs w))
       → Memory n op (tables (tapesOf fs)) s μ

@@ -2,6 +2,16 @@
 -- only. Assumes nothing.
 use Prim.Native.Nat.{ℕ, _+_, _*_, _/_, _%_}
 
+-- Cells side by side in one number: so many values for a number, for an edge (a number, turned about or not) and for a level.
+abbrev pub numberSpan : ℕ
+numberSpan = 2048
+
+abbrev pub edgeSpan : ℕ
+edgeSpan = 2 * numberSpan
+
+abbrev pub levelSpan : ℕ
+levelSpan = 64
+
 -- the upper and the lower 32 bits together
 abbrev pub fold : ℕ → ℕ
 fold p = p / 4294967296 + p % 4294967296

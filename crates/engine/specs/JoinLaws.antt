@@ -11,6 +11,8 @@ use lib.Pow.{pow-mono}
 use borrow.Author.Tests.{eqb-true, eqb-false, ltb-true, ltb-false}
 use Rattle.lists.specs.Lists.{decide-le, pow-pos}
 use Rattle.lists.specs.Prefixes.{Begins}
+use Rattle.reading.specs.Limits.{optionLimit}
+use Rattle.reading.specs.LimitLaws.{few-stamps}
 use Rattle.reading.specs.Bytes.{dot}
 use Rattle.reading.specs.Nodes.{stamp}
 use Rattle.writing.specs.UniqueTable.{start}
@@ -76,8 +78,8 @@ module _ (op : List Bool → Bool) (n size c : ℕ) (xs : List Input) (e : c ≡
 -- ---- The start -------------------------------------------------------------------------------
 
 -- stamps are small at the start
-pub start-young : (n : ℕ) → n ≤ 32 → (k : ℕ) → stamp (start .table) k + 2 ^ n ≤ 4294967296
-start-young n h k = omega (arith, start-stamp k, pow-mono {i = n} {j = 32} h)
+pub start-young : (n : ℕ) → n ≤ optionLimit → (k : ℕ) → stamp (start .table) k + 2 ^ n ≤ 4294967296
+start-young n h k = omega (arith, start-stamp k, pow-mono {i = n} {j = optionLimit} h, few-stamps)
 
 -- ---- A cut run -------------------------------------------------------------------------------
 

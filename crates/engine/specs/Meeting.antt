@@ -12,7 +12,8 @@ use borrow.Author.Tests.{eqb-true, eqb-false, ne-eqb, not-true, lt-ltb, ltb-true
 use Rattle.lists.specs.Lists.{differ, and-l, and-r}
 use Rattle.reading.specs.Bytes.{opener, closer, blank}
 use Rattle.reading.specs.Nodes.{Ref, terminal, entry, temporary, isKept, child, Node, node, stamp, bars}
-use Rattle.reading.specs.Limits.{tableLimit}
+use Rattle.reading.specs.Limits.{optionLimit, tableLimit, digitLimit}
+use Rattle.reading.specs.LimitLaws.{few-options}
 use Rattle.writing.specs.UniqueTable.{State, stored}
 use Rattle.writing.specs.Rules.{Text, Done, edge, isTerminal, sameNumber, bothTerminal, sameEntry, halfBarred, found, newNumber, byRule, meet, part}
 use Rattle.writing.specs.Texts.{decimal, tildeIf, storing}
@@ -28,8 +29,8 @@ use Rattle.writing.specs.Flow.{plain-flow, waits}
 use Rattle.writing.specs.Online.{Went, digitEnd, digitBegin, gap, bare, waiting, gapOf, joinBy, online, went, online-went}
 use Rattle.engine.specs.Cells.{cell}
 use Rattle.engine.specs.Recycling.{Lane, oneMore, findIn, storeIn, nextIn}
-use Rattle.engine.specs.Pending.{Waiting, pushAll, partText, waitIn, closeIn, sentTo}
-use Rattle.engine.specs.PendingLaws.{push-length, push-count, push-take, push-keeps, decimal-length, replicate-opens, replicate-closes, sent-output, sent-full}
+use Rattle.engine.specs.Pending.{Waiting, pushAll, partText, waitIn, closeIn, sentTo, partRoom, endRoom}
+use Rattle.engine.specs.PendingLaws.{push-length, push-count, push-take, push-keeps, number-length, replicate-opens, replicate-closes, sent-output, sent-full}
 use Rattle.engine.specs.Keeping.{Keeps, keeps-next}
 use Rattle.engine.specs.Finding.{keeps-find}
 use Rattle.engine.specs.Placing.{keeps-store}
@@ -53,7 +54,7 @@ pub record Fits (n i : ℕ) (x : Went) : Type 0 where
 -- r: what waits after the part x of level i, p being the m bytes of w that waited before it
 pub record Waited (w : List ℕ) (m : ℕ) (p : List ℕ) (i : ℕ) (x : Went) (r : Waiting) : Type 0 where
   pub text : take (r .count) (r .bytes) ≡ waiting p i x
-  pub count : r .count ≤ cond (x .wrote) 0 m + 68
+  pub count : r .count ≤ cond (x .wrote) 0 m + partRoom
   pub room : length (r .bytes) ≡ length w
   pub keeps : x .wrote ≡ false → (j : ℕ) → j ≤ m → take j (r .bytes) ≡ take j w
 
@@ -78,8 +79,8 @@ came-waits p i h x c s =
     ∙ ap₂ (λ (j k : ℕ). cond (x .wrote) [] p ++ partText (x .wrote) j k) (c .skipped) (c .number)
     ∙ ref-waits p (x .state) i (x .ref) (x .wrote) s
 
--- a number of four digits inside 32 brackets, at most
-text-length : (u : Bool) (j k : ℕ) → j ≤ 32 → k < 10000 → length (partText u j k) ≤ 68
+-- a number inside as many brackets as there are options, at most
+text-length : (u : Bool) (j k : ℕ) → j ≤ optionLimit → k ≤ tableLimit → length (partText u j k) ≤ partRoom
 text-length true j k h l = omega (arith, h, length-replicate j closer)
 text-length false j k h l =
     omega (
@@ -89,12 +90,12 @@ text-length false j k h l =
       length-append (replicate j opener) (decimal k),
       length-replicate j opener,
       length-replicate j closer,
-      decimal-length k l,
+      number-length k l,
     )
 
 -- what waits after a part in the engine is what waits in the walk
-pub wait-came : (n i m : ℕ) (w p : List ℕ) (h : Half) (x : Went) → Came i h x → Fits n i x → n ≤ 32
-    → length (x .state .table) ≤ suc tableLimit → (x .wrote ≡ false → take m w ≡ p) → m + 68 ≤ length w
+pub wait-came : (n i m : ℕ) (w p : List ℕ) (h : Half) (x : Went) → Came i h x → Fits n i x → n ≤ optionLimit
+    → length (x .state .table) ≤ suc tableLimit → (x .wrote ≡ false → take m w ≡ p) → m + partRoom ≤ length w
     → Waited w m p i x (waitIn w m (h .wrote) (h .skipped) (h .number))
 unfolding waitIn
 wait-came n i m w p h x c s l z e r = record {
@@ -112,7 +113,7 @@ wait-came n i m w p h x c s l z e r = record {
     all : List ℕ
     all = partText (h .wrote) (h .skipped) (h .number)
 
-    short : length all ≤ 68
+    short : length all ≤ partRoom
     short =
         text-length (h .wrote) (h .skipped) (h .number) (omega (arith, c .skipped, s .low, l))
         (omega (arith, c .number, s .known, z))
@@ -203,10 +204,10 @@ gap-tilde : (q : List ℕ) (v c d : Bool) → (q ++ tildeIf v) ++ cond (not v &&
 gap-tilde q true c d = append-nil (q ++ tildeIf true)
 gap-tilde q false c d = ap (λ (l : List ℕ). l ++ cond (c && d) (blank ∷ []) []) (append-nil q)
 
--- `:` and a number of four digits, at most
-storing-length : (k : ℕ) → k < 10000 → length (storing k) ≤ 5
+-- `:` and a number, at most
+storing-length : (k : ℕ) → k ≤ tableLimit → length (storing k) ≤ digitLimit + 1
 storing-length zero h = omega arith
-storing-length (suc k) h = omega (arith, decimal-length (suc k) h)
+storing-length (suc k) h = omega (arith, number-length (suc k) h)
 
 -- r: what waits at the end of a node is the text x, in the row w
 record Closed (w x : List ℕ) (r : Waiting) : Type 0 where
@@ -215,8 +216,8 @@ record Closed (w x : List ℕ) (r : Waiting) : Type 0 where
 
 -- what waits at the end of a node in the engine is what ends it in the walk
 close-came : (n i m k : ℕ) (w q : List ℕ) (v : Bool) (a b : Half) (x y : Went) → Came (suc i) a x → Came (suc i) b y
-    → Fits n (suc i) y → n ≤ 32 → length (y .state .table) ≤ suc tableLimit → k < 10000
-    → (y .wrote ≡ false → take m w ≡ q ++ tildeIf v) → m + 144 ≤ length w
+    → Fits n (suc i) y → n ≤ optionLimit → length (y .state .table) ≤ suc tableLimit → k ≤ tableLimit
+    → (y .wrote ≡ false → take m w ≡ q ++ tildeIf v) → m + endRoom ≤ length w
     → Closed w (waiting (q ++ gapOf i v x y) (suc i) y ++ (closer ∷ storing k))
     (closeIn w m (spaced v a b) (b .wrote) (b .skipped) (b .number) k)
 unfolding closeIn
@@ -426,7 +427,7 @@ module _ (n size i m₀ : ℕ) (o T p w : List ℕ) (x y : Went) (t : List (List
       }
 
   module _ (m : ℕ) (q : List ℕ) (v : Bool) (a b : Half) (ca : Came (suc i) a x) (cb : Came (suc i) b y) (fits : Fits n (suc i) y)
-      (small : n ≤ 32) (few : size ≤ tableLimit) (room : m + 144 ≤ length w)
+      (small : n ≤ optionLimit) (few : size ≤ tableLimit) (room : m + endRoom ≤ length w)
       (before : y .wrote ≡ false → take m w ≡ q ++ tildeIf v) where
     -- what a node sends at its end
     abbrev ending : ℕ → List ℕ
@@ -532,10 +533,10 @@ same-skipped i s₀ s₁ s (entry k g) (entry j u) x t st d e =
 
 module _ (n size i m m₀ : ℕ) (o T p w q p₁ q₁ : List ℕ) (A B : Done) (s₀ : State) (t : List (List ℕ)) (out : List ℕ) (pen : Pen)
     (a b : Half) (halves : Halves i s₀ (A .state) (B .state) (A .part) (B .part)) (deep : Depth (suc i) (A .state) (A .part .ref))
-    (fx : Fits n (suc i) (went p₁ A)) (fy : Fits n (suc i) (went q₁ B)) (real : 0 < i) (small : n ≤ 32) (few : size ≤ tableLimit)
+    (fx : Fits n (suc i) (went p₁ A)) (fy : Fits n (suc i) (went q₁ B)) (real : 0 < i) (small : n ≤ optionLimit) (few : size ≤ tableLimit)
     (ca : Came (suc i) a (went p₁ A)) (cb : Came (suc i) b (went q₁ B))
     (stands : Stands n size o (T ++ (went p₁ A .sent ++ went q₁ B .sent)) t out pen (B .state))
-    (young : (k : ℕ) → stamp (B .state .table) k < 4294967295) (room : m + 144 ≤ length w)
+    (young : (k : ℕ) → stamp (B .state .table) k < 4294967295) (room : m + endRoom ≤ length w)
     (second : went q₁ B .wrote ≡ false → take m w ≡ q ++ tildeIf (edge (A .part) (B .part)))
     (first : went p₁ A .wrote ≡ false → went q₁ B .wrote ≡ false → take m₀ w ≡ p) where
   abbrev x : Went
@@ -610,7 +611,7 @@ module _ (n size i m m₀ : ℕ) (o T p w q p₁ q₁ : List ℕ) (A B : Done) (
   same-came e =
       let same = and-l (sameNumber s (A .part .ref) (B .part .ref)) _ e in
       let held = not-true (a .temporary) (kept-came (suc i) a x ca ∙ same-kept s (A .part .ref) (B .part .ref) same) in
-      let less : a .skipped < 4294967295 = omega (arith, ca .skipped, fx .low, small) in
+      let less : a .skipped < 4294967295 = omega (arith, ca .skipped, fx .low, small, few-options) in
       record {
         ref =
             ap (λ (u : Bool). cond u temporary (cond (eqb (a .number) 0) terminal (entry (a .number) (a .stamp)))) (sym held)
@@ -737,13 +738,13 @@ module _ (n size i m m₀ : ℕ) (o T p w q p₁ q₁ : List ℕ) (A B : Done) (
 
 -- two halves that meet lead to what the walk knows of their part
 pub meet-leads : (n size d i at m m₀ : ℕ) (o T p w : List ℕ) (f : ℕ → Bool) (s : State) (t : List (List ℕ)) (out : List ℕ)
-    (pen : Pen) (a b : Half) → Sound s → Normal n s → 0 < i → i + suc d ≡ suc n → n ≤ 32 → size ≤ tableLimit →
+    (pen : Pen) (a b : Half) → Sound s → Normal n s → 0 < i → i + suc d ≡ suc n → n ≤ optionLimit → size ≤ tableLimit →
     let x = online size d (suc i) at (p ++ (opener ∷ [])) f s in
     let q = waiting (p ++ (opener ∷ [])) (suc i) x in
     let v = differ (x .complement) (f (at + 2 ^ d)) in
     let y = online size d (suc i) (at + 2 ^ d) (q ++ tildeIf v) f (x .state) in
     Came (suc i) a x → Came (suc i) b y → Stands n size o (T ++ (x .sent ++ y .sent)) t out pen (y .state)
-    → ((k : ℕ) → stamp (y .state .table) k < 4294967295) → m + 144 ≤ length w
+    → ((k : ℕ) → stamp (y .state .table) k < 4294967295) → m + endRoom ≤ length w
     → (y .wrote ≡ false → take m w ≡ q ++ tildeIf v) → (x .wrote ≡ false → y .wrote ≡ false → take m₀ w ≡ p)
     → Leads n size i m₀ o T p w (meetIn size i m v a b t out w pen) (online size (suc d) i at p f s)
 unfolding online
@@ -790,7 +791,7 @@ meet-leads n size d i at m m₀ o T p w f s t out pen a b h nm r e small few =
     Met c x y =
         let v = differ (x .complement) c in
         Came (suc i) a x → Came (suc i) b y → Stands n size o (T ++ (x .sent ++ y .sent)) t out pen (y .state)
-        → ((k : ℕ) → stamp (y .state .table) k < 4294967295) → m + 144 ≤ length w
+        → ((k : ℕ) → stamp (y .state .table) k < 4294967295) → m + endRoom ≤ length w
         → (y .wrote ≡ false → take m w ≡ q₁ c x) → (x .wrote ≡ false → y .wrote ≡ false → take m₀ w ≡ p)
         → Leads n size i m₀ o T p w (meetIn size i m v a b t out w pen)
         (joinBy (waiting p₁ (suc i) x) i v x y (meet size i (bare x) (bare y) (y .state)))

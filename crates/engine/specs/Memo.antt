@@ -8,7 +8,7 @@ use lib.ListN.{getD, set, drop}
 use Rattle.lists.specs.Lists.{bit}
 use Rattle.reading.specs.Nodes.{stamp}
 use Rattle.engine.specs.Cells.{cell}
-use Rattle.engine.specs.Hashing.{stir}
+use Rattle.engine.specs.Hashing.{stir, edgeSpan}
 use Rattle.engine.specs.Engine.{Half, constantHalf, numberHalf}
 use Rattle.engine.specs.Applying.{Source}
 
@@ -88,7 +88,7 @@ unfolding stir
 slotFrom v [] = v
 slotFrom v (k ∷ []) = v
 slotFrom v (k ∷ g ∷ []) = v
-slotFrom v (k ∷ g ∷ u ∷ zs) = slotFrom (stir 2654435769 (v % 4294967296 + (g * 4096 + k * 2 + u))) zs
+slotFrom v (k ∷ g ∷ u ∷ zs) = slotFrom (stir 2654435769 (v % 4294967296 + (g * edgeSpan + k * 2 + u))) zs
 
 -- one of c rows
 abbrev pub slotIn : ℕ → List ℕ → ℕ

@@ -10,7 +10,7 @@ use lib.Dec.{eqb}
 use lib.ListN.{length, getD}
 use borrow.Author.Tests.{eqb-true, eqb-false}
 use Rattle.lists.specs.Lists.{decide-le}
-use Rattle.reading.specs.Limits.{tableLimit}
+use Rattle.reading.specs.Limits.{optionLimit, tableLimit}
 use Rattle.reading.specs.Lasting.{Lasts}
 use Rattle.writing.specs.UniqueTable.{start}
 use Rattle.writing.specs.Texts.{tildeIf}
@@ -19,7 +19,8 @@ use Rattle.writing.specs.Steps.{start-sound}
 use Rattle.writing.specs.Normal.{start-normal}
 use Rattle.writing.specs.OnlineRuns.{cut}
 use Rattle.engine.specs.Cells.{cell, Wide}
-use Rattle.engine.specs.Pending.{Waiting, pushAll}
+use Rattle.engine.specs.Pending.{Waiting, pushAll, levelRoom, endRoom, waitingLimit}
+use Rattle.engine.specs.PendingLaws.{waiting-room}
 use Rattle.engine.specs.Engine.{Sent, sendText, penAfter, doneIn}
 use Rattle.engine.specs.Leading.{Stands}
 use Rattle.engine.specs.Meeting.{online-fits}
@@ -55,8 +56,8 @@ module _ {Tape : Type 0} (deepOf : Tape → ℕ) (sourceOf : Tape → Source) (n
     → Lasts (sourceOf τ .table) (sourceOf (next τ) .table)) where
   -- y: after the size and its LF, all of which the output holds
   module _ (hash : List ℕ → ℕ) (op : List Bool → Bool) (size : ℕ) (fs : List (Feed Tape)) (xs : List Input) (μ : List (List ℕ))
-      (t : List (List ℕ)) (out : List ℕ) (y : Sent) (small : n ≤ 32) (few : size ≤ tableLimit)
-      (stands : Stands n size out (head size) t (y .output) (penAfter y) start) (room : length (y .waits) ≡ 2400)
+      (t : List (List ℕ)) (out : List ℕ) (y : Sent) (small : n ≤ optionLimit) (few : size ≤ tableLimit)
+      (stands : Stands n size out (head size) t (y .output) (penAfter y) start) (room : length (y .waits) ≡ waitingLimit)
       (e : c ≡ runCovered n xs) (some : 0 < c) (fed : AllFed deepOf sourceOf next n Reads 1 n 0 fs xs)
       (seat : AllSeated deepOf sourceOf next 1 fs) (none : (p j : ℕ) → getD (getD μ p []) j 0 ≡ 0) where
     -- what the walk begins with
@@ -78,8 +79,8 @@ module _ {Tape : Type 0} (deepOf : Tape → ℕ) (sourceOf : Tape → Source) (n
     mem = memory-none n op (tapeTables deepOf sourceOf next (tapesOf fs)) start μ none
 
     -- the bytes for what waits suffice
-    wide : m .count + 70 * n + 144 ≤ length (m .bytes)
-    wide = omega (arith, ready .count, tilde-length (joint op xs 0), ready .room, room, small)
+    wide : m .count + levelRoom * n + endRoom ≤ length (m .bytes)
+    wide = omega (arith, ready .count, tilde-length (joint op xs 0), ready .room, room, waiting-room n small)
 
     -- all words are covered
     whole-wrote : c ≡ 2 ^ n → Wrote out (runOf op n size xs) (doneIn (m .count) (r .walked))
@@ -125,7 +126,7 @@ module _ {Tape : Type 0} (deepOf : Tape → ℕ) (sourceOf : Tape → Source) (n
   -- the engine leaves in the output what the text of the run leaves there
   pub merge-wrote : (hash : List ℕ → ℕ) (op : List Bool → Bool) (size : ℕ) (fs : List (Feed Tape)) (xs : List Input)
       (μ : List (List ℕ)) (t : List (List ℕ)) (out w : List ℕ)
-      → n ≤ 32 → size ≤ tableLimit → Wide t → tableLimit ≤ length t → ((i k : ℕ) → cell t i k ≡ 0) → length w ≡ 2400
+      → n ≤ optionLimit → size ≤ tableLimit → Wide t → tableLimit ≤ length t → ((i k : ℕ) → cell t i k ≡ 0) → length w ≡ waitingLimit
       → c ≡ runCovered n xs → ((p j : ℕ) → getD (getD μ p []) j 0 ≡ 0)
       → (0 < c → AllFed deepOf sourceOf next n Reads 1 n 0 fs xs × AllSeated deepOf sourceOf next 1 fs)
       → Wrote out (runOf op n size xs) (mergeIn deepOf sourceOf next hash op n c size fs μ t out w)

@@ -2,11 +2,30 @@
 -- Definitions only; PendingLaws and Meeting tie them to what the walk of Online sends. Assumes nothing.
 use mathlib.Core.Bool.{Bool, cond}
 use mathlib.Core.List.{List, [], _∷_, _++_}
-use Prim.Native.Nat.{ℕ, _+_, _-_, min}
+use Prim.Native.Nat.{ℕ, _+_, _-_, _*_, min}
 use lib.Dec.{ltb}
 use lib.ListN.{length, set, replicate}
+use Rattle.reading.specs.Limits.{optionLimit, digitLimit}
 use Rattle.reading.specs.Bytes.{opener, closer, blank}
 use Rattle.writing.specs.Texts.{decimal, storing}
+
+-- ---- How much waits --------------------------------------------------------------------------
+
+-- the bytes of a part: a number inside as many brackets as there are options
+abbrev pub partRoom : ℕ
+partRoom = 2 * optionLimit + digitLimit
+
+-- of an open node: its bracket, its first part and `~`
+abbrev pub levelRoom : ℕ
+levelRoom = partRoom + 2
+
+-- of a node that ends: both parts, and its number
+abbrev pub endRoom : ℕ
+endRoom = 2 * levelRoom + digitLimit
+
+-- of all that waits, in round numbers
+abbrev pub waitingLimit : ℕ
+waitingLimit = 2400
 
 -- ---- What waits ------------------------------------------------------------------------------
 

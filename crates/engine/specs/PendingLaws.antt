@@ -4,19 +4,21 @@ use mathlib.Core.Path.{_≡_, refl, sym, ap, _∙_}
 use mathlib.Core.Logic.{⊎-elim}
 use mathlib.Core.Bool.{Bool, true, false, cond}
 use mathlib.Core.List.{List, [], _∷_, _++_, append-nil}
-use Prim.Native.Nat.{ℕ, zero, suc, _+_, _-_, _/_, _%_, _≤_, _<_}
+use Prim.Native.Nat.{ℕ, zero, suc, _+_, _-_, _*_, _/_, _%_, _≤_, _<_, _^_}
 use native.Mathlib.Omega.{arith}
 use lib.Dec.{ltb}
 use lib.ListN.{length, getD, set, take, drop, replicate, length-set, length-append}
 use lib.Seq.{drop-cons, append-snoc, set-append-seam, set-out, take-set-le, take-suc-set}
 use borrow.Author.Tests.{lt-ltb, le-ltb}
 use Rattle.lists.specs.Lists.{decide-le}
+use Rattle.reading.specs.Limits.{optionLimit, tableLimit, digitLimit}
+use Rattle.reading.specs.LimitLaws.{few-digits}
 use Rattle.reading.specs.Bytes.{opener, closer, digitZero}
 use Rattle.writing.specs.Texts.{digits, decimal}
 use Rattle.writing.specs.Run.{writtenBytes, outputAfter}
 use Rattle.writing.specs.Output.{written-length, written-all, full-written, full-output, output-length}
 use Rattle.writing.specs.Shape.{opens, closes}
-use Rattle.engine.specs.Pending.{Waiting, pushAll, sentTo, writtenTo}
+use Rattle.engine.specs.Pending.{Waiting, pushAll, sentTo, writtenTo, levelRoom, endRoom, waitingLimit}
 
 -- ---- What waits ------------------------------------------------------------------------------
 
@@ -138,12 +140,18 @@ decimal-next k n h = ⊎-elim
     (λ (l : k < 10). omega (arith, ap length (decimal-small k l)))
     (decide-le 10 k)
 
--- four digits are enough below ten thousand
-pub decimal-length : (k : ℕ) → k < 10000 → length (decimal k) ≤ 4
-decimal-length k h =
-    let low : k / 10 / 10 / 10 < 10 = omega arith in
-    let one : length (decimal (k / 10 / 10 / 10)) ≤ 1 = omega (arith, ap length (decimal-small (k / 10 / 10 / 10) low)) in
-    decimal-next k 3 (decimal-next (k / 10) 2 (decimal-next (k / 10 / 10) 1 one))
+-- below a power of ten
+decimal-length : (d k : ℕ) → k < 10 ^ suc d → length (decimal k) ≤ suc d
+decimal-length zero k h = omega (arith, ap length (decimal-small k (omega (arith, h))))
+decimal-length (suc d) k h = decimal-next k (suc d) (decimal-length d (k / 10) (omega (arith, h)))
+
+-- a number that a table may have
+pub number-length : (k : ℕ) → k ≤ tableLimit → length (decimal k) ≤ digitLimit
+number-length k h = decimal-length (digitLimit - 1) k (omega (arith, h, few-digits))
+
+-- what waits of n options, with the `~` before it, has room
+pub waiting-room : (n : ℕ) → n ≤ optionLimit → levelRoom * n + endRoom + 1 ≤ waitingLimit
+waiting-room n h = omega (arith, h)
 
 -- ---- Brackets --------------------------------------------------------------------------------
 

@@ -5,13 +5,15 @@ use mathlib.Core.Logic.{_≢_}
 use mathlib.Core.Bool.{Bool, true, false, cond, _&&_}
 use mathlib.Core.List.{List, [], _∷_, _++_}
 use Prim.Native.Nat.{ℕ, zero, suc, _+_, _-_, _*_, _/_, _%_, _^_, _≤_, _<_, min}
-use native.Mathlib.Nat.{one-mul}
 use native.Mathlib.Omega.{arith}
 use lib.Dec.{eqb, ltb}
 use lib.ListN.{length, getD, set, take, replicate, length-take, List·getD-eq-default}
-use lib.Pow.{pow-mono, shl-exact, shr-le}
+use lib.Pow.{pow-mono, shr-le}
 use lib.Seq.{set-out, take-nil, take-suc, length-take-le}
 use borrow.Author.Tests.{lt-ltb, le-ltb, eq-eqb, ne-eqb}
+use Rattle.lists.specs.Powers.{shifted}
+use Rattle.reading.specs.Limits.{truthTableMost, truthLimit}
+use Rattle.reading.specs.LimitLaws.{few-options, truth-options}
 use Rattle.reading.specs.Bytes.{opener, closer, colon, blank, digitZero}
 use Rattle.writing.specs.Texts.{decimal, storing}
 use Rattle.writing.specs.Calls.{truthAt}
@@ -159,16 +161,9 @@ truth-past v at h =
     let e : 0 / 2 ^ (at % 8) ≡ 0 = omega (arith, shr-le 0 (at % 8)) in
     sym (ap (λ (x : ℕ). eqb (x / 2 ^ (at % 8) % 2) 1) (List·getD-eq-default v 0 h) ∙ ap (λ (x : ℕ). eqb (x % 2) 1) e)
 
--- 2 ^ d words: a shift in 64 bits gives their count
-pub shift-words : (d : ℕ) → d ≤ 32 → 1 * 2 ^ d % 18446744073709551616 ≡ 2 ^ d
-shift-words d h = shl-exact {a = 1} 1 d 64 (omega arith) (omega (arith, h)) ∙ one-mul (2 ^ d)
-
--- for at most 16 options, and their bytes are few
-pub few-words : (d : ℕ) → d ≤ 16 → 1 * 2 ^ d % 18446744073709551616 ≡ 2 ^ d
-few-words d h = shift-words d (omega (arith, h))
-
-pub few-bytes : (d : ℕ) → d ≤ 16 → 1 * 2 ^ d % 18446744073709551616 / 8 ≤ 65536
-few-bytes d h = let e : 2 ^ d ≤ 65536 = pow-mono h in omega (arith, few-words d h, e)
+-- the words of a part of a truth table, as code shifts to them: their bytes are few
+pub few-bytes : (d : ℕ) → d ≤ truthTableMost → 1 * 2 ^ d % 18446744073709551616 / 8 ≤ truthLimit
+few-bytes d h = let e : 2 ^ d ≤ truthLimit = pow-mono h in omega (arith, shifted d (omega (arith, h, truth-options, few-options)), e)
 
 -- bytes from place q on, n of them: the first is another, or it is b
 same-other : (v : List ℕ) (b q n : ℕ) → 0 < n → getD v q 0 ≢ b → sameBytes v b q n ≡ false

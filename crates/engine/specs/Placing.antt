@@ -11,6 +11,7 @@ use lib.ListN.{length, set, length-set}
 use borrow.Author.Tests.{eqb-true, eqb-false, ne-eqb, lt-ltb, ltb-true, ltb-false}
 use Rattle.lists.specs.Lists.{bit, decide-eq, decide-le, has}
 use Rattle.reading.specs.Limits.{tableLimit}
+use Rattle.reading.specs.LimitLaws.{few-parents}
 use Rattle.reading.specs.Nodes.{Node, newNode, noNode, node, stamp}
 use Rattle.reading.specs.ParentCounts.{edges, bit-most, parents-most}
 use Rattle.writing.specs.UniqueTable.{State, without, freed, placed, stored}
@@ -179,13 +180,13 @@ module _ (t : List (List ℕ)) (y f l k i a b : ℕ) (v : Bool) (s : State) (h :
   -- the counts with the first child's new parent, and with the second's
   count₁ : (c : ℕ) → 0 < c → cell (e₁ .table) 5 c ≡ cell t 5 c + bit (eqb a c)
   count₁ c r =
-      adopt-count t f l a (h .wide) (omega (arith, children-known .0, h .few, h .long)) c r (omega (arith, count-most c r))
+      adopt-count t f l a (h .wide) (omega (arith, children-known .0, h .few, h .long)) c r (omega (arith, count-most c r, few-parents))
 
   count₂ : (c : ℕ) → 0 < c → cell (e₂ .table) 5 c ≡ cell t 5 c + edges c x
   count₂ c r =
       adopt-count (e₁ .table) (e₁ .first) (e₁ .last) b (stays₁ .wide (h .wide))
       (omega (arith, children-known .1, h .few, h .long, stays₁ .long)) c r
-      (omega (arith, count-most c r, count₁ c r, bit-most (eqb a c))) ∙ omega (arith, count₁ c r)
+      (omega (arith, count-most c r, few-parents, count₁ c r, bit-most (eqb a c))) ∙ omega (arith, count₁ c r)
 
   -- while k is in no place, those in the queue are those with no parent
   told : (c : ℕ) → 0 < c → c < length (s .table) → c ≢ k → has c (freed s k) ≡ eqb (cell t 5 c) 0

@@ -5,6 +5,7 @@ use mathlib.Core.List.{List, [], _∷_, _++_}
 use Prim.Native.Nat.{ℕ, zero, suc, _+_, _-_}
 use lib.ListN.{take, replicate}
 use Rattle.lists.specs.Lists.{differ}
+use Rattle.reading.specs.Limits.{tableLimit}
 use Rattle.reading.specs.Bytes.{opener, text}
 use Rattle.reading.specs.Nodes.{Node, newNode, noNode}
 use Rattle.writing.specs.Texts.{tildeIf, digits, decimal}
@@ -76,7 +77,7 @@ both (b ∷ bs) = b && both bs
 
 -- records, output, memo
 abbrev records : List (List ℕ)
-records = replicate 1024 (replicate 12 0)
+records = replicate tableLimit (replicate 12 0)
 
 abbrev rows : ℕ → List (List ℕ)
 rows c = replicate c (replicate 9 0)

@@ -11,7 +11,7 @@ use borrow.Author.Tests.{eqb-true, eqb-false, not-true}
 use Rattle.lists.specs.Lists.{differ, and-l, and-r, pow-pos}
 use Rattle.reading.specs.Bytes.{opener}
 use Rattle.reading.specs.Nodes.{terminal, entry, temporary, Node, stamp}
-use Rattle.reading.specs.Limits.{tableLimit}
+use Rattle.reading.specs.Limits.{optionLimit, tableLimit}
 use Rattle.writing.specs.UniqueTable.{State}
 use Rattle.writing.specs.Texts.{tildeIf}
 use Rattle.writing.specs.ConstantPart.{part-complement, part-constant}
@@ -20,7 +20,7 @@ use Rattle.writing.specs.Normal.{Normal}
 use Rattle.writing.specs.Meaning.{Is}
 use Rattle.writing.specs.Flow.{flow}
 use Rattle.writing.specs.Online.{Went, waiting, online, went, online-went}
-use Rattle.engine.specs.Pending.{Waiting, pushAll}
+use Rattle.engine.specs.Pending.{Waiting, pushAll, levelRoom, endRoom}
 use Rattle.engine.specs.Engine.{Half, Pen, Walked, constantHalf, numberHalf, kept, meetIn, secondIn}
 use Rattle.engine.specs.Leading.{skippedBy, Came, Stands, Leads}
 use Rattle.engine.specs.Again.{still-leads, online-means, repeat-leads}
@@ -106,7 +106,7 @@ pub record Recalls (n : ℕ) (op : List Bool → Bool) (size i m : ℕ) (o T p w
 abbrev RecallsAll : (List ℕ → ℕ) → (List Bool → Bool) → ℕ → ℕ → ℕ → ℕ → List ℕ → Type 0
 RecallsAll hash op n size d i o =
     (at m : ℕ) (T p w : List ℕ) (xs : List Source) (gs : List (ℕ → Bool)) (f : ℕ → Bool) (μ : List (List ℕ)) (t : List (List ℕ))
-    (out : List ℕ) (pen : Pen) (s : State) → Stands n size o T t out pen s → take m w ≡ p → m + 70 * d + 144 ≤ length w
+    (out : List ℕ) (pen : Pen) (s : State) → Stands n size o T t out pen s → take m w ≡ p → m + levelRoom * d + endRoom ≤ length w
     → ((k : ℕ) → stamp (s .table) k + 2 ^ d ≤ 4294967296) → SitsAll i xs → ShowsAll xs d i gs → Makes op d at gs f
     → Memory n op (tablesOf xs) s μ
     → Recalls n op size i m o T p w (tablesOf xs) (recallIn hash op size d i m xs μ t out w pen) (online size d i at p f s)
@@ -124,9 +124,9 @@ second-goes size i m v a b e = go (b .pen .full) refl e
 -- ---- From the halves to the part -------------------------------------------------------------
 
 module _ (hash : List ℕ → ℕ) (op : List Bool → Bool) (n size d i : ℕ) (o : List ℕ) (real : 0 < i) (deep : i + suc d ≡ suc n)
-    (small : n ≤ 32) (few : size ≤ tableLimit) (half : RecallsAll hash op n size d (suc i) o) (at m : ℕ) (T p w : List ℕ)
+    (small : n ≤ optionLimit) (few : size ≤ tableLimit) (half : RecallsAll hash op n size d (suc i) o) (at m : ℕ) (T p w : List ℕ)
     (xs : List Source) (gs : List (ℕ → Bool)) (f : ℕ → Bool) (μ : List (List ℕ)) (t : List (List ℕ)) (out : List ℕ) (pen : Pen)
-    (s : State) (st : Stands n size o T t out pen s) (here : take m w ≡ p) (room : m + 70 * suc d + 144 ≤ length w)
+    (s : State) (st : Stands n size o T t out pen s) (here : take m w ≡ p) (room : m + levelRoom * suc d + endRoom ≤ length w)
     (young : (k : ℕ) → stamp (s .table) k + 2 ^ suc d ≤ 4294967296) (sit : SitsAll i xs) (sh : ShowsAll xs (suc d) i gs)
     (mk : Makes op (suc d) at gs f) (mem : Memory n op (tablesOf xs) s μ) where
   -- the next level
@@ -209,7 +209,7 @@ module _ (hash : List ℕ → ℕ) (op : List Bool → Bool) (n size d i : ℕ) 
   abbrev Second : Bool → Recalled → Type 0
   Second u r = Recalls n op size (suc i) (mid u .count) o (T ++ x .sent) p₂ (mid u .bytes) ts r y
 
-  long : m + 214 ≤ length w
+  long : m + levelRoom + endRoom ≤ length w
   long = omega (arith, room)
 
   -- its words
@@ -228,7 +228,7 @@ module _ (hash : List ℕ → ℕ) (op : List Bool → Bool) (n size d i : ℕ) 
   -- after the first half, where not more was sent than the output holds
   module _ (g : a .walked .pen .full ≡ false) where
     -- what waits
-    before : Ready w (m + 70) p₂ (mid turn)
+    before : Ready w (m + levelRoom) p₂ (mid turn)
     before = second-ready n size d i at m o T p w f s (st .sound) (st .normal) real deep small here long (a .walked) (first .leads) g
 
     -- the edge
@@ -365,7 +365,7 @@ module _ (hash : List ℕ → ℕ) (op : List Bool → Bool) (n size d i : ℕ) 
 
 -- ---- Each part -------------------------------------------------------------------------------
 
-recalls : (hash : List ℕ → ℕ) (op : List Bool → Bool) (n size d i : ℕ) (o : List ℕ) → 0 < i → i + d ≡ suc n → n ≤ 32
+recalls : (hash : List ℕ → ℕ) (op : List Bool → Bool) (n size d i : ℕ) (o : List ℕ) → 0 < i → i + d ≡ suc n → n ≤ optionLimit
     → size ≤ tableLimit → RecallsAll hash op n size d i o
 unfolding recallIn online
 recalls hash op n size zero i o real deep small few = λ at m T p w xs gs f μ t out pen s st here room young sit sh mk mem. record {
@@ -382,8 +382,8 @@ recalls hash op n size (suc d) i o real deep small few =
 -- the walk over stored nodes leads to what the walk of Online knows, and its memo stays true
 pub recall-leads : (hash : List ℕ → ℕ) (op : List Bool → Bool) (n size d i at m : ℕ) (o T p w : List ℕ) (xs : List Source)
     (gs : List (ℕ → Bool)) (f : ℕ → Bool) (μ : List (List ℕ)) (t : List (List ℕ)) (out : List ℕ) (pen : Pen) (s : State)
-    → 0 < i → i + d ≡ suc n → n ≤ 32 → size ≤ tableLimit → Stands n size o T t out pen s → take m w ≡ p
-    → m + 70 * d + 144 ≤ length w → ((k : ℕ) → stamp (s .table) k + 2 ^ d ≤ 4294967296) → SitsAll i xs → ShowsAll xs d i gs
+    → 0 < i → i + d ≡ suc n → n ≤ optionLimit → size ≤ tableLimit → Stands n size o T t out pen s → take m w ≡ p
+    → m + levelRoom * d + endRoom ≤ length w → ((k : ℕ) → stamp (s .table) k + 2 ^ d ≤ 4294967296) → SitsAll i xs → ShowsAll xs d i gs
     → Makes op d at gs f → Memory n op (tablesOf xs) s μ
     → Recalls n op size i m o T p w (tablesOf xs) (recallIn hash op size d i m xs μ t out w pen) (online size d i at p f s)
 recall-leads hash op n size d i at m o T p w xs gs f μ t out pen s real deep small few =

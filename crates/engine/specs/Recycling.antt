@@ -8,7 +8,7 @@ use lib.Dec.{eqb, ltb}
 use Rattle.reading.specs.Limits.{tableLimit}
 use Rattle.writing.specs.Links.{stops}
 use Rattle.engine.specs.Cells.{cell, putCell}
-use Rattle.engine.specs.Hashing.{stir}
+use Rattle.engine.specs.Hashing.{stir, numberSpan, levelSpan}
 
 -- ---- Numbers linked both ways ----------------------------------------------------------------
 
@@ -40,9 +40,13 @@ freeOf t x a b =
 
 -- ---- Looking up ------------------------------------------------------------------------------
 
--- the bucket of a node with this level, these children, this complement: 1 .. tableLimit
+-- a node's level, children and complement, mixed
+abbrev pub mixOf : ℕ → ℕ → ℕ → ℕ → ℕ
+mixOf i a b c = stir 2246822519 (stir 2654435769 (((a * numberSpan + b) * levelSpan + i) * 2 + c))
+
+-- its bucket: 1 .. tableLimit
 abbrev pub bucketOf : ℕ → ℕ → ℕ → ℕ → ℕ
-bucketOf i a b c = stir 2246822519 (stir 2654435769 (((a * 2048 + b) * 64 + i) * 2 + c)) % tableLimit + 1
+bucketOf i a b c = mixOf i a b c % tableLimit + 1
 
 -- that of the node which has number k
 abbrev pub bucketAt : List (List ℕ) → ℕ → ℕ

@@ -14,7 +14,8 @@ use borrow.Author.Tests.{ltb-true, ltb-false, lt-ltb}
 use Rattle.lists.specs.Prefixes.{Begins}
 use Rattle.reading.specs.Bytes.{dot, lineFeed}
 use Rattle.reading.specs.Nodes.{stamp}
-use Rattle.reading.specs.Limits.{tableLimit}
+use Rattle.reading.specs.Limits.{optionLimit, tableLimit, truthTableMost, digitLimit}
+use Rattle.reading.specs.LimitLaws.{truth-options, few-truths}
 use Rattle.writing.specs.UniqueTable.{start}
 use Rattle.writing.specs.Texts.{decimal, tildeIf}
 use Rattle.writing.specs.Run.{head, writtenBytes, outputAfter}
@@ -26,8 +27,8 @@ use Rattle.writing.specs.Queue.{start-queued}
 use Rattle.writing.specs.Online.{Went, waiting, online}
 use Rattle.writing.specs.OnlineRuns.{run-online}
 use Rattle.engine.specs.Cells.{cell, Wide}
-use Rattle.engine.specs.Pending.{Waiting, pushAll, sentTo, writtenTo}
-use Rattle.engine.specs.PendingLaws.{decimal-length, sent-output, sent-written, sent-full}
+use Rattle.engine.specs.Pending.{Waiting, pushAll, sentTo, writtenTo, partRoom, waitingLimit}
+use Rattle.engine.specs.PendingLaws.{number-length, waiting-room, sent-output, sent-written, sent-full}
 use Rattle.engine.specs.Engine.{Walked, Sent, sendText, walkIn, penAfter, endIn, doneIn, streamIn}
 use Rattle.engine.specs.Keeping.{keeps-start}
 use Rattle.engine.specs.Leading.{Stands, Leads}
@@ -77,7 +78,7 @@ none-output o = ap (λ (l : List ℕ). l ++ drop (length l) o) (sym (take-nil (l
 -- ---- The whole stream ------------------------------------------------------------------------
 
 -- after the walk, what waits of the outermost node and the point
-pub done-wrote : (n size m : ℕ) (o T p w y : List ℕ) (r : Walked) (x : Went) → n ≤ 32 → Fits n 1 x → m + 69 ≤ length w
+pub done-wrote : (n size m : ℕ) (o T p w y : List ℕ) (r : Walked) (x : Went) → n ≤ optionLimit → Fits n 1 x → m + partRoom + 1 ≤ length w
     → y ≡ T ++ ((x .sent ++ waiting p 1 x) ++ (dot ∷ [])) → Leads n size 1 m o T p w r x → Wrote o y (doneIn m r)
 done-wrote n size m o T p w y r x small fits room e h = go (r .pen .full) refl
   where
@@ -108,9 +109,9 @@ done-wrote n size m o T p w y r x small fits room e h = go (r .pen .full) refl
         (a .stands .output) (a .stands .written) (a .stands .holds) (ready .text))
 
 -- the size and its LF are five bytes at most
-pub head-length : (size : ℕ) → size ≤ tableLimit → length (head size) ≤ 5
+pub head-length : (size : ℕ) → size ≤ tableLimit → length (head size) ≤ digitLimit + 1
 head-length size few =
-    omega (arith, few, length-append (decimal size) (lineFeed ∷ []), decimal-length size (omega (arith, few)))
+    omega (arith, few, length-append (decimal size) (lineFeed ∷ []), number-length size few)
 
 -- the writer stands at the start, after the size and its LF
 pub start-stands : (n size : ℕ) (o : List ℕ) (t : List (List ℕ)) (x : Sent) → Wide t → tableLimit ≤ length t
@@ -136,8 +137,8 @@ start-stamp zero = refl
 start-stamp (suc k) = refl
 
 -- so stamps stay small
-start-young : (n : ℕ) → n ≤ 16 → (k : ℕ) → stamp (start .table) k + 2 ^ n ≤ 4294967295
-start-young n h k = omega (arith, start-stamp k, pow-mono {i = n} {j = 16} h)
+start-young : (n : ℕ) → n ≤ truthTableMost → (k : ℕ) → stamp (start .table) k + 2 ^ n ≤ 4294967295
+start-young n h k = omega (arith, start-stamp k, pow-mono {i = n} {j = truthTableMost} h, few-truths)
 
 -- the text of a truth table, as the walk sends it
 write-online : (n size : ℕ) (v : List ℕ) →
@@ -148,12 +149,15 @@ unfolding writeText
 write-online n size v = run-online n size (truthAt v)
 
 -- the engine leaves in the output what the text leaves there
-stream-wrote : (n size : ℕ) (v : List ℕ) (t : List (List ℕ)) (out w : List ℕ) → n ≤ 16 → size ≤ tableLimit → Wide t
-    → tableLimit ≤ length t → ((i k : ℕ) → cell t i k ≡ 0) → length w ≡ 2400
+stream-wrote : (n size : ℕ) (v : List ℕ) (t : List (List ℕ)) (out w : List ℕ) → n ≤ truthTableMost → size ≤ tableLimit → Wide t
+    → tableLimit ≤ length t → ((i k : ℕ) → cell t i k ≡ 0) → length w ≡ waitingLimit
     → Wrote out (writeText n size v) (streamIn n size v t out w)
 unfolding streamIn
 stream-wrote n size v t out w small few wide long zeros room = go (x .full) refl
   where
+    options : n ≤ optionLimit
+    options = omega (arith, small, truth-options)
+
     a : Waiting
     a = pushAll w 0 (head size)
 
@@ -191,20 +195,20 @@ stream-wrote n size v t out w small few wide long zeros room = go (x .full) refl
         (walkIn v size n 1 at (m .count) t (x .output) (m .bytes) (penAfter x)) (online size n 1 at p (truthAt v) start))
         (zero-mul (2 ^ n))
         (walk-leads v n size n 1 0 (m .count) out (head size) p (m .bytes) t (x .output) (penAfter x) start (omega arith)
-        (omega arith) (omega (arith, small)) few (start-stands n size out t x wide long zeros sent f) (begun .text)
-        (omega (arith, begun .count, tilde-length (truthAt v 0), begun .room, ready .room, room, small)) (start-young n small))
+        (omega arith) options few (start-stands n size out t x wide long zeros sent f) (begun .text)
+        (omega (arith, begun .count, tilde-length (truthAt v 0), begun .room, ready .room, room, waiting-room n options)) (start-young n small))
 
     go : (u : Bool) → x .full ≡ u → Wrote out (writeText n size v) (cond u x (doneIn (m .count) r))
     go true f = full-wrote out (head size) (writeText n size v) x (_, write-online n size v) f sent
     go false f =
-        done-wrote n size (m .count) out (head size) p (m .bytes) (writeText n size v) r y (omega (arith, small))
+        done-wrote n size (m .count) out (head size) p (m .bytes) (writeText n size v) r y options
         (online-fits n size n 1 0 p (truthAt v) start start-sound (start-normal n) (omega arith) (omega arith))
-        (omega (arith, begun .count, tilde-length (truthAt v 0), begun .room, ready .room, room)) (write-online n size v)
-        (leads f)
+        (omega (arith, begun .count, tilde-length (truthAt v 0), begun .room, ready .room, room, waiting-room n options))
+        (write-online n size v) (leads f)
 
 -- how much is written, whether more was sent than the output holds, and the output
-pub stream-text : (n size : ℕ) (v : List ℕ) (t : List (List ℕ)) (out w : List ℕ) → n ≤ 16 → size ≤ tableLimit → Wide t
-    → tableLimit ≤ length t → ((i k : ℕ) → cell t i k ≡ 0) → length w ≡ 2400 →
+pub stream-text : (n size : ℕ) (v : List ℕ) (t : List (List ℕ)) (out w : List ℕ) → n ≤ truthTableMost → size ≤ tableLimit → Wide t
+    → tableLimit ≤ length t → ((i k : ℕ) → cell t i k ≡ 0) → length w ≡ waitingLimit →
     let x = streamIn n size v t out w in
     let y = writeText n size v in
     (x .written ≡ length (writtenBytes y out)) × (x .full ≡ ltb (length out) (length y)) × (x .output ≡ outputAfter y out)

@@ -14,7 +14,7 @@ use Rattle.lists.specs.Lists.{differ, and-l, and-r}
 use Rattle.lists.specs.Prefixes.{Begins, begins-refl, begins-trans, begins-left, begins-append}
 use Rattle.reading.specs.Bytes.{opener, closer}
 use Rattle.reading.specs.Nodes.{Ref, terminal, entry, temporary, stamp}
-use Rattle.reading.specs.Limits.{tableLimit}
+use Rattle.reading.specs.Limits.{optionLimit, tableLimit}
 use Rattle.writing.specs.UniqueTable.{State}
 use Rattle.writing.specs.Rules.{Done, bothTerminal, sameEntry, halfBarred, found, newNumber, byRule, meet}
 use Rattle.writing.specs.Texts.{tildeIf, storing}
@@ -27,7 +27,7 @@ use Rattle.writing.specs.Steps.{plain, Halves, bothTerminal-plain, sameEntry-pl
 use Rattle.writing.specs.Normal.{Normal, part-deep}
 use Rattle.writing.specs.Flow.{flow, plain-flow, waits}
 use Rattle.writing.specs.Online.{Went, bare, waiting, gapOf, joinBy, online, went, online-went}
-use Rattle.engine.specs.Pending.{Waiting, pushAll, waitIn}
+use Rattle.engine.specs.Pending.{Waiting, pushAll, waitIn, partRoom, levelRoom, endRoom}
 use Rattle.engine.specs.PendingLaws.{push-length, push-count, push-take}
 use Rattle.engine.specs.Engine.{Pen, Walked, constantHalf, numberHalf, kept, meetIn, allBytes, repeats, againHalf, secondIn, walkIn}
 use Rattle.engine.specs.Blocks.{block-no, block-yes, block-repeats}
@@ -187,8 +187,8 @@ push-ready m w p z e h =
     }
 
 -- after a part there waits in the engine what waits in the walk, and then one byte at most
-pub part-ready : (n size i m : ℕ) (o T p z : List ℕ) (r : Walked) (x : Went) → After n size i m o T p r x → Fits n i x → n ≤ 32
-    → length z ≤ 1 → m + 69 ≤ length (r .waits) → Ready (r .waits) (m + 69) (waiting p i x ++ z) (partIn m z r)
+pub part-ready : (n size i m : ℕ) (o T p z : List ℕ) (r : Walked) (x : Went) → After n size i m o T p r x → Fits n i x → n ≤ optionLimit
+    → length z ≤ 1 → m + partRoom + 1 ≤ length (r .waits) → Ready (r .waits) (m + partRoom + 1) (waiting p i x ++ z) (partIn m z r)
 part-ready n size i m o T p z r x h fits small one long =
     let e = push-ready (q .count) (q .bytes) (waiting p i x) z (d .text)
     (omega (arith, d .count, least (x .wrote), one, d .room, long)) in
@@ -228,7 +228,7 @@ tilde-length true = omega arith
 tilde-length false = omega arith
 
 module _ (n size d i at m : ℕ) (o T p w : List ℕ) (f : ℕ → Bool) (s : State) (sound : Sound s) (normal : Normal n s)
-    (real : 0 < i) (deep : i + suc d ≡ suc n) (small : n ≤ 32) (here : take m w ≡ p) (room : m + 214 ≤ length w) where
+    (real : 0 < i) (deep : i + suc d ≡ suc n) (small : n ≤ optionLimit) (here : take m w ≡ p) (room : m + levelRoom + endRoom ≤ length w) where
   -- what waits before the first half
   abbrev p₁ : List ℕ
   p₁ = p ++ (opener ∷ [])
@@ -267,7 +267,7 @@ module _ (n size d i at m : ℕ) (o T p w : List ℕ) (f : ℕ → Bool) (s : St
 
   -- what waits before the second half
   pub second-ready : (a : Walked) → First a → a .pen .full ≡ false
-      → Ready w (m + 70) p₂ (partIn (opened .count) (tildeIf turn) a)
+      → Ready w (m + levelRoom) p₂ (partIn (opened .count) (tildeIf turn) a)
   second-ready a h g =
       let c = push-ready m w p (opener ∷ []) here (omega (arith, room)) in
       let r = part-ready n size (suc i) (opened .count) o T p₁ (tildeIf turn) a former (h .after g)
@@ -393,12 +393,12 @@ second-at c d at e =
 abbrev Walks : List ℕ → ℕ → ℕ → ℕ → ℕ → List ℕ → Type 0
 Walks v n size d i o =
     (c at m : ℕ) (T p w : List ℕ) (t : List (List ℕ)) (out : List ℕ) (pen : Pen) (s : State) → at ≡ c * 2 ^ d
-    → Stands n size o T t out pen s → take m w ≡ p → m + 70 * d + 144 ≤ length w
+    → Stands n size o T t out pen s → take m w ≡ p → m + levelRoom * d + endRoom ≤ length w
     → ((k : ℕ) → stamp (s .table) k + 2 ^ d ≤ 4294967295)
     → Leads n size i m o T p w (walkIn v size d i at m t out w pen) (online size d i at p (truthAt v) s)
 
 -- from the halves to the part
-walk-step : (v : List ℕ) (n size d i : ℕ) (o : List ℕ) → 0 < i → i + suc d ≡ suc n → n ≤ 32 → size ≤ tableLimit
+walk-step : (v : List ℕ) (n size d i : ℕ) (o : List ℕ) → 0 < i → i + suc d ≡ suc n → n ≤ optionLimit → size ≤ tableLimit
     → Walks v n size d (suc i) o → Walks v n size (suc d) i o
 unfolding walkIn
 walk-step v n size d i o real deep small few half c at m T p w t out pen s z st here room young =
@@ -459,11 +459,11 @@ walk-step v n size d i o real deep small few half c at m T p w t out pen s z st 
     Second : Bool → Walked → Type 0
     Second u r = Leads n size (suc i) (mid u .count) o (T ++ x .sent) p₂ (mid u .bytes) r y
 
-    long : m + 214 ≤ length w
+    long : m + levelRoom + endRoom ≤ length w
     long = omega (arith, room)
 
     -- what waits before it
-    before : a .pen .full ≡ false → Ready w (m + 70) p₂ (mid turn)
+    before : a .pen .full ≡ false → Ready w (m + levelRoom) p₂ (mid turn)
     before g = second-ready n size d i at m o T p w f s (st .sound) (st .normal) real deep small here long a first g
 
     -- what it leads to if it is walked
@@ -524,7 +524,7 @@ walk-step v n size d i o real deep small few half c at m T p w t out pen s z st 
         (second (againHalf v turned d at (at + 2 ^ d) (a .half)) refl)
 
 -- each part
-walks : (v : List ℕ) (n size d i : ℕ) (o : List ℕ) → 0 < i → i + d ≡ suc n → n ≤ 32 → size ≤ tableLimit → Walks v n size d i o
+walks : (v : List ℕ) (n size d i : ℕ) (o : List ℕ) → 0 < i → i + d ≡ suc n → n ≤ optionLimit → size ≤ tableLimit → Walks v n size d i o
 unfolding walkIn online
 walks v n size zero i o real deep small few = λ c at m T p w t out pen s z st here room young.
     constant-leads n size i m o T p w t out pen s (truthAt v at) st here
@@ -533,8 +533,8 @@ walks v n size (suc d) i o real deep small few =
 
 -- the walk over a truth table leads to what the walk of Online knows
 pub walk-leads : (v : List ℕ) (n size d i c m : ℕ) (o T p w : List ℕ) (t : List (List ℕ)) (out : List ℕ) (pen : Pen) (s : State)
-    → 0 < i → i + d ≡ suc n → n ≤ 32 → size ≤ tableLimit → Stands n size o T t out pen s → take m w ≡ p
-    → m + 70 * d + 144 ≤ length w → ((k : ℕ) → stamp (s .table) k + 2 ^ d ≤ 4294967295)
+    → 0 < i → i + d ≡ suc n → n ≤ optionLimit → size ≤ tableLimit → Stands n size o T t out pen s → take m w ≡ p
+    → m + levelRoom * d + endRoom ≤ length w → ((k : ℕ) → stamp (s .table) k + 2 ^ d ≤ 4294967295)
     → Leads n size i m o T p w (walkIn v size d i (c * 2 ^ d) m t out w pen) (online size d i (c * 2 ^ d) p (truthAt v) s)
 walk-leads v n size d i c m o T p w t out pen s real deep small few =
     walks v n size d i o real deep small few c (c * 2 ^ d) m T p w t out pen s refl

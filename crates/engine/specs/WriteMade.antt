@@ -1,33 +1,23 @@
 -- What the call that writes a truth table's stream comes to: for each test that turns it down, and past them all.
 -- Assumes nothing.
 use mathlib.Core.Path.{_≡_, refl, sym, ap, ap₂, _∙_}
-use mathlib.Core.Logic.{_≢_, _⊎_, ⊎-elim}
-use mathlib.Core.Bool.{Bool, true, false, cond, _&&_}
+use mathlib.Core.Logic.{_≢_, _⊎_}
+use mathlib.Core.Bool.{Bool, cond}
 use mathlib.Core.List.{List, [], _∷_}
 use Prim.Native.Nat.{ℕ, _/_, _≤_, _<_, _^_}
 use native.Mathlib.Omega.{arith}
-use lib.Dec.{ltb, leb, eqb}
+use lib.Dec.{ltb, eqb}
 use lib.ListN.{length, replicate, length-replicate}
-use borrow.Author.Tests.{lt-ltb, le-ltb, lt-leb, le-leb, eq-eqb, ne-eqb}
+use borrow.Author.Tests.{lt-ltb, le-ltb, eq-eqb, ne-eqb}
+use Rattle.reading.specs.Limits.{tableLimit, truthTableLeast, truthTableMost}
+use Rattle.reading.specs.LimitLaws.{truth-count, no-truth-count}
 use Rattle.reading.specs.Causes.{optionCount, sizeToWrite, workTable, truthTable, Result, refused, done, refusal, gate, cleared, tableAfter, unlessRefused}
 use Rattle.writing.specs.Run.{whole, inputEnded, outputFull, writtenBytes, outputAfter, Answer, answerOf}
 use Rattle.writing.specs.Calls.{writeText, writeAnswer, Write, write}
+use Rattle.engine.specs.Pending.{waitingLimit}
 use Rattle.engine.specs.Cells.{zero-wide, zero-cell}
 use Rattle.engine.specs.Engine.{Sent, streamIn}
 use Rattle.engine.specs.Streaming.{stream-text}
-
--- ---- The tests -------------------------------------------------------------------------------
-
--- n from 3 to 16
-options-fit : (n : ℕ) → 3 ≤ n → n ≤ 16 → (leb 3 n && leb n 16) ≡ true
-options-fit n h k = rw (le-leb 3 n h, le-leb n 16 k) refl
-
--- another n
-options-not : (n : ℕ) → (n < 3) ⊎ (16 < n) → (leb 3 n && leb n 16) ≡ false
-options-not n h = ⊎-elim
-    (λ (l : n < 3). rw (lt-leb 3 n l) refl)
-    (λ (l : 16 < n). rw (le-leb 3 n (omega (arith, l)), lt-leb n 16 l) refl)
-    h
 
 -- ---- A cleared table -------------------------------------------------------------------------
 
@@ -40,37 +30,37 @@ cleared-replicate z (r ∷ t) = ap (λ (l : List (List ℕ)). z ∷ l) (cleared-
 -- ---- Writing ---------------------------------------------------------------------------------
 
 module _ (z : List ℕ) (n size : ℕ) (v out : List ℕ) (t : List (List ℕ)) where
-  -- n is not 3 to 16
-  pub write-options : (n < 3) ⊎ (16 < n)
+  -- n is not that of a truth table
+  pub write-options : (n < truthTableLeast) ⊎ (truthTableMost < n)
       → record { answer = refused (refusal optionCount 0 0); table = t; output = out } ≡ write z n size v out t
   unfolding write writeAnswer gate tableAfter unlessRefused
-  write-options h = rw (options-not n h) refl
+  write-options h = rw (no-truth-count n h) refl
 
   -- the size is too large
-  pub write-size : 3 ≤ n → n ≤ 16 → 1024 < size
+  pub write-size : truthTableLeast ≤ n → n ≤ truthTableMost → tableLimit < size
       → record { answer = refused (refusal sizeToWrite 0 0); table = t; output = out } ≡ write z n size v out t
   unfolding write writeAnswer gate tableAfter unlessRefused
-  write-size l k h = rw (options-fit n l k, lt-ltb 1024 size h) refl
+  write-size l k h = rw (truth-count n l k, lt-ltb tableLimit size h) refl
 
   -- the work table is too short
-  pub write-records : 3 ≤ n → n ≤ 16 → size ≤ 1024 → length t < 1024
+  pub write-records : truthTableLeast ≤ n → n ≤ truthTableMost → size ≤ tableLimit → length t < tableLimit
       → record { answer = refused (refusal workTable 0 0); table = t; output = out } ≡ write z n size v out t
   unfolding write writeAnswer gate tableAfter unlessRefused
-  write-records l k few h = rw (options-fit n l k, le-ltb 1024 size few, lt-ltb (length t) 1024 h) refl
+  write-records l k few h = rw (truth-count n l k, le-ltb tableLimit size few, lt-ltb (length t) tableLimit h) refl
 
   -- the truth table has another length
-  pub write-length : 3 ≤ n → n ≤ 16 → size ≤ 1024 → 1024 ≤ length t → length v ≢ 2 ^ n / 8
+  pub write-length : truthTableLeast ≤ n → n ≤ truthTableMost → size ≤ tableLimit → tableLimit ≤ length t → length v ≢ 2 ^ n / 8
       → record { answer = refused (refusal truthTable 0 0); table = t; output = out } ≡ write z n size v out t
   unfolding write writeAnswer gate tableAfter unlessRefused
   write-length l k few room h =
-      rw (options-fit n l k, le-ltb 1024 size few, le-ltb (length t) 1024 room, ne-eqb (length v) (2 ^ n / 8) h) refl
+      rw (truth-count n l k, le-ltb tableLimit size few, le-ltb (length t) tableLimit room, ne-eqb (length v) (2 ^ n / 8) h) refl
 
   -- what is answered past the tests
-  write-answer : 3 ≤ n → n ≤ 16 → size ≤ 1024 → 1024 ≤ length t → length v ≡ 2 ^ n / 8
+  write-answer : truthTableLeast ≤ n → n ≤ truthTableMost → size ≤ tableLimit → tableLimit ≤ length t → length v ≡ 2 ^ n / 8
       → writeAnswer n size v out (length t) ≡ done (answerOf n (2 ^ n) (writeText n size v) out)
   unfolding writeAnswer gate
   write-answer l k few room h =
-      rw (options-fit n l k, le-ltb 1024 size few, le-ltb (length t) 1024 room, eq-eqb (length v) (2 ^ n / 8) h) refl
+      rw (truth-count n l k, le-ltb tableLimit size few, le-ltb (length t) tableLimit room, eq-eqb (length v) (2 ^ n / 8) h) refl
 
   -- the answer, of a stream that covers all words
   answer-whole : (y : List ℕ) → answerOf n (2 ^ n) y out
@@ -88,7 +78,7 @@ module _ (z : List ℕ) (n size : ℕ) (v out : List ℕ) (t : List (List ℕ)) 
       }) (eq-eqb (2 ^ n) (2 ^ n) refl)
 
   -- past the tests the stream is written and the table is cleared
-  pub write-done : 3 ≤ n → n ≤ 16 → size ≤ 1024 → 1024 ≤ length t → length v ≡ 2 ^ n / 8 →
+  pub write-done : truthTableLeast ≤ n → n ≤ truthTableMost → size ≤ tableLimit → tableLimit ≤ length t → length v ≡ 2 ^ n / 8 →
       let y = writeText n size v in
       record {
         answer = done (record {
@@ -120,8 +110,8 @@ whole-answer n k w f e =
     (eq-eqb (2 ^ n) (2 ^ n) refl)
 
 -- what the code comes to, past cause 6: records of zeros before the walk and after it
-pub write-finish : (n size : ℕ) (v out w : List ℕ) (t t₀ u : List (List ℕ)) (x : Sent) (r : Answer) → 3 ≤ n → n ≤ 16 → size ≤ 1024
-    → 1024 ≤ length t → length v ≡ 2 ^ n / 8 → length w ≡ 2400 → t₀ ≡ replicate (length t) (replicate 12 0)
+pub write-finish : (n size : ℕ) (v out w : List ℕ) (t t₀ u : List (List ℕ)) (x : Sent) (r : Answer) → truthTableLeast ≤ n → n ≤ truthTableMost
+    → size ≤ tableLimit → tableLimit ≤ length t → length v ≡ 2 ^ n / 8 → length w ≡ waitingLimit → t₀ ≡ replicate (length t) (replicate 12 0)
     → x ≡ streamIn n size v t₀ out w → r ≡ record { written = x .written; covered = 2 ^ n; ending = cond (x .full) outputFull whole }
     → u ≡ replicate (length t) (replicate 12 0)
     → record { answer = done r; table = u; output = x .output } ≡ write (replicate 12 0) n size v out t

@@ -3,6 +3,7 @@ use mathlib.Core.Path.{_≡_, refl, sym, ap, _∙_}
 use mathlib.Core.Bool.{Bool, true, false, cond}
 use mathlib.Core.List.{List}
 use Prim.Native.Nat.{ℕ, _+_}
+use Rattle.reading.specs.Limits.{openLimit}
 use Rattle.engine.specs.Applying.{firstSource, secondSource}
 use Rattle.engine.specs.Taping as T
 use lib.ListN.{replicate}
@@ -95,7 +96,7 @@ begun-code n s o t c x e h =
     (h ∙ ap (λ (c : Cursor). nextBlock n s (cursorIn c o) t) e)
 
 -- beside cells that are all zero it is where the stream begins
-pub begun-zero : (n : ℕ) (s : List ℕ) (t : List (List ℕ)) → begunFrom n s (replicate 32 (replicate 4 0)) t ≡ begunFeed n s t
+pub begun-zero : (n : ℕ) (s : List ℕ) (t : List (List ℕ)) → begunFrom n s (replicate openLimit (replicate 4 0)) t ≡ begunFeed n s t
 begun-zero n s t =
     ap (λ (c : ReadCursor). T.settle deepOf sourceOf (nextTape n) 1
     (record { tape = tapeAt s (nextBlock n s c t); inText = true; number = 0; turned = false })) cursor-first

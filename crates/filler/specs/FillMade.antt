@@ -1,15 +1,16 @@
 -- Filling a truth table node by node, from what the loop reaches. Assumes nothing.
 use mathlib.Core.Path.{_≡_, refl, sym, ap, ap₂, _∙_, subst}
-use mathlib.Core.Bool.{Bool, true, false, cond, _&&_}
+use mathlib.Core.Bool.{Bool, true, false, cond}
 use mathlib.Core.List.{List, []}
 use mathlib.Core.Option.{none}
 use Prim.Native.Nat.{ℕ, suc, _+_, _-_, _/_, _<_, _≤_, _^_}
 use native.Mathlib.Omega.{arith}
-use lib.Dec.{leb}
 use lib.ListN.{length, replicate}
 use lib.Pow.{pow-mono}
-use borrow.Author.Tests.{lt-ltb, le-ltb, lt-leb, le-leb, eq-eqb, ne-eqb}
+use borrow.Author.Tests.{lt-ltb, le-ltb, eq-eqb, ne-eqb}
 use Rattle.lists.specs.Lists.{differ}
+use Rattle.reading.specs.Limits.{optionLimit, openLimit, tableLimit, truthTableLeast, truthTableMost, truthLimit}
+use Rattle.reading.specs.LimitLaws.{truth-bytes, isTruthCount}
 use Rattle.reading.specs.Nodes.{Node, child}
 use Rattle.reading.specs.Reading.{State, Reading, reading}
 use Rattle.reading.specs.Deciding.{Trace, traceOn, trace}
@@ -45,18 +46,18 @@ pub record FilledTo (n : ℕ) (bytes : List ℕ) (r : Run) (o : Opens) (t : List
   pub words : v ≡ bytesFrom (2 ^ n / 8) n (traceOn (stands .steps) n bytes startTrace) 0
 
 -- At the start it is all zero.
-filled-start : (n : ℕ) (bytes : List ℕ) (t : List (List ℕ)) (v : List ℕ) → 1024 ≤ length t → v ≡ replicate (2 ^ n / 8) 0 → FilledTo n bytes firstRun firstOpens t v
+filled-start : (n : ℕ) (bytes : List ℕ) (t : List (List ℕ)) (v : List ℕ) → tableLimit ≤ length t → v ≡ replicate (2 ^ n / 8) 0 → FilledTo n bytes firstRun firstOpens t v
 unfolding stands-first
 filled-start n bytes t v room e = record { stands = stands-first n bytes t room; words = e ∙ sym (filled-first n bytes (2 ^ n / 8)) }
 
 -- So for code that begins there.
-pub filled-begun : (n : ℕ) (bytes : List ℕ) (t : List (List ℕ)) (v : List ℕ) (c : Cursor) → 1024 ≤ length t → v ≡ replicate (2 ^ n / 8) 0 → c ≡ startCursor
-    → FilledTo n bytes (c .run) (opensIn (replicate 32 (replicate 4 0)) (c .depth)) t v
+pub filled-begun : (n : ℕ) (bytes : List ℕ) (t : List (List ℕ)) (v : List ℕ) (c : Cursor) → tableLimit ≤ length t → v ≡ replicate (2 ^ n / 8) 0 → c ≡ startCursor
+    → FilledTo n bytes (c .run) (opensIn (replicate openLimit (replicate 4 0)) (c .depth)) t v
 filled-begun n bytes t v c room e ce =
-    subst (λ (c : Cursor). FilledTo n bytes (c .run) (opensIn (replicate 32 (replicate 4 0)) (c .depth)) t v) (sym ce) (filled-start n bytes t v room e)
+    subst (λ (c : Cursor). FilledTo n bytes (c .run) (opensIn (replicate openLimit (replicate 4 0)) (c .depth)) t v) (sym ce) (filled-start n bytes t v room e)
 
 -- x: what the loop reaches from where r stands, with r's covered count as its stop
-module _ (n : ℕ) (bytes : List ℕ) (r : Run) (o : Opens) (t : List (List ℕ)) (v : List ℕ) (h : FilledTo n bytes r o t v) (few : n ≤ 32)
+module _ (n : ℕ) (bytes : List ℕ) (r : Run) (o : Opens) (t : List (List ℕ)) (v : List ℕ) (h : FilledTo n bytes r o t v) (few : n ≤ optionLimit)
     (x : ReadReached) (u : List (List ℕ)) (called : record { reached = x; table = u } ≡ readFrom n bytes (r .covered) (record { run = r; opens = o }) t) where
   reached : ReachedBy n bytes (r .covered) x u
   reached = read-called n bytes few (r .covered) (stands-covered n bytes few r o t (h .stands)) (record { run = r; opens = o }) t (h .stands) (omega arith) x u called
@@ -99,16 +100,16 @@ module _ (n : ℕ) (bytes : List ℕ) (r : Run) (o : Opens) (t : List (List ℕ)
     there-last = subst (λ (f : ℕ). At n bytes f s′) (p .last) there
 
     -- The words that are passed fit. m: the options below
-    pub words-fit : (m : ℕ) → n ≤ 16 → m ≡ n - x .deep → (m ≤ 16) × ((x .deep + 1 + m ≤ 64) × (x .from + 2 ^ m ≤ 65536))
+    pub words-fit : (m : ℕ) → n ≤ truthTableMost → m ≡ n - x .deep → (m ≤ truthTableMost) × ((x .deep + 1 + m ≤ openLimit + optionLimit) × (x .from + 2 ^ m ≤ truthLimit))
     words-fit m few e =
         let b : x .from + 2 ^ m ≡ x .run .covered = sym (passed-covers n bytes r o t (h .stands) x u reached halts ∙ ap (λ (d : ℕ). x .from + 2 ^ d) (sym e)) in
-        (omega (arith, few, e), (omega (arith, few, e, p .shallow), omega (arith, b, at-within n bytes (reached .stands .steps) s′ there, pow-mono {i = n} {j = 16} few)))
+        (omega (arith, few, e), (omega (arith, few, e, p .shallow), omega (arith, b, at-within n bytes (reached .stands .steps) s′ there, pow-mono {i = n} {j = truthTableMost} few)))
 
-    pub words-shallow : x .deep ≤ 32
+    pub words-shallow : x .deep ≤ openLimit
     words-shallow = p .shallow
 
     -- the node that is passed fills its words
-    words-more : (w : List ℕ) → 3 ≤ n → w ≡ putNodeIn (n - x .deep) (tableOf u (x .run .size)) (x .deep + 1) (edgeAt x .number) (edgeAt x .turned) (x .from) v → FilledTo n bytes (x .run) (x .opens) u w
+    words-more : (w : List ℕ) → truthTableLeast ≤ n → w ≡ putNodeIn (n - x .deep) (tableOf u (x .run .size)) (x .deep + 1) (edgeAt x .number) (edgeAt x .turned) (x .from) v → FilledTo n bytes (x .run) (x .opens) u w
     words-more w three k = record { stands = reached .stands; words = k ∙ ap (putNodeIn (n - x .deep) (tableOf u (x .run .size)) (x .deep + 1) (edgeAt x .number) (edgeAt x .turned) (x .from)) before-words ∙ put-truths (n - x .deep) (tableOf u (x .run .size)) (x .deep + 1) (edgeAt x .number) (edgeAt x .turned) (x .from) (2 ^ n / 8) n (traceOn (p .before) n bytes startTrace) (traceOn (reached .stands .steps) n bytes startTrace) after-words }
       where
         before-words : v ≡ filled (p .before)
@@ -120,13 +121,13 @@ module _ (n : ℕ) (bytes : List ℕ) (r : Run) (o : Opens) (t : List (List ℕ)
         after-words : filled (reached .stands .steps) ≡ N (tableOf u (x .run .size)) (x .deep) (x .run .last .number) (x .from)
         after-words =
             ap filled (p .last)
-            ∙ filled-on n bytes (p .before) (p .state) s′ (p .here) there-last (omega (arith, p .covered, p .low, past .0)) three
+            ∙ filled-on n bytes (p .before) (p .state) s′ (p .here) there-last (omega (arith, p .covered, p .low, past .0)) (omega (arith, three, truth-bytes))
             ∙ ap (λ (b : Bool). N (cond b [] (tableOf u (x .run .size))) (length (p .state .place .opens)) (child (refOf (x .run .last))) (p .state .covered)) (p .later)
             ∙ ap₂ (λ (d i : ℕ). N (tableOf u (x .run .size)) d (child (refOf (x .run .last))) i) (p .depth) (p .covered)
             ∙ ap (λ (a : ℕ). N (tableOf u (x .run .size)) (x .deep) a (x .from)) (sym (child-of (x .run .last)))
 
     -- THE NODE THAT IS PASSED fills its words: what code has for the options below it, its edge and the truth table after.
-    pub words-turn : (m : ℕ) (e : Edge) (w : List ℕ) → 3 ≤ n → m ≡ n - x .deep → e ≡ edgeAt x
+    pub words-turn : (m : ℕ) (e : Edge) (w : List ℕ) → truthTableLeast ≤ n → m ≡ n - x .deep → e ≡ edgeAt x
         → w ≡ putNodeIn m (tableOf u (x .run .size)) (x .deep + 1) (e .number) (e .turned) (x .from) v → FilledTo n bytes (x .run) (x .opens) u w
     words-turn m e w three me ee k =
         words-more w three (k ∙ ap₂ (λ (i : ℕ) (a : Edge). putNodeIn i (tableOf u (x .run .size)) (x .deep + 1) (a .number) (a .turned) (x .from) v) me ee)
@@ -137,40 +138,30 @@ module _ (n : ℕ) (bytes : List ℕ) (r : Run) (o : Opens) (t : List (List ℕ)
 
 -- ---- The call --------------------------------------------------------------------------------
 
--- "truth table n not 3 to 16"
-pub options-fit : (n : ℕ) → 3 ≤ n → n ≤ 16 → (leb 3 n && leb n 16) ≡ true
-options-fit n h k = rw (le-leb 3 n h, le-leb n 16 k) refl
-
-pub options-few : (n : ℕ) → n < 3 → (leb 3 n && leb n 16) ≡ false
-options-few n h = rw (lt-leb 3 n h) refl
-
-pub options-many : (n : ℕ) → 3 ≤ n → 16 < n → (leb 3 n && leb n 16) ≡ false
-options-many n h k = rw (le-leb 3 n h, lt-leb n 16 k) refl
-
 abbrev pub filledBy : ReadReached → C.Result ℕ
 filledBy r = cond (r .faulty) (C.refused (lateOf r)) (C.done (r .run .covered))
 
 module _ (n : ℕ) (bytes old : List ℕ) (t : List (List ℕ)) where
-  pub fill-options : (a : C.Result ℕ) → (leb 3 n && leb n 16) ≡ false → a ≡ C.refused (C.refusal C.optionCount 0 0) → record { answer = a; table = t; truths = old } ≡ R.fill noRecord n bytes old t
+  pub fill-options : (a : C.Result ℕ) → isTruthCount n ≡ false → a ≡ C.refused (C.refusal C.optionCount 0 0) → record { answer = a; table = t; truths = old } ≡ R.fill noRecord n bytes old t
   unfolding R.fill R.fillAnswer C.gate C.tableAfter C.unlessRefused
   fill-options a h e = rw (e, h) refl
 
-  pub fill-table : (a : C.Result ℕ) → (leb 3 n && leb n 16) ≡ true → length t < 1024 → a ≡ C.refused (C.refusal C.workTable 0 0) → record { answer = a; table = t; truths = old } ≡ R.fill noRecord n bytes old t
+  pub fill-table : (a : C.Result ℕ) → isTruthCount n ≡ true → length t < tableLimit → a ≡ C.refused (C.refusal C.workTable 0 0) → record { answer = a; table = t; truths = old } ≡ R.fill noRecord n bytes old t
   unfolding R.fill R.fillAnswer C.gate C.tableAfter C.unlessRefused
-  fill-table a few h e = rw (e, few, lt-ltb (length t) 1024 h) refl
+  fill-table a few h e = rw (e, few, lt-ltb (length t) tableLimit h) refl
 
-  pub fill-length : (a : C.Result ℕ) → (leb 3 n && leb n 16) ≡ true → 1024 ≤ length t → (length old ≡ 2 ^ n / 8 → ⊥) → a ≡ C.refused (C.refusal C.truthTable 0 0) → record { answer = a; table = t; truths = old } ≡ R.fill noRecord n bytes old t
+  pub fill-length : (a : C.Result ℕ) → isTruthCount n ≡ true → tableLimit ≤ length t → (length old ≡ 2 ^ n / 8 → ⊥) → a ≡ C.refused (C.refusal C.truthTable 0 0) → record { answer = a; table = t; truths = old } ≡ R.fill noRecord n bytes old t
   unfolding R.fill R.fillAnswer C.gate C.tableAfter C.unlessRefused
-  fill-length a few room h e = rw (e, few, le-ltb (length t) 1024 room, ne-eqb (length old) (2 ^ n / 8) h) refl
+  fill-length a few room h e = rw (e, few, le-ltb (length t) tableLimit room, ne-eqb (length old) (2 ^ n / 8) h) refl
 
-  fill-answer : (r : ReadReached) (u : List (List ℕ)) → (leb 3 n && leb n 16) ≡ true → 1024 ≤ length t → length old ≡ 2 ^ n / 8 → Reads n bytes r u → R.fillAnswer n bytes old (length t) ≡ filledBy r
+  fill-answer : (r : ReadReached) (u : List (List ℕ)) → isTruthCount n ≡ true → tableLimit ≤ length t → length old ≡ 2 ^ n / 8 → Reads n bytes r u → R.fillAnswer n bytes old (length t) ≡ filledBy r
   unfolding R.fillAnswer C.gate
   fill-answer r u few room l h =
-      rw (few, le-ltb (length t) 1024 room, eq-eqb (length old) (2 ^ n / 8) l)
+      rw (few, le-ltb (length t) tableLimit room, eq-eqb (length old) (2 ^ n / 8) l)
       (unless-read n bytes r u h (r .run .covered) (λ (x : Reading). x .state .covered) refl)
 
   -- v: the truth table, as it was if there is a fault
-  pub fill-made : (a : C.Result ℕ) (z : List (List ℕ)) (v : List ℕ) (r : ReadReached) (u : List (List ℕ)) → (leb 3 n && leb n 16) ≡ true → 1024 ≤ length t → length old ≡ 2 ^ n / 8 → Reads n bytes r u
+  pub fill-made : (a : C.Result ℕ) (z : List (List ℕ)) (v : List ℕ) (r : ReadReached) (u : List (List ℕ)) → isTruthCount n ≡ true → tableLimit ≤ length t → length old ≡ 2 ^ n / 8 → Reads n bytes r u
       → a ≡ filledBy r → z ≡ C.cleared noRecord t → v ≡ cond (r .faulty) old (R.bytesFrom (2 ^ n / 8) n (trace n bytes) 0)
       → record { answer = a; table = z; truths = v } ≡ R.fill noRecord n bytes old t
   unfolding R.fill C.unlessRefused

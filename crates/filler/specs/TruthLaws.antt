@@ -12,6 +12,7 @@ use lib.ListN.{length, getD, set, take, replicate, replicate-append-replicate, L
 use lib.Seq.{set-out, take-suc-set}
 use borrow.Author.Tests.{ne-eqb}
 use Rattle.lists.specs.Lists.{differ}
+use Rattle.reading.specs.Limits.{truthTableMost}
 use Rattle.reading.specs.Nodes.{Node, node}
 use Rattle.reading.specs.Deciding.{Trace}
 use Rattle.reading.specs.Calls.{Verdict, isNo, isYes, notYet, digitOf, verdict, wordsFrom, bytesFrom}
@@ -155,7 +156,7 @@ put-both m t z i e w bs =
     ∙ two-cond m (tableOf t z) i w bs (eqb (e .number) 0 || ltb i (getIn t z (e .number) .level)) e _ _
 
 -- a node as `fill_node` puts it
-pub put-made : (m : ℕ) (t : List (List ℕ)) (z i : ℕ) (x : Row) (e f g : Edge) (w h : ℕ) (bs cs ds : List ℕ) → m ≤ 16 → (m ≡ 0 → ⊥)
+pub put-made : (m : ℕ) (t : List (List ℕ)) (z i : ℕ) (x : Row) (e f g : Edge) (w h : ℕ) (bs cs ds : List ℕ) → m ≤ truthTableMost → (m ≡ 0 → ⊥)
     → x ≡ getIn t z (e .number) → f ≡ firstEdge x i e → g ≡ secondEdge x i e → h ≡ 1 * 2 ^ (m - 1) % 18446744073709551616
     → cs ≡ putNodeIn (m - 1) (tableOf t z) (i + 1) (f .number) (f .turned) w bs
     → ds ≡ putNodeIn (m - 1) (tableOf t z) (i + 1) (g .number) (g .turned) (w + h) cs

@@ -5,6 +5,7 @@ ghost use mathlib.Core.Option.{none};
 ghost use lib.Dec.{eqb};
 ghost use Prim.Native.Nat.{_+_, _≤_, _/_, _^_};
 ghost use lib.ListN.{length, replicate};
+ghost use Rattle.reading.specs.Limits.{optionLimit, openLimit, tableLimit, truthTableLeast, truthTableMost, truthLimit};
 ghost use Rattle.reading.specs.Reading.{reading};
 ghost use Rattle.reading.specs.Deciding.{trace};
 ghost use Rattle.reading.specs.Calls.{bytesFrom, Fills};
@@ -27,6 +28,7 @@ use work_table::Edge;
 use work_table::TABLE_LIMIT;
 use work_table::TRUTH_TABLE_LEAST;
 use work_table::TRUTH_TABLE_MOST;
+use work_table::WORD_LIMIT;
 use work_table::clear;
 use work_table::first_edge;
 use work_table::get;
@@ -78,7 +80,7 @@ fn put_edge(v: &mut [u8], e: Edge, w: usize)
 
 // The words from w on of the node of level i, m options below it, that e stands for. z: how many numbers there are
 fn fill_node(t: &[[u32; 6]], z: u32, v: &mut [u8], m: u32, i: u32, e: Edge, w: usize)
-    requires { ⌜ (m ≤ 16) × ((i + m ≤ 64) × (w + 2 ^ m ≤ 65536)) ⌝ }
+    requires { ⌜ (m ≤ truthTableMost) × ((i + m ≤ openLimit + optionLimit) × (w + 2 ^ m ≤ truthLimit)) ⌝ }
     ensures { λ _. ⌜ now (v .exit) ≡ putNodeIn m (tableOf (now (t .entry)) z) i (e .number) (e .turned) w (now (v .entry)) ⌝ }
 {
     if m == 0 {
@@ -95,7 +97,7 @@ fn fill_node(t: &[[u32; 6]], z: u32, v: &mut [u8], m: u32, i: u32, e: Edge, w: u
 
 // Node by node, the words that the stream covers.
 fn fill_words(n: u32, s: &[u8], v: &mut [u8], t: &mut [[u32; 6]])
-    requires { ⌜ (3 ≤ n) × ((n ≤ 16) × ((1024 ≤ length (now t)) × ((reading n (now s) .fault ≡ none) × (now v ≡ replicate (2 ^ n / 8) 0)))) ⌝ }
+    requires { ⌜ (truthTableLeast ≤ n) × ((n ≤ truthTableMost) × ((tableLimit ≤ length (now t)) × ((reading n (now s) .fault ≡ none) × (now v ≡ replicate (2 ^ n / 8) 0)))) ⌝ }
     ensures { λ _. ⌜ (now (v .exit) ≡ bytesFrom (2 ^ n / 8) n (trace n (now (s .entry))) 0) × AsLong (now (t .exit)) (now (t .entry)) ⌝ }
 {
     let mut o = [[0u32; 4]; OPEN_LIMIT];
@@ -143,7 +145,7 @@ pub fn fill(n: u32, s: &[u8], v: &mut [u8], t: &mut [[u32; 6]]) -> Filling
         return Filling::Refused(early(Cause::TruthTable));
     }
     let mut o = [[0u32; 4]; OPEN_LIMIT];
-    let r = read_on(n, s, t, &mut o, first_cursor(), 4294967296);
+    let r = read_on(n, s, t, &mut o, first_cursor(), WORD_LIMIT);
     let f = r.faulty;
     if f {
         let z = t.len();

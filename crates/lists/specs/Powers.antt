@@ -1,4 +1,4 @@
--- Powers of two, as code shifts to them. Assumes nothing.
+-- Powers of two, as code shifts to them in 64 bits. Assumes nothing.
 use mathlib.Core.Path.{_≡_, refl, ap, _∙_}
 use Prim.Native.Nat.{ℕ, zero, suc, _+_, _-_, _*_, _%_, _<_, _≤_, _^_}
 use native.Mathlib.Nat.{mod-eq-of-lt, one-mul}
@@ -6,21 +6,19 @@ use native.Mathlib.Omega.{arith}
 use lib.Pow.{pow-mono}
 
 -- the words of n options, as code has them
-pub shifted : (n : ℕ) → n ≤ 32 → 1 * 2 ^ n % 18446744073709551616 ≡ 2 ^ n
-shifted n h = ap (λ (x : ℕ). x % 18446744073709551616) (one-mul (2 ^ n)) ∙ mod-eq-of-lt (omega (arith, pow-mono {i = n} {j = 32} h))
-
-pow-most : (n d : ℕ) → n ≤ 32 → 2 ^ (n - d) ≤ 4294967296
-pow-most n d h = pow-mono {i = n - d} {j = 32} (omega arith)
+pub shifted : (n : ℕ) → n < 64 → 1 * 2 ^ n % 18446744073709551616 ≡ 2 ^ n
+shifted n h = ap (λ (x : ℕ). x % 18446744073709551616) (one-mul (2 ^ n)) ∙ mod-eq-of-lt (omega (arith, pow-mono {i = n} {j = 63} (omega (arith, h))))
 
 pub no-words : (n d : ℕ) → n < d → 1 ≡ 2 ^ (n - d)
 no-words n d h = let z : n - d ≡ 0 = omega arith in rw z refl
 
 -- the words of a node fit in 64 bits
-pub few-words : (n d : ℕ) → n ≤ 32 → 1 * 2 ^ (n - d) % 18446744073709551616 ≡ 2 ^ (n - d)
-few-words n d h = ap (λ (x : ℕ). x % 18446744073709551616) (one-mul (2 ^ (n - d))) ∙ mod-eq-of-lt (omega (arith, pow-most n d h))
+pub few-words : (n d : ℕ) → n < 64 → 1 * 2 ^ (n - d) % 18446744073709551616 ≡ 2 ^ (n - d)
+few-words n d h = shifted (n - d) (omega (arith, h))
 
-pub words-most : (n d : ℕ) → n ≤ 32 → 1 * 2 ^ (n - d) % 18446744073709551616 ≤ 4294967296
-words-most n d h = omega (arith, few-words n d h, pow-most n d h)
+-- and are no more than those of k options
+pub words-most : (n d k : ℕ) → n ≤ k → k < 64 → 1 * 2 ^ (n - d) % 18446744073709551616 ≤ 2 ^ k
+words-most n d k h l = omega (arith, few-words n d (omega (arith, h, l)), pow-mono {i = n - d} {j = k} (omega (arith, h)))
 
 -- twice half the words
 pub both-halves : (m : ℕ) → (m ≡ 0 → ⊥) → 2 ^ (m - 1) + 2 ^ (m - 1) ≡ 2 ^ m

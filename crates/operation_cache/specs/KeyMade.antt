@@ -9,9 +9,9 @@ use lib.ListN.{length, getD, set, List·getD-eq-default}
 use borrow.Author.Tests.{eq-eqb, ne-eqb}
 use Rattle.lists.specs.Lists.{bit}
 use Rattle.engine.specs.Cells.{cell}
-use Rattle.engine.specs.Hashing.{stir}
+use Rattle.engine.specs.Hashing.{edgeSpan, stir}
 use Rattle.engine.specs.Engine as E
-use Rattle.engine.specs.Memo.{isYoung, numberIn, stampIn, complementIn, toldHalf, slotFrom, slotOf}
+use Rattle.engine.specs.Memo.{isYoung, numberIn, stampIn, complementIn, toldHalf, cacheRows, slotFrom, slotOf}
 use Rattle.meeting.specs.Cite.{halfOf}
 use Rattle.meeting.specs.declared.Half.{Half}
 use Rattle.operation_cache.specs.Cite.{keyCells, holds, toldBy, tellsBy, notedRow, notedBy}
@@ -20,13 +20,13 @@ use Rattle.operation_cache.specs.declared.Told.{Told}
 
 -- ---- The place of a key ----------------------------------------------------------------------
 
-pub slot-pair : (k : Key) (v w : ℕ) → v ≡ stir 2654435769 (k .stamp1 * 4096 + k .number1 * 2 + k .turned1)
-    → w ≡ stir 2654435769 (v % 4294967296 + (k .stamp2 * 4096 + k .number2 * 2 + k .turned2)) → w % 2048 ≡ slotOf (keyCells k)
+pub slot-pair : (k : Key) (v w : ℕ) → v ≡ stir 2654435769 (k .stamp1 * edgeSpan + k .number1 * 2 + k .turned1)
+    → w ≡ stir 2654435769 (v % 4294967296 + (k .stamp2 * edgeSpan + k .number2 * 2 + k .turned2)) → w % cacheRows ≡ slotOf (keyCells k)
 unfolding slotFrom
 slot-pair k v w e f =
-    let a : ℕ = k .stamp1 * 4096 + k .number1 * 2 + k .turned1 in
+    let a : ℕ = k .stamp1 * edgeSpan + k .number1 * 2 + k .turned1 in
     let z : a ≡ 0 + a = omega arith in
-    ap (λ (w : ℕ). w % 2048) (f ∙ ap (λ (v : ℕ). stir 2654435769 (v % 4294967296 + (k .stamp2 * 4096 + k .number2 * 2 + k .turned2)))
+    ap (λ (w : ℕ). w % cacheRows) (f ∙ ap (λ (v : ℕ). stir 2654435769 (v % 4294967296 + (k .stamp2 * edgeSpan + k .number2 * 2 + k .turned2)))
     (e ∙ ap (stir 2654435769) z))
 
 pub bit-as : (b : Bool) (x : ℕ) → x ≡ cond b 1 0 → x ≡ bit b

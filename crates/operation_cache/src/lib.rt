@@ -15,10 +15,19 @@ use meeting::constant;
 use meeting::half_of;
 use meeting::numbered;
 use meeting::pen_of;
+use unique_table::NUMBER_SPAN;
 use unique_table::either;
 use unique_table::level_of;
 use unique_table::stamp_of;
 use unique_table::stir;
+
+// How many rows there are.
+pub const CACHE_ROWS: usize = 2048;
+
+const ROWS: u64 = CACHE_ROWS as u64;
+
+// An edge beside another cell: its number, turned about or not
+const EDGE_SPAN: u64 = 2 * NUMBER_SPAN;
 
 // ---- Rows: a row has 0 if it is empty, else 1, or 2 if the part is complemented; the number that the part came to and its stamp;
 // number, stamp and 1 for turned about of each input's edge
@@ -51,10 +60,10 @@ pub fn key_of(x: Edge, g: u32, y: Edge, h: u32) -> Key
 pub fn slot(k: Key) -> usize
     ensures { λ p. ⌜ p ≡ slotOf (keyCells k) ⌝ }
 {
-    let a = k.stamp1 as u64 * 4096 + k.number1 as u64 * 2 + k.turned1 as u64;
-    let b = k.stamp2 as u64 * 4096 + k.number2 as u64 * 2 + k.turned2 as u64;
+    let a = k.stamp1 as u64 * EDGE_SPAN + k.number1 as u64 * 2 + k.turned1 as u64;
+    let b = k.stamp2 as u64 * EDGE_SPAN + k.number2 as u64 * 2 + k.turned2 as u64;
     let v = stir(2654435769, a);
-    (stir(2654435769, v % 4294967296 + b) % 2048) as usize
+    (stir(2654435769, v % 4294967296 + b) % ROWS) as usize
 }
 
 // The row has something remembered by this key.

@@ -4,11 +4,12 @@ ghost use mathlib.Core.Bool.{cond};
 ghost use mathlib.Core.List.{[], _∷_};
 ghost use lib.ListN.{replicate};
 ghost use Prim.Native.Nat.{min, _-_};
+ghost use Rattle.reading.specs.Bytes.{blank};
 ghost use Rattle.writing.specs.Texts.{decimal, tildeIf, storing};
 ghost use Rattle.engine.specs.Pending.{pushAll, waitIn, closeIn};
 ghost use Rattle.engine.specs.Engine.{sendText};
 
-// So many bytes wait at most: 70 for each of 32 open levels, and 144 while a node ends, in round numbers.
+// So many bytes wait at most, in round numbers: `waiting-room`.
 pub const WAITING_LIMIT: usize = 2400;
 
 // ---- The text that waits: the first m bytes of w
@@ -64,7 +65,7 @@ pub fn wait(w: &mut [u8], m: usize, wrote: bool, j: u32, k: u32) -> usize
 }
 
 fn push_space(w: &mut [u8], m: usize, space: bool) -> usize
-    ensures { λ r. ⌜ record { bytes = now (w .exit); count = r } ≡ pushAll (now (w .entry)) m (cond space (32 ∷ []) []) ⌝ }
+    ensures { λ r. ⌜ record { bytes = now (w .exit); count = r } ≡ pushAll (now (w .entry)) m (cond space (blank ∷ []) []) ⌝ }
 {
     if space { push(w, m, b' ') } else { m }
 }

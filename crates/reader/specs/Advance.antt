@@ -9,6 +9,7 @@ use native.Mathlib.Omega.{arith}
 use lib.Dec.{ltb, eqb}
 use lib.ListN.{length, getD, set, replicate, length-set, length-replicate}
 use borrow.Author.Tests.{eqb-true, eqb-false, eq-eqb, ne-eqb, ltb-false}
+use Rattle.reading.specs.Limits.{openLimit, tableLimit}
 use Rattle.reading.specs.Bytes.{colon}
 use Rattle.reading.specs.Nodes.{Node, noNode, node, stamp, terminal, entry, temporary, bars}
 use Rattle.reading.specs.Causes.{notStorable}
@@ -59,11 +60,11 @@ stateAt r o t = stateOf r (openList o) (tableAt r t)
 
 -- What code keeps true.
 pub record Kept (r : Run) (o : Opens) (t : List (List ℕ)) : Type 0 where
-  pub room : 1024 ≤ length t
-  pub small : r .size ≤ 1024
+  pub room : tableLimit ≤ length t
+  pub small : r .size ≤ tableLimit
   pub held : Held t (r .size)
-  pub nodes : length (o .nodes) ≡ 32
-  pub deep : o .depth ≤ 32
+  pub nodes : length (o .nodes) ≡ openLimit
+  pub deep : o .depth ≤ openLimit
   pub begin : isStart (markOf (r .mark)) ≡ true → r .size ≡ 0
 
 -- a number's stamp can grow where a node may be stored
@@ -183,7 +184,7 @@ Plain y = (y .stores ≡ false) × (y .sizes ≡ false)
 -- a number that is taken is one of the table, or a size that is not above the limit
 abbrev Legal : Run → Element → Taken → Type 0
 Legal r E.Opening y = Plain y
-Legal r (E.Number v) y = (isStart (markOf (r .mark)) ≡ true → v ≤ 1024) × ((y .stores ≡ false) × (y .sizes ≡ isStart (markOf (r .mark))))
+Legal r (E.Number v) y = (isStart (markOf (r .mark)) ≡ true → v ≤ tableLimit) × ((y .stores ≡ false) × (y .sizes ≡ isStart (markOf (r .mark))))
 Legal r E.Constant y = Plain y
 Legal r E.Turn y = Plain y
 Legal r E.Closing y = Plain y
@@ -207,7 +208,7 @@ module _ (n : ℕ) (r : Run) (d : ℕ) (o : Open) (g : ℕ) (x : Row) (at : ℕ)
   made-number : (v : ℕ) → MadeBy (E.Number v) (takenOf n r d o g (E.Number v) x at m)
   made-number v =
       made-cond (E.Number v) (isStart (markOf (r .mark))) _ _
-      (λ s. made-cond (E.Number v) (ltb 1024 v) _ _ (λ _. (refl, (refl, refl))) (λ l. (refl, (ap (λ (b : Bool). cond b v (r .size)) (sym s), (λ _. ltb-false 1024 v l, (refl, sym s))))))
+      (λ s. made-cond (E.Number v) (ltb tableLimit v) _ _ (λ _. (refl, (refl, refl))) (λ l. (refl, (ap (λ (b : Bool). cond b v (r .size)) (sym s), (λ _. ltb-false tableLimit v l, (refl, sym s))))))
       (λ s. made-cond (E.Number v) (eqb (x .level) 0) _ _ (λ _. (refl, (refl, refl)))
       (λ _. made-cond (E.Number v) (eqb (x .level) (d + 1)) _ _ (λ _. (refl, (ap (λ (b : Bool). cond b v (r .size)) (sym s), (λ q. absurd (false≢true (sym s ∙ q)), (refl, sym s))))) (λ _. (refl, (refl, refl)))))
 
@@ -247,7 +248,7 @@ module _ (n : ℕ) (r : Run) (d : ℕ) (o : Open) (g : ℕ) (x : Row) (at : ℕ)
   pub taken-at : (e : Element) → Onto (takenOf n r d o g e x at m)
   taken-at E.Opening = onto-cond (ltb n (d + 1)) _ _ refused (λ _. refl)
   taken-at (E.Number v) =
-      onto-cond (isStart (markOf (r .mark))) _ _ (onto-cond (ltb 1024 v) _ _ refused (λ _. refl))
+      onto-cond (isStart (markOf (r .mark))) _ _ (onto-cond (ltb tableLimit v) _ _ refused (λ _. refl))
       (onto-cond (eqb (x .level) 0) _ _ refused (onto-cond (eqb (x .level) (d + 1)) _ _ (λ _. refl) refused))
   taken-at E.Constant = λ _. refl
   taken-at E.Turn = λ _. refl
@@ -290,13 +291,13 @@ table-later : (r : Run) (t : List (List ℕ)) → isStart (markOf (r .mark)) ≡
 table-later r t h = rw h refl
 
 -- the theory's table after an element is that of the lent one after it
-table-next : (r : Run) (d : ℕ) (e : Element) (x : Row) (y : Taken) (t : List (List ℕ)) → 1024 ≤ length t → y .faulty ≡ false → Legal r e y → Begun (markOf (r .mark)) (elementOf e)
+table-next : (r : Run) (d : ℕ) (e : Element) (x : Row) (y : Taken) (t : List (List ℕ)) → tableLimit ≤ length t → y .faulty ≡ false → Legal r e y → Begun (markOf (r .mark)) (elementOf e)
     → tableTo r d e x y (tableAt r t) ≡ tableOf (lentBy r d e x y t) (sizeTo r e)
 table-next r d E.Opening x y t room f l h = table-later r t h
 table-next r d (E.Number v) x y t room f l h = rw f (go (isStart (markOf (r .mark))) (l .0))
   where
-    go : (b : Bool) → (b ≡ true → v ≤ 1024) → cond b (replicate (suc v) noNode) (cond b [] (tableOf t (r .size))) ≡ tableOf (cond b (clearTo t v) t) (cond b v (r .size))
-    go true k = let i : v ≤ 1024 = k refl in sym (clear-table t v (omega (arith, room, i)))
+    go : (b : Bool) → (b ≡ true → v ≤ tableLimit) → cond b (replicate (suc v) noNode) (cond b [] (tableOf t (r .size))) ≡ tableOf (cond b (clearTo t v) t) (cond b v (r .size))
+    go true k = let i : v ≤ tableLimit = k refl in sym (clear-table t v (omega (arith, room, i)))
     go false k = refl
 table-next r d E.Constant x y t room f l h = table-later r t h
 table-next r d E.Turn x y t room f l h = table-later r t h
@@ -343,11 +344,11 @@ length-lent r d k x y t = go (y .stores) (y .sizes)
     go false true = length-clear t k
     go false false = refl
 
-size-small : (r : Run) (e : Element) (y : Taken) → r .size ≤ 1024 → Legal r e y → sizeTo r e ≤ 1024
+size-small : (r : Run) (e : Element) (y : Taken) → r .size ≤ tableLimit → Legal r e y → sizeTo r e ≤ tableLimit
 size-small r E.Opening y h l = h
 size-small r (E.Number v) y h l = go (isStart (markOf (r .mark))) (l .0)
   where
-    go : (b : Bool) → (b ≡ true → v ≤ 1024) → cond b v (r .size) ≤ 1024
+    go : (b : Bool) → (b ≡ true → v ≤ tableLimit) → cond b v (r .size) ≤ tableLimit
     go true k = k refl
     go false k = h
 size-small r E.Constant y h l = h
@@ -360,8 +361,8 @@ held-next : (r : Run) (o : Opens) (d : ℕ) (e : Element) (y : Taken) (t : List 
 held-next r o d E.Opening y t kept f l = kept .held
 held-next r o d (E.Number v) y t kept f l = rw f (go (isStart (markOf (r .mark))) (l .0))
   where
-    go : (b : Bool) → (b ≡ true → v ≤ 1024) → Held (cond b (clearTo t v) t) (cond b v (r .size))
-    go true k = let i : v ≤ 1024 = k refl in held-clear t v (omega (arith, kept .room, i))
+    go : (b : Bool) → (b ≡ true → v ≤ tableLimit) → Held (cond b (clearTo t v) t) (cond b v (r .size))
+    go true k = let i : v ≤ tableLimit = k refl in held-clear t v (omega (arith, kept .room, i))
     go false k = kept .held
 held-next r o d E.Constant y t kept f l = kept .held
 held-next r o d E.Turn y t kept f l = kept .held
@@ -371,15 +372,15 @@ held-next r o d E.End y t kept f l = kept .held
 
 -- ---- The open nodes --------------------------------------------------------------------------
 
-open-inner : (ns : List Open) (d : ℕ) → d ≤ 32 → Innermost (opensOf ns d) (getD ns (lowAt d) insideOpen)
+open-inner : (ns : List Open) (d : ℕ) → d ≤ openLimit → Innermost (opensOf ns d) (getD ns (lowAt d) insideOpen)
 unfolding opensOf
 open-inner ns zero h = tt
 open-inner ns (suc d) h = ap (λ (i : ℕ). openOf (getD ns i insideOpen)) (sym (low-suc d h))
 
-low-inner : (o : Opens) → o .depth ≤ 32 → Innermost (openList o) (lowOf o)
+low-inner : (o : Opens) → o .depth ≤ openLimit → Innermost (openList o) (lowOf o)
 low-inner o h = subst (λ (d : ℕ). Innermost (opensOf (o .nodes) d) (lowOf o)) (sym (deep-self (o .depth) h)) (open-inner (o .nodes) (o .depth) h)
 
-pub list-length : (o : Opens) → o .depth ≤ 32 → length (openList o) ≡ o .depth
+pub list-length : (o : Opens) → o .depth ≤ openLimit → length (openList o) ≡ o .depth
 list-length o h = open-length (o .nodes) (deepOf (o .depth)) ∙ deep-self (o .depth) h
 
 -- ---- The step of the place -------------------------------------------------------------------
@@ -570,10 +571,10 @@ module _ (n : ℕ) (bytes : List ℕ) (r : Run) (o : Opens) (t : List (List ℕ)
       kept-element : Kept (y .run) after-look lent
       kept-element = record {
         room = omega (arith, kept .room, length-lent r (o .depth) (x .number) (getIn t (r .size) (x .number)) y t);
-        small = subst (λ (z : ℕ). z ≤ 1024) (sym (made-well .1 .0)) (size-small r e y (kept .small) (made-well .1 .1));
+        small = subst (λ (z : ℕ). z ≤ tableLimit) (sym (made-well .1 .0)) (size-small r e y (kept .small) (made-well .1 .1));
         held = subst (Held lent) (sym (made-well .1 .0)) (subst (λ (u : List (List ℕ)). Held u (sizeTo r e)) (sym lent-here) (held-next r o (o .depth) e y t kept f (made-well .1 .1)));
         nodes = length-set (set (o .nodes) (highAt (o .depth)) insideOpen) (lowAt (o .depth)) (x .low) ∙ length-set (o .nodes) (highAt (o .depth)) insideOpen ∙ kept .nodes;
-        deep = subst (λ (u : Looked). u .depth ≤ 32) (sym seen) (look-depth kindTable bytes (r .at) (markOf (r .mark)) (r .last) (o .depth) (lowOf o));
+        deep = subst (λ (u : Looked). u .depth ≤ openLimit) (sym seen) (look-depth kindTable bytes (r .at) (markOf (r .mark)) (r .last) (o .depth) (lowOf o));
         begin = λ q. absurd (false≢true (sym later-element ∙ q));
       }
 

@@ -9,6 +9,7 @@ use lib.ListN.{length, List·getD-eq-default}
 use borrow.Author.Tests.{lt-ltb, ne-eqb}
 use Rattle.lists.specs.Lists.{decide-le}
 use Rattle.reading.specs.Limits.{tableLimit}
+use Rattle.reading.specs.LimitLaws.{few-numbers}
 use Rattle.reading.specs.Nodes.{noNode, node}
 use Rattle.reading.specs.Causes.{declaredSize, notInTable, badNumber}
 use Rattle.reading.specs.Element.{Element, opening, number, constant, turn, closing, storing, end, Place, Outcome, got, fault, ranOut, step}
@@ -22,7 +23,7 @@ cap-self v h = omega arith
 
 -- what is alike for all numbers above the limit is so for capped ones
 by-cap : (f : ℕ → Reading) (x : Reading) → ((v : ℕ) → tableLimit < v → f v ≡ x) → (v : ℕ) → f (cap v) ≡ f v
-by-cap f x k v = ⊎-elim (λ h. ap f (cap-self v h)) (λ h. k (cap v) (omega (arith, h)) ∙ sym (k v (omega (arith, h)))) (decide-le v numberMost)
+by-cap f x k v = ⊎-elim (λ h. ap f (cap-self v h)) (λ h. k (cap v) (omega (arith, h, few-numbers)) ∙ sym (k v (omega (arith, h, few-numbers)))) (decide-le v numberMost)
 
 -- A number above the limit is refused without a look at its value, as a size, as a node and to store.
 module _ (n : ℕ) (s : State) (d : ℕ) (q : Place) (small : s .size ≤ tableLimit) (short : length (s .table) ≤ suc (s .size)) where

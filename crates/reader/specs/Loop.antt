@@ -6,6 +6,7 @@ use mathlib.Core.List.{List}
 use Prim.Native.Nat.{ℕ, suc, _-_, _<_, _≤_}
 use native.Mathlib.Omega.{arith}
 use lib.ListN.{length, replicate, length-replicate}
+use Rattle.reading.specs.Limits.{optionLimit, openLimit, tableLimit, wordLimit}
 use Rattle.reading.specs.Reading.{State, isStart}
 use Rattle.reading.specs.Reaching.{At, at-start, at-next, at-covered, at-stamp}
 use Rattle.scanner.specs.Cite.{markOf, insideOpen, terminalRef, temporaryRef, opensOf}
@@ -26,7 +27,7 @@ abbrev pub firstRun : Run
 firstRun = record { at = 0; mark = Start; last = temporaryRef; size = 0; covered = 0; complement = false; pair = record { first = terminalRef; turned = false; second = terminalRef } }
 
 abbrev pub firstOpens : Opens
-firstOpens = record { nodes = replicate 32 insideOpen; depth = 0 }
+firstOpens = record { nodes = replicate openLimit insideOpen; depth = 0 }
 
 -- Code stands where reading stands after some steps.
 pub record Stands (n : ℕ) (bytes : List ℕ) (r : Run) (o : Opens) (t : List (List ℕ)) : Type 0 where
@@ -35,7 +36,7 @@ pub record Stands (n : ℕ) (bytes : List ℕ) (r : Run) (o : Opens) (t : List (
   pub kept : Kept r o t
 
 -- It stands so at the start, whatever the table holds.
-unfoldable pub stands-first : (n : ℕ) (bytes : List ℕ) (t : List (List ℕ)) → 1024 ≤ length t → Stands n bytes firstRun firstOpens t
+unfoldable pub stands-first : (n : ℕ) (bytes : List ℕ) (t : List (List ℕ)) → tableLimit ≤ length t → Stands n bytes firstRun firstOpens t
 unfolding opensOf
 stands-first n bytes t h = record {
   steps = 0;
@@ -44,7 +45,7 @@ stands-first n bytes t h = record {
     room = h;
     small = omega arith;
     held = record { room = omega arith; counts = λ k i l. absurd (i (omega (arith, l))) };
-    nodes = length-replicate 32 insideOpen;
+    nodes = length-replicate openLimit insideOpen;
     deep = omega arith;
     begin = λ _. refl;
   };
@@ -61,7 +62,7 @@ pub record PassedLast (n : ℕ) (bytes : List ℕ) (m : Mark) (steps stop from d
   pub covered : state .covered ≡ from
   pub low : from ≤ stop
   pub depth : length (state .place .opens) ≡ deep
-  pub shallow : deep ≤ 32
+  pub shallow : deep ≤ openLimit
   pub later : isStart (markOf m) ≡ false
 
 -- Past the stop the last step passed it; else reading halts.
@@ -78,12 +79,12 @@ pub record Running (n : ℕ) (bytes : List ℕ) (stop : ℕ) (r : Run) (o : Open
   pub stands : Stands n bytes r o t
   pub past : (r .covered ≤ stop) ⊎ PassedLast n bytes (r .mark) (stands .steps) stop from deep
 
-module _ (n : ℕ) (bytes : List ℕ) (few : n ≤ 32) (r : Run) (o : Opens) (t : List (List ℕ)) (h : Stands n bytes r o t) where
+module _ (n : ℕ) (bytes : List ℕ) (few : n ≤ optionLimit) (r : Run) (o : Opens) (t : List (List ℕ)) (h : Stands n bytes r o t) where
   young : Young r t
   young = at-stamp n bytes (h .steps) (stateAt r o t) few (h .here)
 
   -- The covered count fits.
-  pub stands-covered : r .covered ≤ 4294967296
+  pub stands-covered : r .covered ≤ wordLimit
   stands-covered = at-covered n bytes (h .steps) (stateAt r o t) few (h .here)
 
   -- the turn's result y, with the lent table u

@@ -10,6 +10,7 @@ use lib.Dec.{ltb}
 use lib.ListN.{length, replicate}
 use borrow.Author.Tests.{lt-ltb, le-ltb, ltb-false}
 use Rattle.lists.specs.Lists.{decide-le}
+use Rattle.reading.specs.Limits.{optionLimit, openLimit, tableLimit, wordLimit}
 use Rattle.scanner.specs.declared.Cause.{Cause}
 use Rattle.scanner.specs.declared.Cause.the-variants.{WrongByte}
 use Rattle.reader.specs.declared.Cursor.{Cursor}
@@ -112,7 +113,7 @@ abbrev Reaches : ℕ → List ℕ → ℕ → ReadTo → Type 0
 Reaches n bytes stop z = ReachedBy n bytes stop (z .reached) (z .table)
 
 -- with fuel for every byte that is left
-read-running : (f n : ℕ) (bytes : List ℕ) → n ≤ 32 → (stop : ℕ) (r : Run) (o : Opens) (from deep : ℕ) (t : List (List ℕ)) → Running n bytes stop r o from deep t → length bytes - r .at < f
+read-running : (f n : ℕ) (bytes : List ℕ) → n ≤ optionLimit → (stop : ℕ) (r : Run) (o : Opens) (from deep : ℕ) (t : List (List ℕ)) → Running n bytes stop r o from deep t → length bytes - r .at < f
     → Reaches n bytes stop (readOn f n bytes stop r o from deep t)
 read-running zero n bytes few stop r o from deep t h l = absurd (omega (arith, l))
 read-running (suc f) n bytes few stop r o from deep t h l = ⊎-elim (on (λ a b c d e. read-running f n bytes few stop a b c d e)) over (decide-le (r .covered) stop)
@@ -146,7 +147,7 @@ read-running (suc f) n bytes few stop r o from deep t h l = ⊎-elim (on (λ a b
     over k = subst (Reaches n bytes stop) (sym (read-past f n bytes stop r o from deep t k)) (loop-past n bytes stop r o from deep t h k)
 
 -- WHERE CODE STANDS as reading does, what the function comes to is what the loop reaches.
-pub read-reaches : (n : ℕ) (bytes : List ℕ) → n ≤ 32 → (stop : ℕ) (r : Run) (o : Opens) (t : List (List ℕ)) → Stands n bytes r o t → r .covered ≤ stop
+pub read-reaches : (n : ℕ) (bytes : List ℕ) → n ≤ optionLimit → (stop : ℕ) (r : Run) (o : Opens) (t : List (List ℕ)) → Stands n bytes r o t → r .covered ≤ stop
     → let z = readAll n bytes stop r o t in ReachedBy n bytes stop (z .reached) (z .table)
 read-reaches n bytes few stop r o t h l = read-running (suc (length bytes)) n bytes few stop r o 0 0 t (record { stands = h; past = inl l }) (omega arith)
 
@@ -157,10 +158,10 @@ pub record Leads (z : ReadTo) (n : ℕ) (bytes : List ℕ) (stop : ℕ) (r : Run
   pub fuel : ℕ
   pub enough : length bytes - r .at < suc fuel
   pub same : readOn (suc fuel) n bytes stop r o from deep t ≡ z
-  pub shallow : o .depth ≤ 32
+  pub shallow : o .depth ≤ openLimit
 
 -- So at the start.
-pub leads-first : (n : ℕ) (bytes : List ℕ) (stop : ℕ) (r : Run) (o : Opens) (t : List (List ℕ)) → o .depth ≤ 32 → Leads (readAll n bytes stop r o t) n bytes stop r o 0 0 t
+pub leads-first : (n : ℕ) (bytes : List ℕ) (stop : ℕ) (r : Run) (o : Opens) (t : List (List ℕ)) → o .depth ≤ openLimit → Leads (readAll n bytes stop r o t) n bytes stop r o 0 0 t
 leads-first n bytes stop r o t h = record { fuel = length bytes; enough = omega arith; same = refl; shallow = h }
 
 module _ (z : ReadTo) (n : ℕ) (bytes : List ℕ) (stop : ℕ) (r : Run) (o : Opens) (from deep : ℕ) (t : List (List ℕ)) (h : Leads z n bytes stop r o from deep t) where
@@ -178,7 +179,7 @@ module _ (z : ReadTo) (n : ℕ) (bytes : List ℕ) (stop : ℕ) (r : Run) (o : O
     leads-halts e = sym (read-halts (h .fuel) n bytes stop r o from deep t y u made-low l e) ∙ h .same
 
     module _ (e : y .went ≡ true) where
-      ahead : (r .at < length bytes) × ((r .at < y .run .at) × (y .depth ≤ 32))
+      ahead : (r .at < length bytes) × ((r .at < y .run .at) × (y .depth ≤ openLimit))
       ahead = turn-ahead n bytes r (o .depth) (lowOf o) t y u made-low e
 
       -- Another moves on in the bytes,
@@ -206,12 +207,12 @@ abbrev pub startCursor : Cursor
 startCursor = record { run = firstRun; depth = 0 }
 
 -- It is that beside cells that are all zero.
-pub cursor-first : cursorIn startCursor (replicate 32 (replicate 4 0)) ≡ firstCursor
+pub cursor-first : cursorIn startCursor (replicate openLimit (replicate 4 0)) ≡ firstCursor
 cursor-first = refl
 
 -- more options, open nodes or words than any reading has
 abbrev pub offBy : ℕ → ℕ → ℕ → Bool
-offBy n d stop = ltb 32 n || (ltb 32 d || ltb 4294967296 stop)
+offBy n d stop = ltb optionLimit n || (ltb openLimit d || ltb wordLimit stop)
 
 -- nothing is read
 abbrev pub restingAt : ReadCursor → ReadReached
@@ -237,33 +238,33 @@ module _ (n : ℕ) (bytes : List ℕ) (stop : ℕ) (c : ReadCursor) (t : List (L
   read-on h = ap by h
 
 -- a cursor that is not past the limits keeps to them
-pub within : (n d stop : ℕ) → offBy n d stop ≡ false → (n ≤ 32) × ((d ≤ 32) × (stop ≤ 4294967296))
-within n d stop = go (ltb 32 n) refl (ltb 32 d) refl (ltb 4294967296 stop) refl
+pub within : (n d stop : ℕ) → offBy n d stop ≡ false → (n ≤ optionLimit) × ((d ≤ openLimit) × (stop ≤ wordLimit))
+within n d stop = go (ltb optionLimit n) refl (ltb openLimit d) refl (ltb wordLimit stop) refl
   where
-    go : (p : Bool) → ltb 32 n ≡ p → (q : Bool) → ltb 32 d ≡ q → (r : Bool) → ltb 4294967296 stop ≡ r → (p || (q || r)) ≡ false → (n ≤ 32) × ((d ≤ 32) × (stop ≤ 4294967296))
+    go : (p : Bool) → ltb optionLimit n ≡ p → (q : Bool) → ltb openLimit d ≡ q → (r : Bool) → ltb wordLimit stop ≡ r → (p || (q || r)) ≡ false → (n ≤ optionLimit) × ((d ≤ openLimit) × (stop ≤ wordLimit))
     go true e q f r g h = absurd (false≢true (sym h))
     go false e true f r g h = absurd (false≢true (sym h))
     go false e false f true g h = absurd (false≢true (sym h))
-    go false e false f false g h = (ltb-false 32 n e, (ltb-false 32 d f, ltb-false 4294967296 stop g))
+    go false e false f false g h = (ltb-false optionLimit n e, (ltb-false openLimit d f, ltb-false wordLimit stop g))
 
 -- and one that keeps to them is not past them
-not-off : (n d stop : ℕ) → n ≤ 32 → d ≤ 32 → stop ≤ 4294967296 → offBy n d stop ≡ false
-not-off n d stop h k l = rw (le-ltb 32 n h, le-ltb 32 d k, le-ltb 4294967296 stop l) refl
+not-off : (n d stop : ℕ) → n ≤ optionLimit → d ≤ openLimit → stop ≤ wordLimit → offBy n d stop ≡ false
+not-off n d stop h k l = rw (le-ltb optionLimit n h, le-ltb openLimit d k, le-ltb wordLimit stop l) refl
 
 -- The loop reads on from a cursor that stands where reading does.
-pub read-within : (n : ℕ) (bytes : List ℕ) → n ≤ 32 → (stop : ℕ) → stop ≤ 4294967296 → (c : ReadCursor) (t : List (List ℕ)) → Stands n bytes (c .run) (c .opens) t
+pub read-within : (n : ℕ) (bytes : List ℕ) → n ≤ optionLimit → (stop : ℕ) → stop ≤ wordLimit → (c : ReadCursor) (t : List (List ℕ)) → Stands n bytes (c .run) (c .opens) t
     → readFrom n bytes stop c t ≡ readAll n bytes stop (c .run) (c .opens) t
 read-within n bytes few stop most c t h = read-on n bytes stop c t (not-off n (c .opens .depth) stop few (h .kept .deep) most)
 
 -- So for a call: y is what it reaches, u the table after it.
-pub read-called : (n : ℕ) (bytes : List ℕ) → n ≤ 32 → (stop : ℕ) → stop ≤ 4294967296 → (c : ReadCursor) (t : List (List ℕ)) → Stands n bytes (c .run) (c .opens) t → c .run .covered ≤ stop
+pub read-called : (n : ℕ) (bytes : List ℕ) → n ≤ optionLimit → (stop : ℕ) → stop ≤ wordLimit → (c : ReadCursor) (t : List (List ℕ)) → Stands n bytes (c .run) (c .opens) t → c .run .covered ≤ stop
     → (y : ReadReached) (u : List (List ℕ)) → record { reached = y; table = u } ≡ readFrom n bytes stop c t → ReachedBy n bytes stop y u
 read-called n bytes few stop most c t h l y u e =
     subst (Reaches n bytes stop) (sym (e ∙ read-within n bytes few stop most c t h)) (read-reaches n bytes few stop (c .run) (c .opens) t h l)
 
 -- So for a call from the start.
-pub read-begun : (n : ℕ) (bytes : List ℕ) → n ≤ 32 → (stop : ℕ) → stop ≤ 4294967296 → (c : Cursor) (t : List (List ℕ)) → 1024 ≤ length t → c ≡ startCursor
-    → (y : ReadReached) (u : List (List ℕ)) → record { reached = y; table = u } ≡ readFrom n bytes stop (cursorIn c (replicate 32 (replicate 4 0))) t → ReachedBy n bytes stop y u
+pub read-begun : (n : ℕ) (bytes : List ℕ) → n ≤ optionLimit → (stop : ℕ) → stop ≤ wordLimit → (c : Cursor) (t : List (List ℕ)) → tableLimit ≤ length t → c ≡ startCursor
+    → (y : ReadReached) (u : List (List ℕ)) → record { reached = y; table = u } ≡ readFrom n bytes stop (cursorIn c (replicate openLimit (replicate 4 0))) t → ReachedBy n bytes stop y u
 read-begun n bytes few stop most c t room ce y u e =
     read-called n bytes few stop most firstCursor t (stands-first n bytes t room) (omega arith) y u
-    (e ∙ ap (λ (c : Cursor). readFrom n bytes stop (cursorIn c (replicate 32 (replicate 4 0))) t) ce)
+    (e ∙ ap (λ (c : Cursor). readFrom n bytes stop (cursorIn c (replicate openLimit (replicate 4 0))) t) ce)

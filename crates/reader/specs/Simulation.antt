@@ -10,6 +10,7 @@ use native.Mathlib.Omega.{arith}
 use lib.Dec.{ltb, eqb}
 use lib.ListN.{length, set, replicate}
 use borrow.Author.Tests.{eqb-true, lt-ltb, ne-eqb, eqb-false, ltb-false}
+use Rattle.reading.specs.Limits.{tableLimit}
 use Rattle.reading.specs.Nodes.{Node, newNode, noNode, node, stamp, isKept, child, terminal, entry, temporary, hasParent}
 use Rattle.reading.specs.Element as T
 use Rattle.reading.specs.Causes.{tooDeep, notStorable, badNumber}
@@ -121,9 +122,9 @@ module _ (n : ℕ) (r : Run) (os os′ : List T.Open) (t : List Node) (at : ℕ)
   take-opening false = refl
 
   take-size : (g v : ℕ) → let y = sizedTo r g v at m in taken y (cond (y .faulty) t (replicate (suc v) noNode)) ≡ sized before onto g v
-  take-size g v = go (ltb 1024 v) refl
+  take-size g v = go (ltb tableLimit v) refl
     where
-      go : (b : Bool) → ltb 1024 v ≡ b → let y = sizedTo r g v at m in taken y (cond (y .faulty) t (replicate (suc v) noNode)) ≡ sized before onto g v
+      go : (b : Bool) → ltb tableLimit v ≡ b → let y = sizedTo r g v at m in taken y (cond (y .faulty) t (replicate (suc v) noNode)) ≡ sized before onto g v
       go true e = rw e refl
       go false e = rw e refl
 

@@ -2,6 +2,7 @@
 use mathlib.Core.Bool.{Bool, true, false, cond, _||_, not}
 use Prim.Native.Nat.{ℕ, _+_, _-_, _^_}
 use lib.Dec.{ltb, eqb}
+use Rattle.reading.specs.Limits.{tableLimit}
 use Rattle.reading.specs.Reading.{isStart, isLead}
 use Rattle.scanner.specs.Cite.{markOf, terminalRef, temporaryRef, entryRef}
 use Rattle.scanner.specs.declared.Cause.{Cause}
@@ -32,7 +33,7 @@ turnedTo r at m = record { at = at; mark = m; last = r .last; size = r .size; co
 
 abbrev pub sizedTo : Run → ℕ → ℕ → ℕ → Mark → Taken
 sizedTo r g v at m =
-    cond (ltb 1024 v) (failsOf r DeclaredSize g)
+    cond (ltb tableLimit v) (failsOf r DeclaredSize g)
     (record { run = record { at = at; mark = m; last = r .last; size = v; covered = r .covered; complement = r .complement; pair = r .pair }; faulty = false; cause = WrongByte; byte = 0; sizes = true; stores = false })
 
 abbrev pub foundTo : ℕ → Run → ℕ → ℕ → ℕ → Row → ℕ → Mark → Taken

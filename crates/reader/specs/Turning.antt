@@ -11,6 +11,7 @@ use lib.ListN.{length, getD, List·getD-eq-default}
 use borrow.Author.Tests.{not-true}
 use Rattle.lists.specs.Lists.{decide-le}
 use Rattle.lists.specs.Looks.{look-past}
+use Rattle.reading.specs.Limits.{openLimit}
 use Rattle.reading.specs.Causes as C
 use Rattle.reading.specs.Element as T
 use Rattle.reading.specs.StepLaws.{digitPlace}
@@ -290,9 +291,9 @@ module _ (n : ℕ) (bytes : List ℕ) (r : Run) (d : ℕ) (low : Open) (t : List
 
 -- ---- Onward ----------------------------------------------------------------------------------
 
--- A TURN THAT GOES ON moves ahead in the bytes, and at most 32 nodes are open after it.
+-- A TURN THAT GOES ON moves ahead in the bytes, and no more nodes are open after it than may be.
 pub turn-ahead : (n : ℕ) (bytes : List ℕ) (r : Run) (d : ℕ) (low : Open) (t : List (List ℕ)) (y : Turn) (u : List (List ℕ)) → TurnMade n bytes r d low t y u
-    → y .went ≡ true → (r .at < length bytes) × ((r .at < y .run .at) × (y .depth ≤ 32))
+    → y .went ≡ true → (r .at < length bytes) × ((r .at < y .run .at) × (y .depth ≤ openLimit))
 turn-ahead n bytes r d low t y u (past h e k) w = absurd (false≢true (sym (ap (λ (z : Turn). z .went) e) ∙ w))
 turn-ahead n bytes r d low t y u (barred h e k) w = absurd (false≢true (sym (ap (λ (z : Turn). z .went) e) ∙ w))
 turn-ahead n bytes r d low t y u (out h x s i e k) w = absurd (false≢true (sym (ap (λ (z : Turn). z .went) e) ∙ w))
@@ -303,6 +304,6 @@ turn-ahead n bytes r d low t y u (took l h x s a i e k) w =
       l,
       (
         subst (λ (q : ℕ). r .at < q) (sym (ap (λ (z : Turn). z .run .at) e ∙ j)) (look-ahead bytes r d low x s a i l),
-        subst (λ (q : ℕ). q ≤ 32) (sym (ap (λ (z : Turn). z .depth) e ∙ ap (λ (z : Looked). z .depth) s)) (look-depth kindTable bytes (r .at) (markOf (r .mark)) (r .last) d low),
+        subst (λ (q : ℕ). q ≤ openLimit) (sym (ap (λ (z : Turn). z .depth) e ∙ ap (λ (z : Looked). z .depth) s)) (look-depth kindTable bytes (r .at) (markOf (r .mark)) (r .last) d low),
       ),
     )

@@ -1,5 +1,6 @@
 ghost use mathlib.Core.Path.{_≡_};
 ghost use Prim.Native.Nat.{_+_, _-_, _<_, _≤_, _^_};
+ghost use Rattle.reading.specs.Limits.{optionLimit, openLimit, wordLimit};
 ghost use Rattle.reading.specs.Reading.{isStart};
 ghost use Rattle.reading.specs.StepLaws.{digitPlace};
 ghost use Rattle.scanner.specs.Kinds.{kindTable};
@@ -28,6 +29,7 @@ use scanner::spots_of;
 use work_table::OPTION_LIMIT;
 use work_table::Row;
 use work_table::TABLE_LIMIT;
+use work_table::WORD_LIMIT;
 use work_table::bit;
 use work_table::clear;
 use work_table::get;
@@ -109,8 +111,8 @@ fn moved(r: Run, at: usize, m: Mark) -> Run
 
 // The words of a node with d open nodes around it.
 fn words(n: u32, d: u32) -> u64
-    requires { ⌜ n ≤ 32 ⌝ }
-    ensures { λ x. ⌜ (x ≡ 2 ^ (n - d)) × (x ≤ 4294967296) ⌝ }
+    requires { ⌜ n ≤ optionLimit ⌝ }
+    ensures { λ x. ⌜ (x ≡ 2 ^ (n - d)) × (x ≤ wordLimit) ⌝ }
 {
     if n < d {
         return 1;
@@ -120,7 +122,7 @@ fn words(n: u32, d: u32) -> u64
 
 // A node that refers to x passes its words.
 fn passed(n: u32, r: Run, d: u32, x: Ref, at: usize, m: Mark) -> Run
-    requires { ⌜ (n ≤ 32) × (r .covered ≤ 4294967296) ⌝ }
+    requires { ⌜ (n ≤ optionLimit) × (r .covered ≤ wordLimit) ⌝ }
     ensures { λ y. ⌜ y ≡ passedTo n r d x at m ⌝ }
 {
     let p = r.pair;
@@ -168,7 +170,7 @@ fn sized(r: Run, g: usize, v: u32, at: usize, m: Mark) -> Taken
 
 // The number v, with its record x.
 fn found(n: u32, r: Run, d: u32, g: usize, v: u32, x: Row, at: usize, m: Mark) -> Taken
-    requires { ⌜ (n ≤ 32) × ((r .covered ≤ 4294967296) × (d ≤ 32)) ⌝ }
+    requires { ⌜ (n ≤ optionLimit) × ((r .covered ≤ wordLimit) × (d ≤ openLimit)) ⌝ }
     ensures { λ y. ⌜ y ≡ foundTo n r d g v x at m ⌝ }
 {
     if x.level == 0 {
@@ -212,7 +214,7 @@ fn paired(r: Run, o: Open, at: usize, m: Mark) -> Run
 
 // The innermost open node, o, is closed.
 fn closed(n: u32, r: Run, d: u32, o: Open, at: usize, m: Mark) -> Taken
-    requires { ⌜ (n ≤ 32) × (r .covered ≤ 4294967296) ⌝ }
+    requires { ⌜ (n ≤ optionLimit) × (r .covered ≤ wordLimit) ⌝ }
     ensures { λ y. ⌜ y ≡ closedTo n r d o at m ⌝ }
 {
     if d == 0 {
@@ -325,7 +327,7 @@ fn take_element(
     at: usize,
     m: Mark,
 ) -> Taken
-    requires { ⌜ (n ≤ 32) × ((r .covered ≤ 4294967296) × ((d ≤ 32) × (r .at < 18446744073709551615))) ⌝ }
+    requires { ⌜ (n ≤ optionLimit) × ((r .covered ≤ wordLimit) × ((d ≤ openLimit) × (r .at < 18446744073709551615))) ⌝ }
     ensures { λ y. ⌜ y ≡ takenOf n r d o g e x at m ⌝ }
 {
     match e {
@@ -382,7 +384,7 @@ fn barred(t: &[[u32; 6]], r: Run, b: u8) -> bool
 
 // The record that a storing puts, d nodes being open. x: the record before
 fn record_of(r: Run, d: u32, x: Row) -> Row
-    requires { ⌜ d ≤ 32 ⌝ }
+    requires { ⌜ d ≤ openLimit ⌝ }
     ensures { λ y. ⌜ y ≡ rowTo r d x ⌝ }
 {
     let p = r.pair;
@@ -400,7 +402,7 @@ fn record_of(r: Run, d: u32, x: Row) -> Row
 
 // The table after an element of the number k: a size clears its records, a storing puts one.
 fn lend(t: &mut [[u32; 6]], r: Run, d: u32, k: u32, x: Row, y: Taken)
-    requires { ⌜ d ≤ 32 ⌝ }
+    requires { ⌜ d ≤ openLimit ⌝ }
     ensures { λ _. ⌜ now (t .exit) ≡ lentTo r d k x y (now (t .entry)) ⌝ }
 {
     let s = y.stores;
@@ -524,7 +526,7 @@ fn take_turn(
     d: usize,
     low: Open,
 ) -> Turn
-    requires { ⌜ (now k ≡ kindTable) × ((n ≤ 32) × ((r .covered ≤ 4294967296) × (d ≤ 32))) ⌝ }
+    requires { ⌜ (now k ≡ kindTable) × ((n ≤ optionLimit) × ((r .covered ≤ wordLimit) × (d ≤ openLimit))) ⌝ }
     ensures { λ y. ⌜ TurnMade n (now (s .entry)) r d low (now (t .entry)) y (now (t .exit)) ⌝ }
 {
     let at = r.at;
@@ -639,7 +641,7 @@ fn run_on(
     around: usize,
     stop: u64,
 ) -> Reached
-    requires { ⌜ (now k ≡ kindTable) × ((n ≤ 32) × ((around ≤ 32) × (stop ≤ 4294967296))) ⌝ }
+    requires { ⌜ (now k ≡ kindTable) × ((n ≤ optionLimit) × ((around ≤ openLimit) × (stop ≤ wordLimit))) ⌝ }
     ensures { λ y. ⌜ record { reached = reachedIn y (now (o .exit)); table = now (t .exit) } ≡ readAll n (now (s .entry)) stop first (opensIn (now (o .entry)) around) (now (t .entry)) ⌝ }
 {
     let mut run = first;
@@ -712,7 +714,7 @@ fn is_off(n: u32, d: usize, stop: u64) -> bool
     if OPEN_LIMIT < d {
         return true;
     }
-    4294967296 < stop
+    WORD_LIMIT < stop
 }
 
 // READING ON while no more than `stop` words are covered. o: the open nodes, as reading left them

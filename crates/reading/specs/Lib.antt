@@ -1,4 +1,5 @@
 pub mod Limits
+pub mod LimitLaws
 pub mod Bytes
 pub mod Nodes
 pub mod Causes

@@ -1,5 +1,5 @@
 -- The limits of document 01, each named once. No law but a computed example depends on their values. Assumes nothing.
-use Prim.Native.Nat.{ℕ}
+use Prim.Native.Nat.{ℕ, _+_, _^_}
 
 -- "The option count n is 0 to 32."
 abbrev pub optionLimit : ℕ
@@ -19,3 +19,21 @@ truthTableLeast = 3
 
 abbrev pub truthTableMost : ℕ
 truthTableMost = 16
+
+-- ---- What they make
+
+-- the level of a word, below the most options
+abbrev pub levelLimit : ℕ
+levelLimit = optionLimit + 1
+
+-- the digits of a number that a table may have
+abbrev pub digitLimit : ℕ
+digitLimit = 4
+
+-- the words of the most options
+abbrev pub wordLimit : ℕ
+wordLimit = 2 ^ optionLimit
+
+-- the words of the largest truth table
+abbrev pub truthLimit : ℕ
+truthLimit = 2 ^ truthTableMost

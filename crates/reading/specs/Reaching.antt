@@ -9,6 +9,8 @@ use lib.ListN.{length, replicate}
 use lib.Pow.{pow-mono}
 use borrow.Author.Tests.{lt-ltb, le-ltb}
 use Rattle.lists.specs.Lists.{differ, decide-le}
+use Rattle.reading.specs.Limits.{optionLimit, wordLimit}
+use Rattle.reading.specs.LimitLaws.{few-stamps}
 use Rattle.reading.specs.Nodes.{child, stamp}
 use Rattle.reading.specs.Causes.{Cause}
 use Rattle.reading.specs.Element.{afterTwo}
@@ -81,15 +83,15 @@ module _ (n : ℕ) (bytes : List ℕ) where
   pub at-within : (f : ℕ) (s : State) → At n bytes f s → s .covered ≤ 2 ^ n
   at-within f s h = omega (arith, covered-within f n bytes, ap (λ (r : Reading). r .state .covered) h)
 
-  -- at most 2^32 under the option limit.
-  pub at-covered : (f : ℕ) (s : State) → n ≤ 32 → At n bytes f s → s .covered ≤ 4294967296
-  at-covered f s l h = omega (arith, at-within f s h, pow-mono {i = n} {j = 32} l)
+  -- so no more than those of the most options.
+  pub at-covered : (f : ℕ) (s : State) → n ≤ optionLimit → At n bytes f s → s .covered ≤ wordLimit
+  at-covered f s l h = omega (arith, at-within f s h, pow-mono {i = n} {j = optionLimit} l)
 
   -- Where a number may be given out, it has been given out at most 2^32 - 2 times.
-  pub at-stamp : (f : ℕ) (s : State) → n ≤ 32 → At n bytes f s → s .place .mark ≡ afterTwo → (k : ℕ) → stamp (s .table) k + 2 ≤ 4294967296
+  pub at-stamp : (f : ℕ) (s : State) → n ≤ optionLimit → At n bytes f s → s .place .mark ≡ afterTwo → (k : ℕ) → stamp (s .table) k + 2 ≤ 4294967296
   at-stamp f s l h e k =
       let m = rw (now-state f s h) at (stamp-most f n bytes k) in
-      omega (arith, m e, pow-mono {i = n} {j = 32} l)
+      omega (arith, m e, pow-mono {i = n} {j = optionLimit} l, few-stamps)
 
   -- the trace after g steps goes on from that after f
   trace-later : (f g : ℕ) → f ≤ g → traceAt g ≡ traceOn (g - f) n bytes (traceAt f)

@@ -165,13 +165,13 @@ module _ (r : Refusal) (w : List ℕ) (room : length w ≡ lineLimit) (k : ℕ) 
       (there .0 ∙ ap (λ (x : ℕ). refusedAs (decimal x)) e, omega (arith, there .1, refused-length), there .2 ∙ room)
 
 -- a shift gives the count of words
-pub all-words : (n : ℕ) → n ≤ 32 → 1 * 2 ^ n % 18446744073709551616 ≡ 2 ^ min n optionLimit
+pub all-words : (n : ℕ) → n ≤ optionLimit → 1 * 2 ^ n % 18446744073709551616 ≡ 2 ^ min n optionLimit
 all-words n h =
     let e : min n optionLimit ≡ n = omega (arith, h) in
     shl-exact {a = 1} 1 n 64 (omega arith) (omega (arith, h)) ∙ one-mul (2 ^ n) ∙ ap (λ (i : ℕ). 2 ^ i) (sym e)
 
-pub limit-words : (n : ℕ) → 32 < n → 2 ^ 32 ≡ 2 ^ min n optionLimit
-limit-words n h = let e : min n optionLimit ≡ 32 = omega (arith, h) in ap (λ (i : ℕ). 2 ^ i) (sym e)
+pub limit-words : (n : ℕ) → optionLimit < n → 2 ^ optionLimit ≡ 2 ^ min n optionLimit
+limit-words n h = let e : min n optionLimit ≡ optionLimit = omega (arith, h) in ap (λ (i : ℕ). 2 ^ i) (sym e)
 
 ending-length : (e : Ending) → length (text (endingName e)) ≤ 11
 unfolding text

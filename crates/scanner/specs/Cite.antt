@@ -5,6 +5,7 @@ use mathlib.Core.List.{List, [], _∷_}
 use Prim.Native.Nat.{ℕ, zero, suc, _+_, _-_}
 use lib.Dec.{ltb, eqb}
 use lib.ListN.{getD}
+use Rattle.reading.specs.Limits.{openLimit}
 use Rattle.reading.specs.Nodes as N
 use Rattle.reading.specs.Causes as C
 use Rattle.reading.specs.Element as T
@@ -206,9 +207,9 @@ unfoldable pub opensOf : List Open → ℕ → List T.Open
 opensOf ns zero = []
 opensOf ns (suc d) = openOf (getD ns d insideOpen) ∷ opensOf ns d
 
--- a depth above 32 is read as 32
+-- a depth above the limit is read as the limit
 abbrev pub deepOf : ℕ → ℕ
-deepOf d = cond (ltb 32 d) 32 d
+deepOf d = cond (ltb openLimit d) openLimit d
 
 abbrev pub openList : Opens → List T.Open
 openList o = opensOf (o .nodes) (deepOf (o .depth))
@@ -217,12 +218,16 @@ openList o = opensOf (o .nodes) (deepOf (o .depth))
 abbrev pub sideOf : ℕ → Open → G.Top
 sideOf d e = cond (eqb d 0) G.empty (cond (e .second) G.outer G.inner)
 
+-- the last entry
+abbrev pub lastOpen : ℕ
+lastOpen = openLimit - 1
+
 -- the place of its entry, and of the one after it
 abbrev pub lowAt : ℕ → ℕ
-lowAt d = cond (eqb d 0) 31 (cond (ltb d 32) (d - 1) 31)
+lowAt d = cond (eqb d 0) lastOpen (cond (ltb d openLimit) (d - 1) lastOpen)
 
 abbrev pub highAt : ℕ → ℕ
-highAt d = cond (ltb d 32) d 31
+highAt d = cond (ltb d openLimit) d lastOpen
 
 abbrev pub spotsOf : ℕ → Spots
 spotsOf d = record { low = lowAt d; high = highAt d }

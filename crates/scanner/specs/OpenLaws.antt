@@ -17,7 +17,7 @@ use Rattle.reading.specs.Reading.{isStart}
 use Rattle.scanner.specs.Kinds.{digitIn, blankIn, lineFeedIn, dotIn, openerIn, closerIn, tildeIn, colonIn, numberBy}
 use Rattle.scanner.specs.Glance.{Top, topOf, Change, same, push, pop, secondPush, second, changed, Glance, sizeLine, sizeSeen, numberSeen, storingSeen, nodeSeen, spaceSeen, colonSeen, endSeen, glanceBy, glanceOn, glance, empty, inner, outer}
 use Rattle.scanner.specs.Capped.{capOutcome}
-use Rattle.scanner.specs.Cite.{refOf, openOf, insideOpen, begunOpen, opensOf, sideOf, lowAt, highAt, depthBy, secondBy, turnedBy}
+use Rattle.scanner.specs.Cite.{refOf, openOf, insideOpen, begunOpen, opensOf, sideOf, lastOpen, lowAt, highAt, depthBy, secondBy, turnedBy}
 use Rattle.scanner.specs.declared.Open.{Open}
 use Rattle.scanner.specs.declared.Ref.{Ref}
 
@@ -51,15 +51,15 @@ side-top e l = go (e .second)
     go false = refl
 
 -- the innermost of d + 1 open nodes stands at place d
-pub low-suc : (d : ℕ) → suc d ≤ 32 → lowAt (suc d) ≡ d
-low-suc d h = rw (ne-eqb (suc d) 0 (λ z. omega arith)) (go (ltb (suc d) 32) refl)
+pub low-suc : (d : ℕ) → suc d ≤ openLimit → lowAt (suc d) ≡ d
+low-suc d h = rw (ne-eqb (suc d) 0 (λ z. omega arith)) (go (ltb (suc d) openLimit) refl)
   where
-    go : (t : Bool) → ltb (suc d) 32 ≡ t → cond t (suc d - 1) 31 ≡ d
+    go : (t : Bool) → ltb (suc d) openLimit ≡ t → cond t (suc d - 1) lastOpen ≡ d
     go true e = omega arith
-    go false e = omega (arith, h, ltb-false (suc d) 32 e)
+    go false e = omega (arith, h, ltb-false (suc d) openLimit e)
 
 -- the innermost open node, by its entry
-pub open-top : (ns : List Open) (d : ℕ) → d ≤ 32 → sideOf d (getD ns (lowAt d) insideOpen) ≡ topOf (opensOf ns d)
+pub open-top : (ns : List Open) (d : ℕ) → d ≤ openLimit → sideOf d (getD ns (lowAt d) insideOpen) ≡ topOf (opensOf ns d)
 unfolding opensOf
 open-top ns zero h = refl
 open-top ns (suc d) h =
@@ -79,38 +79,38 @@ Pushes pop = ⊥
 Pushes secondPush = Unit {0}
 Pushes (second t) = ⊥
 
-module _ (ns : List Open) (long : length ns ≡ 32) (r : Ref) where
+module _ (ns : List Open) (long : length ns ≡ openLimit) (r : Ref) where
   -- the array after both stores, the one after the innermost first
   abbrev stored : ℕ → Open → List Open
   stored d low = set (set ns (highAt d) insideOpen) (lowAt d) low
 
-  low-inside : (d : ℕ) → d ≤ 32 → lowAt d < length ns
+  low-inside : (d : ℕ) → d ≤ openLimit → lowAt d < length ns
   low-inside zero h = omega (arith, long)
   low-inside (suc d) h = subst (λ (i : ℕ). i < length ns) (sym (low-suc d h)) (omega (arith, long))
 
   -- what is stored behind the innermost does not count
-  behind : (d k : ℕ) (x : Open) → d ≤ 32 → k ≤ d → opensOf (stored d x) k ≡ opensOf (set ns (lowAt d) x) k
+  behind : (d k : ℕ) (x : Open) → d ≤ openLimit → k ≤ d → opensOf (stored d x) k ≡ opensOf (set ns (lowAt d) x) k
   unfolding opensOf
   behind zero zero x h l = refl
   behind zero (suc k) x h l = absurd (omega (arith, l))
-  behind (suc d) k x h l = go (ltb (suc d) 32) refl
+  behind (suc d) k x h l = go (ltb (suc d) openLimit) refl
     where
       low : lowAt (suc d) ≡ d
       low = low-suc d h
 
-      go : (t : Bool) → ltb (suc d) 32 ≡ t → opensOf (set (set ns (cond t (suc d) 31) insideOpen) (lowAt (suc d)) x) k ≡ opensOf (set ns (lowAt (suc d)) x) k
+      go : (t : Bool) → ltb (suc d) openLimit ≡ t → opensOf (set (set ns (cond t (suc d) lastOpen) insideOpen) (lowAt (suc d)) x) k ≡ opensOf (set ns (lowAt (suc d)) x) k
       go true e = rw low (ap (λ (m : List Open). opensOf m k) (set-comm ns (suc d) d insideOpen x (λ q. omega (arith, q))) ∙ opens-set (set ns d x) (suc d) k insideOpen l)
       go false e =
-          let i : d ≡ 31 = omega (arith, h, ltb-false (suc d) 32 e) in
-          rw (low, i) (ap (λ (m : List Open). opensOf m k) (set-set ns 31 insideOpen x))
+          let i : d ≡ lastOpen = omega (arith, h, ltb-false (suc d) openLimit e) in
+          rw (low, i) (ap (λ (m : List Open). opensOf m k) (set-set ns lastOpen insideOpen x))
 
   -- a node opens, behind d others whose innermost entry becomes x
-  pushed : (d : ℕ) (x : Open) → d < 32 → opensOf (stored d x) (d + 1) ≡ T.inFirst ∷ opensOf (set ns (lowAt d) x) d
+  pushed : (d : ℕ) (x : Open) → d < openLimit → opensOf (stored d x) (d + 1) ≡ T.inFirst ∷ opensOf (set ns (lowAt d) x) d
   unfolding opensOf
-  pushed zero x h = rw (getD-set-other (set ns 0 insideOpen) 31 0 x insideOpen (λ q. omega arith), getD-set-same ns 0 insideOpen insideOpen (omega (arith, long))) refl
+  pushed zero x h = rw (getD-set-other (set ns 0 insideOpen) lastOpen 0 x insideOpen (λ q. omega arith), getD-set-same ns 0 insideOpen insideOpen (omega (arith, long))) refl
   pushed (suc d) x h =
       let e : suc d + 1 ≡ suc (suc d) = omega arith in
-      let hi : highAt (suc d) ≡ suc d = rw (lt-ltb (suc d) 32 h) refl in
+      let hi : highAt (suc d) ≡ suc d = rw (lt-ltb (suc d) openLimit h) refl in
       let lo : lowAt (suc d) ≡ d = low-suc d (omega arith) in
       rw (e, hi, lo) (ap₂ (λ (y : Open) (l : List T.Open). openOf y ∷ l)
       (getD-set-other (set ns (suc d) insideOpen) d (suc d) x insideOpen (λ q. omega arith) ∙ getD-set-same ns (suc d) insideOpen insideOpen (omega (arith, long)))
@@ -119,7 +119,7 @@ module _ (ns : List Open) (long : length ns ≡ 32) (r : Ref) where
       (opens-set (set ns (suc d) insideOpen) d d x (omega arith) ∙ opens-set ns (suc d) d insideOpen (omega arith) ∙ sym (opens-set ns d d x (omega arith)))))
 
   -- the innermost entry becomes that of a node in its second child
-  seconds : (d : ℕ) (t : Bool) → d ≤ 32 → opensOf (set ns (lowAt d) (begunOpen r t)) d ≡ changed (second t) (refOf r) (opensOf ns d)
+  seconds : (d : ℕ) (t : Bool) → d ≤ openLimit → opensOf (set ns (lowAt d) (begunOpen r t)) d ≡ changed (second t) (refOf r) (opensOf ns d)
   unfolding opensOf
   seconds zero t h = refl
   seconds (suc d) t h = ap (λ (i : ℕ). opensOf (set ns i (begunOpen r t)) (suc d)) (low-suc d h) ∙ opens-last ns d (begunOpen r t) (omega (arith, long))
@@ -133,11 +133,11 @@ module _ (ns : List Open) (long : length ns ≡ 32) (r : Ref) where
   entry i = getD ns i insideOpen
 
   -- the innermost entry stored again
-  kept : (d k : ℕ) → d ≤ 32 → k ≤ d → opensOf (stored d (entry (lowAt d))) k ≡ opensOf ns k
+  kept : (d k : ℕ) → d ≤ openLimit → k ≤ d → opensOf (stored d (entry (lowAt d))) k ≡ opensOf ns k
   kept d k h l = behind d k (entry (lowAt d)) h l ∙ ap (λ (m : List Open). opensOf m k) (set-back ns (lowAt d) (low-inside d h))
 
   -- THE STORES make the change
-  pub open-change : (c : Change) (d : ℕ) → d ≤ 32 → (Pushes c → d < 32)
+  pub open-change : (c : Change) (d : ℕ) → d ≤ openLimit → (Pushes c → d < openLimit)
       → opensOf (stored d (cond (secondBy c) (begunOpen r (turnedBy c)) (entry (lowAt d)))) (depthBy c d) ≡ changed c (refOf r) (opensOf ns d)
   open-change same d h k = kept d d h (omega arith)
   open-change push d h k = pushed d (entry (lowAt d)) (k tt) ∙ ap (λ (l : List Open). T.inFirst ∷ opensOf l d) (set-back ns (lowAt d) (low-inside d h))

@@ -8,11 +8,12 @@ use native.Mathlib.Omega.{arith}
 use lib.Dec.{ltb, eqb}
 use lib.ListN.{length, getD, set}
 use borrow.Author.Tests.{ltb-true, ltb-false, le-ltb, ne-eqb}
+use Rattle.reading.specs.Limits.{openLimit}
 use Rattle.reading.specs.Element as T
 use Rattle.scanner.specs.Kinds.{kindTable}
 use Rattle.scanner.specs.Glance as G
 use Rattle.scanner.specs.Capped.{capGlance, capStep}
-use Rattle.scanner.specs.Cite.{refOf, markOf, outcomeOf, sighted, outcomeIn, topsOf, depthBy, secondBy, turnedBy, Seen, plain, seenOf, opensOf, insideOpen, begunOpen, deepOf, sideOf, lowAt, highAt, spotsOf, Looked, lookBy, lookAt, lookOf, placeOf, steppedOf}
+use Rattle.scanner.specs.Cite.{refOf, markOf, outcomeOf, sighted, outcomeIn, topsOf, depthBy, secondBy, turnedBy, Seen, plain, seenOf, opensOf, insideOpen, begunOpen, deepOf, sideOf, lastOpen, lowAt, highAt, spotsOf, Looked, lookBy, lookAt, lookOf, placeOf, steppedOf}
 use Rattle.scanner.specs.OpenLaws.{open-length, open-top, open-change, glance-room, Pushes}
 use Rattle.scanner.specs.declared.Open.{Open}
 use Rattle.scanner.specs.declared.Ref.{Ref}
@@ -22,61 +23,61 @@ use Rattle.scanner.specs.declared.Top.{Top}
 use Rattle.scanner.specs.declared.Look.{Look}
 use Rattle.scanner.specs.declared.Spots.{Spots}
 
--- No depth is above 32.
-pub deep-most : (d : ℕ) → deepOf d ≤ 32
-deep-most d = go (ltb 32 d) refl
+-- No depth is above the limit.
+pub deep-most : (d : ℕ) → deepOf d ≤ openLimit
+deep-most d = go (ltb openLimit d) refl
   where
-    go : (t : Bool) → ltb 32 d ≡ t → cond t 32 d ≤ 32
+    go : (t : Bool) → ltb openLimit d ≡ t → cond t openLimit d ≤ openLimit
     go true e = omega arith
-    go false e = omega (arith, ltb-false 32 d e)
+    go false e = omega (arith, ltb-false openLimit d e)
 
--- a depth up to 32 is itself
-pub deep-self : (d : ℕ) → d ≤ 32 → deepOf d ≡ d
-deep-self d h = rw (le-ltb 32 d h) refl
+-- a depth up to it is itself
+pub deep-self : (d : ℕ) → d ≤ openLimit → deepOf d ≡ d
+deep-self d h = rw (le-ltb openLimit d h) refl
 
 -- the depth after a change
-depth-after : (c : G.Change) (d : ℕ) → d ≤ 32 → (Pushes c → d < 32) → depthBy c d ≤ 32
+depth-after : (c : G.Change) (d : ℕ) → d ≤ openLimit → (Pushes c → d < openLimit) → depthBy c d ≤ openLimit
 depth-after G.same d h k = h
-depth-after G.push d h k = let l : d < 32 = k tt in omega arith
+depth-after G.push d h k = let l : d < openLimit = k tt in omega arith
 depth-after G.pop d h k = omega arith
-depth-after G.secondPush d h k = let l : d < 32 = k tt in omega arith
+depth-after G.secondPush d h k = let l : d < openLimit = k tt in omega arith
 depth-after (G.second t) d h k = h
 
--- The depth after a look is at most 32.
-pub look-depth : (k bytes : List ℕ) (at : ℕ) (m : T.Mark) (last : Ref) (depth : ℕ) (low : Open) → lookAt k bytes at m last depth low .depth ≤ 32
+-- The depth after a look keeps to the limit.
+pub look-depth : (k bytes : List ℕ) (at : ℕ) (m : T.Mark) (last : Ref) (depth : ℕ) (low : Open) → lookAt k bytes at m last depth low .depth ≤ openLimit
 look-depth k bytes at m last depth low =
     let d = deepOf depth in
     depth-after (G.glance k bytes at m (sideOf d low) d .change) d (deep-most depth) (glance-room k bytes at m (sideOf d low) d)
 
--- the spots of a depth above 32 are those of 32
+-- the spots of a depth above it are its own
 low-deep : (d : ℕ) → lowAt d ≡ lowAt (deepOf d)
-low-deep d = go (ltb 32 d) refl
+low-deep d = go (ltb openLimit d) refl
   where
-    go : (t : Bool) → ltb 32 d ≡ t → lowAt d ≡ lowAt (cond t 32 d)
-    go true e = let l : 32 < d = ltb-true 32 d e in rw (ne-eqb d 0 (λ z. omega (arith, l)), le-ltb d 32 (omega (arith, l))) refl
+    go : (t : Bool) → ltb openLimit d ≡ t → lowAt d ≡ lowAt (cond t openLimit d)
+    go true e = let l : openLimit < d = ltb-true openLimit d e in rw (ne-eqb d 0 (λ z. omega (arith, l)), le-ltb d openLimit (omega (arith, l))) refl
     go false e = refl
 
 high-deep : (d : ℕ) → highAt d ≡ highAt (deepOf d)
-high-deep d = go (ltb 32 d) refl
+high-deep d = go (ltb openLimit d) refl
   where
-    go : (t : Bool) → ltb 32 d ≡ t → highAt d ≡ highAt (cond t 32 d)
-    go true e = let l : 32 < d = ltb-true 32 d e in rw (le-ltb d 32 (omega (arith, l))) refl
+    go : (t : Bool) → ltb openLimit d ≡ t → highAt d ≡ highAt (cond t openLimit d)
+    go true e = let l : openLimit < d = ltb-true openLimit d e in rw (le-ltb d openLimit (omega (arith, l))) refl
     go false e = refl
 
--- Both spots are among the 32.
-pub spots-low : (d : ℕ) (x : Spots) → x ≡ spotsOf d → x .low < 32
-spots-low d x e = subst (λ (y : Spots). y .low < 32) (sym e) (go (eqb d 0) (ltb d 32) refl)
+-- Both spots are among the entries.
+pub spots-low : (d : ℕ) (x : Spots) → x ≡ spotsOf d → x .low < openLimit
+spots-low d x e = subst (λ (y : Spots). y .low < openLimit) (sym e) (go (eqb d 0) (ltb d openLimit) refl)
   where
-    go : (z t : Bool) → ltb d 32 ≡ t → cond z 31 (cond t (d - 1) 31) < 32
+    go : (z t : Bool) → ltb d openLimit ≡ t → cond z lastOpen (cond t (d - 1) lastOpen) < openLimit
     go true t e = omega arith
-    go false true e = let l : d < 32 = ltb-true d 32 e in omega (arith, l)
+    go false true e = let l : d < openLimit = ltb-true d openLimit e in omega (arith, l)
     go false false e = omega arith
 
-pub spots-high : (d : ℕ) (x : Spots) → x ≡ spotsOf d → x .high < 32
-spots-high d x e = subst (λ (y : Spots). y .high < 32) (sym e) (go (ltb d 32) refl)
+pub spots-high : (d : ℕ) (x : Spots) → x ≡ spotsOf d → x .high < openLimit
+spots-high d x e = subst (λ (y : Spots). y .high < openLimit) (sym e) (go (ltb d openLimit) refl)
   where
-    go : (t : Bool) → ltb d 32 ≡ t → cond t d 31 < 32
-    go true e = ltb-true d 32 e
+    go : (t : Bool) → ltb d openLimit ≡ t → cond t d lastOpen < openLimit
+    go true e = ltb-true d openLimit e
     go false e = omega arith
 
 -- THE CODE'S LOOK, from what its callees promise
@@ -91,7 +92,7 @@ look-made k bytes at m last depth low d de t te g ge e ee =
     ∙ ap (λ (i : ℕ). lookBy (plain i (capGlance (G.glance k bytes at m (sideOf i low) i))) last low) de
 
 -- THE CODE'S STEP, from what its callees promise, the table of kinds being lent
-module _ (bytes : List ℕ) (p : Place) (long : length (p .opens .nodes) ≡ 32) where
+module _ (bytes : List ℕ) (p : Place) (long : length (p .opens .nodes) ≡ openLimit) where
   abbrev ns : List Open
   ns = p .opens .nodes
 
@@ -119,8 +120,8 @@ module _ (bytes : List ℕ) (p : Place) (long : length (p .opens .nodes) ≡ 32)
       let c : G.Change = seen .change in
       let same : lookOf x ≡ lookBy (plain d seen) (p .last) (entry (lowAt d))
       = xe ∙ ap₂ (λ (l : List ℕ) (a : ℕ). lookAt l bytes (p .at) (markOf (p .mark)) (p .last) (p .opens .depth) (entry a)) ke il in
-      let room : Pushes c → d < 32 = glance-room kindTable bytes (p .at) (markOf (p .mark)) (sideOf d (entry (lowAt d))) d in
-      let most : d ≤ 32 = deep-most (p .opens .depth) in
+      let room : Pushes c → d < openLimit = glance-room kindTable bytes (p .at) (markOf (p .mark)) (sideOf d (entry (lowAt d))) d in
+      let most : d ≤ openLimit = deep-most (p .opens .depth) in
       let opens : opensOf (set (set ns j insideOpen) i (x .low)) (deepOf (x .depth)) ≡ G.changed c (refOf (p .last)) (opensOf ns d)
       = ap₂ (λ (a b : ℕ). opensOf (set (set ns b insideOpen) a (x .low)) (deepOf (x .depth))) il jh
       ∙ ap (λ (y : Looked). opensOf (set (set ns (highAt d) insideOpen) (lowAt d) (y .low)) (deepOf (y .depth))) same

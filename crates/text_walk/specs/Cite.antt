@@ -4,6 +4,7 @@ use mathlib.Core.List.{List, [], _∷_}
 use Prim.Native.Nat.{ℕ}
 use lib.Dec.{ltb}
 use Rattle.lists.specs.Lists.{differ}
+use Rattle.reading.specs.Limits.{optionLimit}
 use Rattle.writing.specs.Texts.{tildeIf}
 use Rattle.writing.specs.Run.{operate}
 use Rattle.engine.specs.Pending.{Waiting, pushAll, waitIn}
@@ -77,5 +78,5 @@ nodesBy k fs μ t x =
 -- as far as a rule may have so many options
 abbrev pub streamBy : Task → List (T.Feed Tape) → List (List ℕ) → List (List ℕ) → List ℕ → List ℕ → E.Sent
 streamBy k fs μ t out w =
-    cond (ltb 32 (k .n)) (record { written = 0; full = true; output = out; waits = w })
+    cond (ltb optionLimit (k .n)) (record { written = 0; full = true; output = out; waits = w })
     (mergeIn deepOf sourceOf (nextTape (k .n)) slotOf (operate (k .op)) (k .n) (k .covered) (k .size) fs μ t out w)

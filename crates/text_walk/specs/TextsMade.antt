@@ -8,6 +8,7 @@ use native.Mathlib.Omega.{arith}
 use lib.Dec.{eqb}
 use borrow.Author.Tests.{le-leb, lt-leb, lt-ltb, le-ltb}
 use Rattle.lists.specs.Lists.{differ}
+use Rattle.reading.specs.Limits.{optionLimit, levelLimit, wordLimit}
 use Rattle.reading.specs.Bytes.{opener}
 use Rattle.lists.specs.Powers.{both-halves}
 use Rattle.writing.specs.Texts.{tildeIf}
@@ -46,14 +47,14 @@ pub one-down : (d : ℕ) → 1 ≤ d → d ≡ suc (d - 1)
 one-down d h = omega (arith, h)
 
 -- of each half of a part of d options at level i whose words begin with `at`; t: the measure
-pub first-asks : (d i at t : ℕ) → (d ≡ t) × ((d ≤ 32) × ((i + d ≤ 33) × (at + 2 ^ d ≤ 4294967296))) → 1 ≤ d
-    → (d - 1 < t) × ((d - 1 ≤ 32) × ((i + 1 + (d - 1) ≤ 33) × (at + 2 ^ (d - 1) ≤ 4294967296)))
+pub first-asks : (d i at t : ℕ) → (d ≡ t) × ((d ≤ optionLimit) × ((i + d ≤ levelLimit) × (at + 2 ^ d ≤ wordLimit))) → 1 ≤ d
+    → (d - 1 < t) × ((d - 1 ≤ optionLimit) × ((i + 1 + (d - 1) ≤ levelLimit) × (at + 2 ^ (d - 1) ≤ wordLimit)))
 first-asks d i at t p h =
     let e = both-halves d (λ z. omega (arith, z, h)) in
     (omega (arith, p, h), (omega (arith, p, h), (omega (arith, p, h), omega (arith, p, e))))
 
-pub second-asks : (d i at t k : ℕ) → (d ≡ t) × ((d ≤ 32) × ((i + d ≤ 33) × (at + 2 ^ d ≤ 4294967296))) → 1 ≤ d → k ≡ 2 ^ (d - 1)
-    → (d - 1 < t) × ((d - 1 ≤ 32) × ((i + 1 + (d - 1) ≤ 33) × (at + k + 2 ^ (d - 1) ≤ 4294967296)))
+pub second-asks : (d i at t k : ℕ) → (d ≡ t) × ((d ≤ optionLimit) × ((i + d ≤ levelLimit) × (at + 2 ^ d ≤ wordLimit))) → 1 ≤ d → k ≡ 2 ^ (d - 1)
+    → (d - 1 < t) × ((d - 1 ≤ optionLimit) × ((i + 1 + (d - 1) ≤ levelLimit) × (at + k + 2 ^ (d - 1) ≤ wordLimit)))
 second-asks d i at t k p h q =
     let e = both-halves d (λ z. omega (arith, z, h)) in
     (omega (arith, p, h), (omega (arith, p, h), (omega (arith, p, h), omega (arith, p, e, q))))
@@ -74,7 +75,7 @@ module _ (k : Task) (e i at m : ℕ) (φ ψ : T.Feed Tape) (μ t : List (List �
 
   -- all inputs at edges, p and q
   pub texts-edges : (p q : Source) (r : Walked) (v : List (List ℕ)) (o z : List ℕ) (ν : List (List ℕ))
-      → atEdges e φ ψ ≡ true → e ≤ 32 → i + e ≤ 33
+      → atEdges e φ ψ ≡ true → e ≤ optionLimit → i + e ≤ levelLimit
       → p ≡ T.edgeOf deepOf sourceOf (nextTape (k .n)) φ → q ≡ T.edgeOf deepOf sourceOf (nextTape (k .n)) ψ
       → recalledOf r v o z ν ≡ applied (k .op) (k .size) e i m (p ∷ q ∷ []) μ t out w pen
       → cameTo r false (φ .tape) (ψ .tape) v o z ν ≡ whole
@@ -204,20 +205,20 @@ nodes-code k φ ψ μ t q₁ q₂ l s m pen a τ₁ σ₁ v o z ν turn₁ turn�
     (first ∙ ap₂ (λ (a b : Bool). operate (k .op) (a ∷ b ∷ [])) turn₁ turn₂) pushed pe walked
 
 module _ (k : Task) (fs : List (T.Feed Tape)) (μ t : List (List ℕ)) (out w : List ℕ) where
-  -- of more than 32 options nothing goes out
-  pub stream-past : 32 < k .n → record { written = 0; full = true; output = out; waits = w } ≡ streamBy k fs μ t out w
+  -- of more options than may be nothing goes out
+  pub stream-past : optionLimit < k .n → record { written = 0; full = true; output = out; waits = w } ≡ streamBy k fs μ t out w
   stream-past h =
       sym (ap (λ (b : Bool). cond b (record { written = 0; full = true; output = out; waits = w })
-      (mergeIn deepOf sourceOf (nextTape (k .n)) slotOf (operate (k .op)) (k .n) (k .covered) (k .size) fs μ t out w)) (lt-ltb 32 (k .n) h))
+      (mergeIn deepOf sourceOf (nextTape (k .n)) slotOf (operate (k .op)) (k .n) (k .covered) (k .size) fs μ t out w)) (lt-ltb optionLimit (k .n) h))
 
   -- else what the engine sends
-  pub stream-within : k .n ≤ 32 → streamBy k fs μ t out w
+  pub stream-within : k .n ≤ optionLimit → streamBy k fs μ t out w
       ≡ mergeIn deepOf sourceOf (nextTape (k .n)) slotOf (operate (k .op)) (k .n) (k .covered) (k .size) fs μ t out w
   stream-within h =
       ap (λ (b : Bool). cond b (record { written = 0; full = true; output = out; waits = w })
-      (mergeIn deepOf sourceOf (nextTape (k .n)) slotOf (operate (k .op)) (k .n) (k .covered) (k .size) fs μ t out w)) (le-ltb 32 (k .n) h)
+      (mergeIn deepOf sourceOf (nextTape (k .n)) slotOf (operate (k .op)) (k .n) (k .covered) (k .size) fs μ t out w)) (le-ltb optionLimit (k .n) h)
 
-  module _ (h : k .n ≤ 32) (a : Waiting) (x : E.Sent) (pushed : a ≡ pushAll w 0 (head (k .size)))
+  module _ (h : k .n ≤ optionLimit) (a : Waiting) (x : E.Sent) (pushed : a ≡ pushAll w 0 (head (k .size)))
       (sent : x ≡ E.sendText out (a .bytes) 0 (a .count)) where
     -- the size and its LF, and no more
     pub stream-head : (b : Bool) → b ≡ (x .full || eqb (k .covered) 0) → b ≡ true → x ≡ streamBy k fs μ t out w

@@ -4,6 +4,7 @@ ghost use mathlib.Core.Bool.{true, false, not, _||_};
 ghost use mathlib.Core.List.{[], _∷_};
 ghost use lib.Dec.{eqb};
 ghost use Prim.Native.Nat.{_+_, _-_, _<_, _≤_, _^_};
+ghost use Rattle.reading.specs.Limits.{optionLimit, levelLimit, wordLimit};
 ghost use Rattle.writing.specs.Run.{head, operate};
 ghost use Rattle.engine.specs.Taping.{secondFeed};
 ghost use Rattle.engine.specs.Joining.{finishIn};
@@ -217,7 +218,7 @@ fn texts(
     c: &mut [[u32; 9]],
     pen: Pen,
 ) -> Applied
-    requires { ⌜ (d ≤ 32) × ((i + d ≤ 33) × (at + 2 ^ d ≤ 4294967296)) ⌝ }
+    requires { ⌜ (d ≤ optionLimit) × ((i + d ≤ levelLimit) × (at + 2 ^ d ≤ wordLimit)) ⌝ }
     ensures { λ r. ⌜ carriedOf r (now (x .entry)) (now (y .entry)) (now (o1 .exit)) (now (o2 .exit)) (now (t1 .exit)) (now (t2 .exit)) (now (t .exit)) (now (out .exit)) (now (w .exit)) (now (c .exit)) ≡ walkTexts k d i at m (feedOf f b1 (now (o1 .entry)) (now (x .entry)) (now (t1 .entry)) ∷ feedOf g b2 (now (o2 .entry)) (now (y .entry)) (now (t2 .entry)) ∷ []) (now (c .entry)) (now (t .entry)) (now (out .entry)) (now (w .entry)) (penOf pen) ⌝ }
 {
     if at_edges(d, f, g) {
@@ -298,7 +299,7 @@ fn texts(
 
 // After the walk: of a whole run what waits, and the point. m: how much waited before it
 fn finish(n: u32, covered: u64, m: usize, a: Applied, out: &mut [u8], w: &mut [u8]) -> Sent
-    requires { ⌜ n ≤ 32 ⌝ }
+    requires { ⌜ n ≤ optionLimit ⌝ }
     ensures { λ r. ⌜ sentOf r (now (out .exit)) (now (w .exit)) ≡ finishIn n covered m (carriedOf a [] [] [] [] [] [] [] (now (out .entry)) (now (w .entry)) [] .applied) ⌝ }
 {
     let r = walked_of(a);
@@ -329,7 +330,7 @@ fn nodes(
     c: &mut [[u32; 9]],
     head: Sent,
 ) -> Sent
-    requires { ⌜ k .n ≤ 32 ⌝ }
+    requires { ⌜ k .n ≤ optionLimit ⌝ }
     ensures { λ r. ⌜ sentOf r (now (out .exit)) (now (w .exit)) ≡ nodesBy k (begunIn f (now (o1 .entry)) (now (x .entry)) (now (t1 .entry)) ∷ begunIn g (now (o2 .entry)) (now (y .entry)) (now (t2 .entry)) ∷ []) (now (c .entry)) (now (t .entry)) (sentOf head (now (out .entry)) (now (w .entry))) ⌝ }
 {
     let m = push_turn(
@@ -374,7 +375,7 @@ fn is_over(x: Sent, covered: u64) -> bool
     covered == 0
 }
 
-// THE STREAM OF A RUN: f and g, the inputs at the outermost node. Of more than 32 options nothing goes out.
+// THE STREAM OF A RUN: f and g, the inputs at the outermost node. Of more options than the limit nothing goes out.
 pub fn stream(
     k: Task,
     x: &[u8],

@@ -7,6 +7,7 @@ ghost use Rattle.writing.specs.Links.{stops};
 ghost use Rattle.engine.specs.Cells.{cell, putCell};
 ghost use Rattle.engine.specs.Hashing.{stir};
 ghost use Rattle.engine.specs.Recycling.{oneMore, leaveIn, joinIn, freeOf, bucketOf, fitsAt, searchIn, findIn, shelveIn, unshelveIn, moreIn, fewerIn, orphanIn, orphansIn, releaseIn, adoptIn, noteIn, placeIn, storeIn, nextIn};
+use work_table::TABLE_LIMIT;
 
 // ---- Records: the cells of a number are 0 level, 1 and 2 children, 3 complement, 4 stamp, 5 parents, 6 and 7 the numbers after and before it in the
 // queue, 8 and 9 those in its bucket; 10 and 11 are the first and the last number of the bucket that has this place.
@@ -123,6 +124,14 @@ fn free(t: &[[u32; 12]], x: u32, a: u32, b: u32) -> u32
 
 // ---- Looking up
 
+// As many buckets as a table may have records
+const BUCKETS: u64 = TABLE_LIMIT as u64;
+
+// Cells side by side: so many values for a number, and for a level
+pub const NUMBER_SPAN: u64 = 2048;
+
+const LEVEL_SPAN: u64 = 64;
+
 // One round of mixing, of the lower 32 bits of v
 pub fn stir(k: u32, v: u64) -> u64
     ensures { λ r. ⌜ r ≡ stir k v ⌝ }
@@ -136,8 +145,8 @@ pub fn stir(k: u32, v: u64) -> u64
 fn bucket(i: u32, a: u32, b: u32, c: u32) -> u32
     ensures { λ r. ⌜ r ≡ bucketOf i a b c ⌝ }
 {
-    let x = ((a as u64 * 2048 + b as u64) * 64 + i as u64) * 2 + c as u64;
-    (stir(2246822519, stir(2654435769, x)) % 1024 + 1) as u32
+    let x = ((a as u64 * NUMBER_SPAN + b as u64) * LEVEL_SPAN + i as u64) * 2 + c as u64;
+    (stir(2246822519, stir(2654435769, x)) % BUCKETS + 1) as u32
 }
 
 // The bucket of the node that has number k

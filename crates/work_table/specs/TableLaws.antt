@@ -11,6 +11,8 @@ use lib.Seq.{take-at, take-set-lt, set-getD, getD-take, getD-set-same, getD-set-
 use borrow.Author.Tests.{ne-eqb, eq-eqb, lt-ltb}
 use Rattle.lists.specs.Lists.{bit, decide-eq, decide-le}
 use Rattle.lists.specs.Maps.{map-replicate}
+use Rattle.reading.specs.Limits.{tableLimit}
+use Rattle.reading.specs.LimitLaws.{few-parents}
 use Rattle.reading.specs.Nodes.{Node, newNode, noNode, node}
 use Rattle.reading.specs.ParentCounts.{edges, parents, parents-set, parents-most, parents-fresh, edges-parents}
 use Rattle.work_table.specs.declared.Row.{Row}
@@ -207,7 +209,7 @@ store-table t z k x n h =
 
 -- the counts after two parents less and two more
 count-four : (t : List (List ℕ)) (z a b c d j : ℕ) → z ≤ length t → (j ≡ 0 → ⊥) → j ≤ z
-    → bit (eqb a j) + bit (eqb b j) ≤ getIn t z j .parents → bit (eqb c j) + bit (eqb d j) ≤ 2 → getIn t z j .parents ≤ 2050
+    → bit (eqb a j) + bit (eqb b j) ≤ getIn t z j .parents → bit (eqb c j) + bit (eqb d j) ≤ 2 → getIn t z j .parents + 2 < 4294967295
     → getIn (countAt (countAt (countAt (countAt t z a false) z b false) z c true) z d true) z j .parents + (bit (eqb a j) + bit (eqb b j)) ≡ getIn t z j .parents + (bit (eqb c j) + bit (eqb d j))
 count-four t z a b c d j r n h enough few most =
     let t₁ = countAt t z a false in
@@ -227,7 +229,7 @@ unfolding parents
 edges-most j y = omega (arith, parents-most (y ∷ []) j)
 
 -- A storing keeps the counts right, if the new record starts with the count of the old one.
-pub held-store : (t : List (List ℕ)) (z k : ℕ) (x : Row) → Held t z → z ≤ 1024 → (k ≡ 0 → ⊥) → k ≤ z → x .parents ≡ getIn t z k .parents → Held (storeAt t z k x) z
+pub held-store : (t : List (List ℕ)) (z k : ℕ) (x : Row) → Held t z → z ≤ tableLimit → (k ≡ 0 → ⊥) → k ≤ z → x .parents ≡ getIn t z k .parents → Held (storeAt t z k x) z
 unfolding storeAt
 held-store t z k x held small n h same = record { room = omega (arith, held .room, length-store t z k x); counts = right }
   where
@@ -245,7 +247,7 @@ held-store t z k x held small n h same = record { room = omega (arith, held .roo
         let long : length (tableOf t z) ≡ suc z = table-length t z (held .room) in
         let old : edges j (node (tableOf t z) k) ≡ edges j (rowNode (getIn t z k)) = ap (edges j) (table-node t z k) in
         let p : getIn (putAt t k x) z j .parents ≡ parents (tableOf t z) j = put j m l in
-        let most : getIn (putAt t k x) z j .parents ≤ 2050 = omega (arith, p, parents-most (tableOf t z) j, long, small) in
+        let most : getIn (putAt t k x) z j .parents + 2 < 4294967295 = omega (arith, p, parents-most (tableOf t z) j, long, small, few-parents) in
         let enough : edges j (rowNode (getIn t z k)) ≤ getIn (putAt t k x) z j .parents = omega (arith, p, old, edges-parents (tableOf t z) k j m) in
         let moved : getIn (storeAt t z k x) z j .parents + edges j (rowNode (getIn t z k)) ≡ getIn (putAt t k x) z j .parents + edges j (rowNode x)
         = count-four (putAt t k x) z (getIn t z k .first) (getIn t z k .second) (x .first) (x .second) j (omega (arith, held .room, length-put t k x)) m l enough (edges-most j (rowNode x)) most in

@@ -17,6 +17,8 @@ pub const TRUTH_TABLE_LEAST: u32 = 3;
 
 pub const TRUTH_TABLE_MOST: u32 = 16;
 
+pub const WORD_LIMIT: u64 = 1 << OPTION_LIMIT;
+
 // ---- Records
 
 // A record of the table: the level (0: none), the children, the edge to the second complemented, how often the number was given out, and how

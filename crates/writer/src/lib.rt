@@ -4,6 +4,7 @@ ghost use mathlib.Core.Bool.{cond};
 ghost use lib.Dec.{eqb};
 ghost use lib.ListN.{getD, replicate};
 ghost use Prim.Native.Nat.{_+_, _≤_, _^_};
+ghost use Rattle.reading.specs.Limits.{optionLimit, truthTableMost, levelLimit, truthLimit};
 ghost use Rattle.writing.specs.Run.{whole, inputEnded, outputFull};
 ghost use Rattle.writing.specs.Calls.{truthAt, Writes};
 ghost use Rattle.engine.specs.Engine.{sameBytes, allBytes, alikeBytes, againHalf, walkIn, bodyIn, streamIn};
@@ -51,7 +52,7 @@ fn truth(v: &[u8], at: usize) -> bool
 
 // All of the c bytes from p on are b.
 fn same_bytes(v: &[u8], b: u8, p: usize, c: usize) -> bool
-    requires { ⌜ (p ≤ 65536) × (c ≤ 65536) ⌝ }
+    requires { ⌜ (p ≤ truthLimit) × (c ≤ truthLimit) ⌝ }
     ensures { λ r. ⌜ r ≡ sameBytes (now (v .entry)) b p c ⌝ }
 {
     let mut j = 0;
@@ -68,7 +69,7 @@ fn same_bytes(v: &[u8], b: u8, p: usize, c: usize) -> bool
 
 // The 2^d words from `at` on are those of bytes b alone.
 fn all_bytes(v: &[u8], b: u8, d: u32, at: usize) -> bool
-    requires { ⌜ (d ≤ 16) × (at ≤ 65536) ⌝ }
+    requires { ⌜ (d ≤ truthTableMost) × (at ≤ truthLimit) ⌝ }
     ensures { λ r. ⌜ r ≡ allBytes (now (v .entry)) b d at ⌝ }
 {
     if d < 3 {
@@ -99,7 +100,7 @@ fn alike(u: bool, x: u8, y: u8) -> bool
 
 // The c bytes from q on are those from p on, or those turned about if u.
 fn alike_bytes(v: &[u8], u: bool, p: usize, q: usize, c: usize) -> bool
-    requires { ⌜ (p ≤ 65536) × ((q ≤ 65536) × (c ≤ 65536)) ⌝ }
+    requires { ⌜ (p ≤ truthLimit) × ((q ≤ truthLimit) × (c ≤ truthLimit)) ⌝ }
     ensures { λ r. ⌜ r ≡ alikeBytes (now (v .entry)) u p q c ⌝ }
 {
     let mut j = 0;
@@ -116,7 +117,7 @@ fn alike_bytes(v: &[u8], u: bool, p: usize, q: usize, c: usize) -> bool
 
 // The first half came to a number (h), and the 2^d words from `mid` on repeat those from `at` on, or all turned about if u.
 fn is_again(v: &[u8], u: bool, d: u32, at: usize, mid: usize, h: Half) -> bool
-    requires { ⌜ (d ≤ 16) × ((at ≤ 65536) × (mid ≤ 65536)) ⌝ }
+    requires { ⌜ (d ≤ truthTableMost) × ((at ≤ truthLimit) × (mid ≤ truthLimit)) ⌝ }
     ensures { λ r. ⌜ r ≡ againHalf (now (v .entry)) u d at mid (halfOf h) ⌝ }
 {
     if h.number == 0 {
@@ -141,7 +142,7 @@ fn walk(
     w: &mut [u8],
     pen: Pen,
 ) -> Walked
-    requires { ⌜ (d ≤ 16) × ((i + d ≤ 64) × (at + 2 ^ d ≤ 65536)) ⌝ }
+    requires { ⌜ (d ≤ truthTableMost) × ((i + d ≤ levelLimit) × (at + 2 ^ d ≤ truthLimit)) ⌝ }
     ensures { λ r. ⌜ walkedOf r (now (t .exit)) (now (out .exit)) (now (w .exit)) ≡ walkIn (now (v .entry)) size d i at m (now (t .entry)) (now (out .entry)) (now (w .entry)) (penOf pen) ⌝ }
 {
     if d == 0 {
@@ -187,7 +188,7 @@ fn body(
     w: &mut [u8],
     x: Sent,
 ) -> Sent
-    requires { ⌜ n ≤ 16 ⌝ }
+    requires { ⌜ n ≤ truthTableMost ⌝ }
     ensures { λ r. ⌜ record { written = r .written; full = r .full; output = now (out .exit); waits = now (w .exit) } ≡ bodyIn n size (now (v .entry)) (now (t .entry)) (record { written = x .written; full = x .full; output = now (out .entry); waits = now (w .entry) }) ⌝ }
 {
     let full = x.full;
@@ -200,7 +201,7 @@ fn body(
 }
 
 fn stream(n: u32, size: u32, v: &[u8], t: &mut [[u32; 12]], out: &mut [u8], w: &mut [u8]) -> Sent
-    requires { ⌜ n ≤ 16 ⌝ }
+    requires { ⌜ n ≤ truthTableMost ⌝ }
     ensures { λ r. ⌜ record { written = r .written; full = r .full; output = now (out .exit); waits = now (w .exit) } ≡ streamIn n size (now (v .entry)) (now (t .entry)) (now (out .entry)) (now (w .entry)) ⌝ }
 {
     let a = push_number(w, 0, size);
@@ -212,7 +213,7 @@ fn stream(n: u32, size: u32, v: &[u8], t: &mut [[u32; 12]], out: &mut [u8], w: &
 // ---- The call
 
 fn answer(n: u32, covered: u64, x: Sent) -> Written
-    requires { ⌜ n ≤ 32 ⌝ }
+    requires { ⌜ n ≤ optionLimit ⌝ }
     ensures { λ r. ⌜ writtenOf r ≡ record { written = x .written; covered = covered; ending = cond (x .full) outputFull (cond (eqb covered (2 ^ n)) whole inputEnded) } ⌝ }
 {
     Written {

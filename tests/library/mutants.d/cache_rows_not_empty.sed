@@ -1,2 +1,2 @@
 # crates/combiner/src/lib.rt
-s/^    let mut m = \[\[0u32; 9\]; 2048\];/    let mut m = [[1u32; 9]; 2048];/
+s/^    let mut m = \[\[0u32; 9\]; CACHE_ROWS\];/    let mut m = [[1u32; 9]; CACHE_ROWS];/

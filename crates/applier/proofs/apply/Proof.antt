@@ -5,6 +5,7 @@ use native.Mathlib.Omega.{arith}
 use lib.Dec.{ltb}
 use borrow.Author.Needs.{needs}
 use borrow.Author.Tests.{lt-ltb, le-ltb}
+use Rattle.reading.specs.Limits.{optionLimit, levelLimit}
 use Rattle.meeting.specs.Cite.{penOf}
 use Rattle.applier.specs.WalkMade.{pair, constant-in, applied-past, applied-within}
 use Rattle.applier.proofs.apply.Statement.{statement}
@@ -21,7 +22,7 @@ returns c =
     let a = c .before .before .before .before .before .args in
     constant-in (c .kept .result) (c .before .constant .result) (a .pen) false (a .t .now) (a .out .now) (a .w .now) (a .c .now) (c .kept .ensures) (c .before .constant .ensures)
     ∙ applied-past (a .op) (a .size) (a .d) (a .i) (a .m) (pair (a .x) (a .t1 .now) (a .y) (a .t2 .now)) (a .c .now) (a .t .now) (a .out .now) (a .w .now) (penOf (a .pen)) _ refl
-    (ap (λ (b : Bool). b || ltb 33 (a .i)) (lt-ltb 32 (a .d) (c .before .before .if1 .taken)))
+    (ap (λ (b : Bool). b || ltb levelLimit (a .i)) (lt-ltb optionLimit (a .d) (c .before .before .if1 .taken)))
 
 constant-requires-2 : tie.Need-constant-requires-2
 constant-requires-2 c κs = tt
@@ -34,7 +35,7 @@ returns-2 c =
     let a = c .before .before .before .before .before .before .args in
     constant-in (c .kept2 .result) (c .before .constant2 .result) (a .pen) false (a .t .now) (a .out .now) (a .w .now) (a .c .now) (c .kept2 .ensures) (c .before .constant2 .ensures)
     ∙ applied-past (a .op) (a .size) (a .d) (a .i) (a .m) (pair (a .x) (a .t1 .now) (a .y) (a .t2 .now)) (a .c .now) (a .t .now) (a .out .now) (a .w .now) (penOf (a .pen)) _
-    (ap (λ (b : Bool). b || ltb 33 (a .i)) (le-ltb 32 (a .d) (omega (arith, c .before .before .before .if1 .left)))) (lt-ltb 33 (a .i) (c .before .before .if2 .taken))
+    (ap (λ (b : Bool). b || ltb levelLimit (a .i)) (le-ltb optionLimit (a .d) (omega (arith, c .before .before .before .if1 .left)))) (lt-ltb levelLimit (a .i) (c .before .before .if2 .taken))
 
 walk-requires : tie.Need-walk-requires
 walk-requires c κs = omega (arith, c .before .before .before .before .before .if1 .left, c .before .before .before .before .if2 .left)

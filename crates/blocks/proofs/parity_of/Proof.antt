@@ -1,4 +1,4 @@
--- After i turns p is the parity of the first i open nodes: one more counts if the place is in its second child. It ends after all, or after 32.
+-- After i turns p is the parity of the first i open nodes: one more counts if the place is in its second child. It ends after all, or after as many as may be open.
 -- Assumes nothing.
 use mathlib.Core.Path.{_≡_, sym, ap, _∙_}
 use mathlib.Core.Logic.{⊎-elim}
@@ -8,6 +8,7 @@ use native.Mathlib.Omega.{arith}
 use lib.ListN.{getD}
 use borrow.Author.Tests.{eq-eqb, ne-eqb}
 use Rattle.lists.specs.Lists.{differ}
+use Rattle.reading.specs.Limits.{openLimit}
 use Rattle.reading.specs.Covered.{parity}
 use Rattle.scanner.specs.Cite.{insideOpen, opensOf}
 use Rattle.reader.specs.Lent.{nodesIn, node-at}
@@ -18,7 +19,7 @@ use Rattle.blocks.proofs.parity_of.Statement.{statement}
 use Rattle.blocks.proofs.parity_of.Tie as tie
 
 abbrev Inv-loop : tie.InvT-loop
-Inv-loop o d i₀ p₀ i p = (i ≤ d) × ((i ≤ 32) × (p ≡ parity (opensOf (nodesIn o) i)))
+Inv-loop o d i₀ p₀ i p = (i ≤ d) × ((i ≤ openLimit) × (p ≡ parity (opensOf (nodesIn o) i)))
 
 abbrev μ-loop : tie.MeasureT-loop
 μ-loop o d i₀ p₀ i p = d - i

@@ -2,6 +2,7 @@
 -- Assumes nothing.
 use mathlib.Core.Path.{ap}
 use native.Mathlib.Omega.{arith}
+use Rattle.reading.specs.Limits.{wordLimit}
 use Rattle.reading.specs.Causes as C
 use Rattle.reader.specs.ReadOn.{read-begun}
 use Rattle.checker.specs.CheckMade.{cleared-after, all-reads, check-options, check-table, check-made}
@@ -49,7 +50,7 @@ returns-3 c =
     let readon = c .before .before .before .before .before .read-on in
     let t0 = c .before .before .before .before .t in
     let few = if1 .left in
-    let reached = read-begun (a .n) (a .s .now) (omega (arith, few)) 4294967296 (omega arith) (firstcursor .result) (a .t .now) (omega (arith, if2 .left)) (firstcursor .ensures) _ _ (readon .ensures) in
+    let reached = read-begun (a .n) (a .s .now) (omega (arith, few)) wordLimit (omega arith) (firstcursor .result) (a .t .now) (omega (arith, if2 .left)) (firstcursor .ensures) _ _ (readon .ensures) in
     check-made (a .n) (a .s .now) (a .t .now) _ _ _ _ (omega (arith, few)) (omega (arith, if2 .left)) (all-reads (a .n) (a .s .now) _ _ (omega (arith, few)) reached) (c .checked-at .ensures)
     (cleared-after _ _ _ _ _ reached (a .t .now) (t0 .given) _ (c .before .before .clear .ensures))
 

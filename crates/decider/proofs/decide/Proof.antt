@@ -4,6 +4,7 @@ use mathlib.Core.Path.{sym, ap, _∙_}
 use Prim.Native.Nat.{_≤_}
 use native.Mathlib.Omega.{arith}
 use Rattle.lists.specs.Powers.{shifted}
+use Rattle.reading.specs.Limits.{optionLimit, wordLimit}
 use Rattle.reading.specs.Calls.{notYet}
 use Rattle.reading.specs.Causes as C
 use Rattle.reader.specs.Loop.{stands-covered}
@@ -70,9 +71,9 @@ returns-4 c =
     let if3 = c .before .before .before .before .before .before .before .before .before .before .if3 in
     let if4 = c .before .before .before .before .if4 in
     let t0 = c .before .before .before .before .before .t in
-    let few : a .n ≤ 32 = omega (arith, if1 .left) in let n = a .n in let s = a .s .now in let t = a .t .now in let w = a .w in
-    let reached = read-begun n s few w (word-most n w few (omega (arith, if3 .left, shifted n few))) (firstcursor .result) t (omega (arith, if2 .left)) (firstcursor .ensures) _ _ (readon .ensures) in
-    decide-made n s t w _ _ _ _ notYet few (omega (arith, if2 .left)) (omega (arith, if3 .left, shifted n few))
+    let few : a .n ≤ optionLimit = omega (arith, if1 .left) in let n = a .n in let s = a .s .now in let t = a .t .now in let w = a .w in
+    let reached = read-begun n s few w (word-most n w few (omega (arith, if3 .left, shifted n (omega (arith, few))))) (firstcursor .result) t (omega (arith, if2 .left)) (firstcursor .ensures) _ _ (readon .ensures) in
+    decide-made n s t w _ _ _ _ notYet few (omega (arith, if2 .left)) (omega (arith, if3 .left, shifted n (omega (arith, few))))
     (halted-reads n s w _ _ reached (if4 .taken)) (word-not n s t w _ _ reached (if4 .taken)) (c .decided-at .ensures)
     (cleared-after _ _ _ _ _ reached t (t0 .given) _ (c .before .before .clear .ensures))
 
@@ -84,8 +85,8 @@ word-at-requires c κs =
     let if2 = c .before .before .before .before .before .before .before .before .before .if2 in
     let if3 = c .before .before .before .before .before .before .before .before .if3 in
     let readon = c .before .before .before .before .read-on in
-    let few : a .n ≤ 32 = omega (arith, if1 .left) in
-    let reached = read-begun (a .n) (a .s .now) few (a .w) (word-most (a .n) (a .w) few (omega (arith, if3 .left, shifted (a .n) few))) (firstcursor .result) (a .t .now) (omega (arith, if2 .left)) (firstcursor .ensures) _ _ (readon .ensures) in
+    let few : a .n ≤ optionLimit = omega (arith, if1 .left) in
+    let reached = read-begun (a .n) (a .s .now) few (a .w) (word-most (a .n) (a .w) few (omega (arith, if3 .left, shifted (a .n) (omega (arith, few))))) (firstcursor .result) (a .t .now) (omega (arith, if2 .left)) (firstcursor .ensures) _ _ (readon .ensures) in
     let b = passed-bounds (a .n) (a .s .now) (a .w) _ _ reached (c .before .before .if4 .left) in (few, (b .0, b .1))
 
 read-on-requires-2 : tie.Need-read-on-requires-2
@@ -113,10 +114,10 @@ returns-5 c =
     let if4 = c .before .before .before .before .before .before .before .before .before .before .before .before .if4 in
     let t3 = c .before .before .before .before .t3 in
     let t0 = c .before .before .before .before .before .before .before .before .before .before .before .before .before .t in
-    let few : a .n ≤ 32 = omega (arith, if1 .left) in let n = a .n in let s = a .s .now in let t = a .t .now in let w = a .w in
-    let reached = read-begun n s few w (word-most n w few (omega (arith, if3 .left, shifted n few))) (firstcursor .result) t (omega (arith, if2 .left)) (firstcursor .ensures) _ _ (readon .ensures) in
-    let ended = read-called n s few 4294967296 (omega arith) _ _ (reached .stands) (stands-covered n s few _ _ _ (reached .stands)) _ _ (readon2 .ensures) in
-    decide-made n s t w _ _ _ _ (verdictsOf (wordat .result)) few (omega (arith, if2 .left)) (omega (arith, if3 .left, shifted n few))
+    let few : a .n ≤ optionLimit = omega (arith, if1 .left) in let n = a .n in let s = a .s .now in let t = a .t .now in let w = a .w in
+    let reached = read-begun n s few w (word-most n w few (omega (arith, if3 .left, shifted n (omega (arith, few))))) (firstcursor .result) t (omega (arith, if2 .left)) (firstcursor .ensures) _ _ (readon .ensures) in
+    let ended = read-called n s few wordLimit (omega arith) _ _ (reached .stands) (stands-covered n s few _ _ _ (reached .stands)) _ _ (readon2 .ensures) in
+    decide-made n s t w _ _ _ _ (verdictsOf (wordat .result)) few (omega (arith, if2 .left)) (omega (arith, if3 .left, shifted n (omega (arith, few))))
     (all-reads n s _ _ few ended) (λ _. word-passed n s w _ _ reached (if4 .left) ∙ sym (wordat .ensures)) (c .decided-at2 .ensures)
     (cleared-after _ _ _ _ _ ended t (t3 .given ∙ t0 .given) _ (c .before .before .clear2 .ensures))
 

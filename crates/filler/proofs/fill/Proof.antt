@@ -1,14 +1,17 @@
 -- The stream is checked first, so that a refused call leaves the truth table; then it is read once more and fills it. Every record is cleared.
 -- Assumes nothing.
 use mathlib.Core.Path.{refl, sym, ap, _∙_}
+use mathlib.Core.Logic.{inl, inr}
 use Prim.Native.Nat.{ℕ, _/_, _≤_}
 use native.Mathlib.Omega.{arith}
 use lib.ListN.{replicate}
+use Rattle.reading.specs.Limits.{truthTableMost, wordLimit}
+use Rattle.reading.specs.LimitLaws.{truth-count, no-truth-count}
 use Rattle.reading.specs.Causes as C
 use Rattle.reader.specs.ReadOn.{read-begun}
 use Rattle.lists.specs.Powers.{shifted}
 use Rattle.checker.specs.CheckMade.{cleared-after, cleared-long, all-reads, reads-clean}
-use Rattle.filler.specs.FillMade.{options-fit, options-few, options-many, fill-options, fill-table, fill-length, fill-made}
+use Rattle.filler.specs.FillMade.{fill-options, fill-table, fill-length, fill-made}
 use borrow.Author.Needs.{needs}
 use Rattle.filler.proofs.fill.Statement.{statement}
 use Rattle.filler.proofs.fill.Tie as tie
@@ -19,7 +22,7 @@ early-requires c κs = search needs
 returns : tie.Need-returns
 returns c =
     let a = c .before .before .before .before .args in
-    fill-options (a .n) (a .s .now) (a .v .now) (a .t .now) _ (options-few (a .n) (c .before .if1 .taken)) (ap C.refused (c .early .ensures))
+    fill-options (a .n) (a .s .now) (a .v .now) (a .t .now) _ (no-truth-count (a .n) (inl (c .before .if1 .taken))) (ap C.refused (c .early .ensures))
 
 early-requires-2 : tie.Need-early-requires-2
 early-requires-2 c κs = search needs
@@ -27,7 +30,7 @@ early-requires-2 c κs = search needs
 returns-2 : tie.Need-returns-2
 returns-2 c =
     let a = c .before .before .before .before .before .args in
-    fill-options (a .n) (a .s .now) (a .v .now) (a .t .now) _ (options-many (a .n) (omega (arith, c .before .before .if1 .left)) (c .before .if2 .taken)) (ap C.refused (c .early2 .ensures))
+    fill-options (a .n) (a .s .now) (a .v .now) (a .t .now) _ (no-truth-count (a .n) (inr (c .before .if2 .taken))) (ap C.refused (c .early2 .ensures))
 
 early-requires-3 : tie.Need-early-requires-3
 early-requires-3 c κs = search needs
@@ -36,7 +39,7 @@ returns-3 : tie.Need-returns-3
 returns-3 c =
     let a = c .before .before .before .before .before .before .args in
     let if1 = c .before .before .before .if1 in
-    fill-table (a .n) (a .s .now) (a .v .now) (a .t .now) _ (options-fit (a .n) (omega (arith, if1 .left)) (omega (arith, c .before .before .if2 .left))) (c .before .if3 .taken) (ap C.refused (c .early3 .ensures))
+    fill-table (a .n) (a .s .now) (a .v .now) (a .t .now) _ (truth-count (a .n) (omega (arith, if1 .left)) (omega (arith, c .before .before .if2 .left))) (c .before .if3 .taken) (ap C.refused (c .early3 .ensures))
 
 shl-if4 : tie.Need-shl-if4
 shl-if4 c = search needs
@@ -50,7 +53,7 @@ returns-4 c =
     let if1 = c .before .before .before .before .if1 in
     let if2 = c .before .before .before .if2 in
     let n = a .n in
-    fill-length n (a .s .now) (a .v .now) (a .t .now) _ (options-fit n (omega (arith, if1 .left)) (omega (arith, if2 .left))) (omega (arith, c .before .before .if3 .left))
+    fill-length n (a .s .now) (a .v .now) (a .t .now) _ (truth-count n (omega (arith, if1 .left)) (omega (arith, if2 .left))) (omega (arith, c .before .before .if3 .left))
     (λ e. c .before .if4 .taken (e ∙ ap (λ (k : ℕ). k / 8) (sym (shifted n (omega (arith, if2 .left)))))) (ap C.refused (c .early4 .ensures))
 
 first-cursor-requires : tie.Need-first-cursor-requires
@@ -79,9 +82,9 @@ returns-5 c =
     let if4 = c .before .before .before .before .before .before .before .before .before .before .if4 in
     let if5 = c .before .before .before .before .if5 in
     let t0 = c .before .before .before .before .before .t in
-    let few : a .n ≤ 16 = omega (arith, if2 .left) in let n = a .n in let s = a .s .now in let v = a .v .now in let t = a .t .now in
-    let reached = read-begun n s (omega (arith, few)) 4294967296 (omega arith) (firstcursor .result) t (omega (arith, if3 .left)) (firstcursor .ensures) _ _ (readon .ensures) in
-    fill-made n s v t _ _ v _ _ (options-fit n (omega (arith, if1 .left)) few) (omega (arith, if3 .left))
+    let few : a .n ≤ truthTableMost = omega (arith, if2 .left) in let n = a .n in let s = a .s .now in let v = a .v .now in let t = a .t .now in
+    let reached = read-begun n s (omega (arith, few)) wordLimit (omega arith) (firstcursor .result) t (omega (arith, if3 .left)) (firstcursor .ensures) _ _ (readon .ensures) in
+    fill-made n s v t _ _ v _ _ (truth-count n (omega (arith, if1 .left)) few) (omega (arith, if3 .left))
     (if4 .left ∙ ap (λ (k : ℕ). k / 8) (shifted n (omega (arith, few)))) (all-reads n s _ _ (omega (arith, few)) reached)
     (ap C.refused (c .late .ensures) ∙ rw (if5 .taken) refl) (cleared-after _ _ _ _ _ reached t (t0 .given) _ (c .before .before .clear .ensures)) (rw (if5 .taken) refl)
 
@@ -100,8 +103,8 @@ fill-words-requires c κs =
     let if5 = c .before .before .before .before .before .before .if5 in
     let wipe = c .before .before .before .before .wipe in
     let if4 = c .before .before .before .before .before .before .before .before .before .before .before .before .if4 in
-    let few : a .n ≤ 16 = omega (arith, if2 .left) in let n = a .n in let s = a .s .now in let t = a .t .now in
-    let reached = read-begun n s (omega (arith, few)) 4294967296 (omega arith) (firstcursor .result) t (omega (arith, if3 .left)) (firstcursor .ensures) _ _ (readon .ensures) in (
+    let few : a .n ≤ truthTableMost = omega (arith, if2 .left) in let n = a .n in let s = a .s .now in let t = a .t .now in
+    let reached = read-begun n s (omega (arith, few)) wordLimit (omega arith) (firstcursor .result) t (omega (arith, if3 .left)) (firstcursor .ensures) _ _ (readon .ensures) in (
       omega (arith, if1 .left),
       (
         few,
@@ -136,9 +139,9 @@ returns-6 c =
     let if5 = c .before .before .before .before .before .before .before .before .before .before .before .before .before .before .if5 in
     let fillwords = c .before .before .before .before .before .before .before .fill-words in
     let t0 = c .before .before .before .before .before .before .before .before .before .before .before .before .before .before .before .t in
-    let few : a .n ≤ 16 = omega (arith, if2 .left) in let n = a .n in let s = a .s .now in let v = a .v .now in let t = a .t .now in
-    let reached = read-begun n s (omega (arith, few)) 4294967296 (omega arith) (firstcursor .result) t (omega (arith, if3 .left)) (firstcursor .ensures) _ _ (readon .ensures) in
-    fill-made n s v t _ _ _ _ _ (options-fit n (omega (arith, if1 .left)) few) (omega (arith, if3 .left))
+    let few : a .n ≤ truthTableMost = omega (arith, if2 .left) in let n = a .n in let s = a .s .now in let v = a .v .now in let t = a .t .now in
+    let reached = read-begun n s (omega (arith, few)) wordLimit (omega arith) (firstcursor .result) t (omega (arith, if3 .left)) (firstcursor .ensures) _ _ (readon .ensures) in
+    fill-made n s v t _ _ _ _ _ (truth-count n (omega (arith, if1 .left)) few) (omega (arith, if3 .left))
     (if4 .left ∙ ap (λ (k : ℕ). k / 8) (shifted n (omega (arith, few)))) (all-reads n s _ _ (omega (arith, few)) reached)
     (rw (if5 .left) refl) (cleared-long _ _ (fillwords .ensures .1) t (t0 .given) _ (c .before .before .clear2 .ensures)) (fillwords .ensures .0 ∙ rw (if5 .left) refl)
 

@@ -5,6 +5,7 @@ use mathlib.Core.Option.{none}
 use Prim.Native.Nat.{_-_, _≤_, _^_}
 use native.Mathlib.Omega.{arith}
 use lib.ListN.{length}
+use Rattle.reading.specs.Limits.{truthTableLeast, truthTableMost}
 use Rattle.reading.specs.Reading.{reading}
 use Rattle.reader.specs.Lent.{opensIn}
 use Rattle.filler.specs.FillMade.{FilledTo, filled-begun, words-whole, words-fit, words-shallow, words-turn, words-less}
@@ -14,7 +15,7 @@ use Rattle.filler.proofs.fill_words.Tie as tie
 
 abbrev Inv-loop : tie.InvT-loop
 Inv-loop n s v₀ t₀ o₀ c₀ v t o c =
-    (3 ≤ n) × ((n ≤ 16) × ((reading n s .fault ≡ none) × ((length v ≡ length v₀) × ((length t ≡ length t₀) × FilledTo n s (c .run) (opensIn o (c .depth)) t v))))
+    (truthTableLeast ≤ n) × ((n ≤ truthTableMost) × ((reading n s .fault ≡ none) × ((length v ≡ length v₀) × ((length t ≡ length t₀) × FilledTo n s (c .run) (opensIn o (c .depth)) t v))))
 
 abbrev μ-loop : tie.MeasureT-loop
 μ-loop n s v₀ t₀ o₀ c₀ v t o c = 2 ^ n - c .run .covered

@@ -5,6 +5,7 @@ use Prim.Native.Nat.{_-_, _≤_}
 use native.Mathlib.Omega.{arith}
 use lib.ListN.{length}
 use borrow.Author.Tests.{not-true, not-false}
+use Rattle.reading.specs.Limits.{optionLimit, wordLimit}
 use Rattle.reader.specs.Lent.{opensIn}
 use Rattle.reader.specs.Loop.{turn-length}
 use Rattle.reader.specs.ReadOn.{readAll, Leads, leads-first, leads-past, leads-halts, leads-moves, leads-goes}
@@ -15,7 +16,7 @@ use Rattle.reader.proofs.run_on.Tie as tie
 
 abbrev Inv-loop : tie.InvT-loop
 Inv-loop k n s t₀ o₀ around stop run₀ depth₀ from₀ deep₀ t o run depth from deep =
-    (k ≡ kindTable) × ((n ≤ 32) × ((length t ≡ length t₀) × ((stop ≤ 4294967296) × Leads (readAll n s stop run₀ (opensIn o₀ depth₀) t₀) n s stop run (opensIn o depth) from deep t)))
+    (k ≡ kindTable) × ((n ≤ optionLimit) × ((length t ≡ length t₀) × ((stop ≤ wordLimit) × Leads (readAll n s stop run₀ (opensIn o₀ depth₀) t₀) n s stop run (opensIn o depth) from deep t)))
 
 abbrev μ-loop : tie.MeasureT-loop
 μ-loop k n s t₀ o₀ around stop run₀ depth₀ from₀ deep₀ t o run depth from deep = length s - run .at

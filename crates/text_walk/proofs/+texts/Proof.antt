@@ -26,9 +26,8 @@ use mathlib.Core.Path.{sym, ap, _∙_}
 use mathlib.Core.Bool.{false, _||_}
 use native.Mathlib.Omega.{arith}
 use Prim.Native.Nat.{ℕ, _*_, _-_, _%_, _<_, _^_}
-use Rattle.engine.specs.PendingMade.{shift-words}
 use Rattle.engine.specs.TextMade.{inside-option}
-use Rattle.lists.specs.Powers.{both-halves}
+use Rattle.lists.specs.Powers.{shifted, both-halves}
 use Rattle.meeting.specs.Cite.{penOf}
 use Rattle.edges.specs.Cite.{edgeIn}
 use Rattle.edges.specs.declared.Edge.{Edge}
@@ -157,7 +156,7 @@ module _ (t : ℕ) where
       let c1 = c .before in
       let c6 = c1 .before .before .before .before .before in
       let a = c6 .args in let z = inside-option (a .d) (a .f .inside || (a .g .inside || false)) (sym (c1 .at-edges .ensures) ∙ c .if1 .left) in
-      omega (arith, c6 .pre, z, shift-words (a .d - 1) (omega (arith, c6 .pre)), both-halves (a .d) (λ e. omega (arith, e, z)))
+      omega (arith, c6 .pre, z, shifted (a .d - 1) (omega (arith, c6 .pre)), both-halves (a .d) (λ e. omega (arith, e, z)))
 
   push-requires : texts-lts.Need-push-requires K (at t) texts.Post
   push-requires c κs = tt
@@ -273,7 +272,7 @@ module _ (t : ℕ) where
       rw (c .ended-at .ensures) (texts-ended (a .k) (a .d) (a .i) (a .at) (a .m) (feedOf (a .f) (a .b1) (a .o1 .now) (a .x .now) (a .t1 .now)) (feedOf (a .g) (a .b2) (a .o2 .now) (a .y .now) (a .t2 .now)) (a .c .now) (a .t .now) (a .out .now) (a .w .now) (penOf (a .pen))
       (a .d - 1) (one-down (a .d) z) (sym (c31 .at-edges .ensures) ∙ c30 .if1 .left) (feedOf (c24 .first-half .result) (a .b1) (a .o1 .now) (a .x .now) (a .t1 .now)) (feedOf (c22 .first-half2 .result) (a .b2) (a .o2 .now) (a .y .now) (a .t2 .now)) (record { bytes = c28 .push .last .0; count = c28 .push .result }) (c13 .texts .result) (tapeOf (c13 .texts .result .first) (l .0) (a .x .now) (l .1 .1 .0)) (tapeOf (c13 .texts .result .second) (l .1 .0) (a .y .now) (l .1 .1 .1 .0)) (l .1 .1 .1 .1 .0) (l .1 .1 .1 .1 .1 .0) (l .1 .1 .1 .1 .1 .1 .0) (l .1 .1 .1 .1 .1 .1 .1 .0)
       (c24 .first-half .ensures (a .k .n) (opensIn (a .o1 .now) (a .b1 .cursor .depth)) (a .x .now)) (c22 .first-half2 .ensures (a .k .n) (opensIn (a .o2 .now) (a .b2 .cursor .depth)) (a .y .now)) (c28 .push .ensures) (c13 .texts .ensures)
-      (1 * 2 ^ (a .d - 1) % 18446744073709551616) (shift-words (a .d - 1) (omega (arith, c36 .pre))) (c4 .is-halted .result) (c4 .is-halted .ensures) (c3 .if2 .left)
+      (1 * 2 ^ (a .d - 1) % 18446744073709551616) (shifted (a .d - 1) (omega (arith, c36 .pre))) (c4 .is-halted .result) (c4 .is-halted .ensures) (c3 .if2 .left)
       (c1 .if3 .taken))
 
   first-on-requires : texts-lts.Need-first-on-requires K (at t) texts.Post
@@ -291,7 +290,7 @@ module _ (t : ℕ) where
       let c51 = c50 .before in
       let c56 = c51 .before .before .before .before .before in
       let a = c56 .args in let z = inside-option (a .d) (a .f .inside || (a .g .inside || false)) (sym (c51 .at-edges .ensures) ∙ c50 .if1 .left) in
-      second-asks (a .d) (a .i) (a .at) t (1 * 2 ^ (a .d - 1) % 18446744073709551616) (c56 .pre) z (shift-words (a .d - 1) (omega (arith, c56 .pre)))
+      second-asks (a .d) (a .i) (a .at) t (1 * 2 ^ (a .d - 1) % 18446744073709551616) (c56 .pre) z (shifted (a .d - 1) (omega (arith, c56 .pre)))
 
   is-halted-requires-2 : texts-lts.Need-is-halted-requires-2 K (at t) texts.Post
   is-halted-requires-2 c κs = tt
@@ -357,7 +356,7 @@ module _ (t : ℕ) where
       texts-done (a .k) (a .d) (a .i) (a .at) (a .m) (feedOf (a .f) (a .b1) (a .o1 .now) (a .x .now) (a .t1 .now)) (feedOf (a .g) (a .b2) (a .o2 .now) (a .y .now) (a .t2 .now)) (a .c .now) (a .t .now) (a .out .now) (a .w .now) (penOf (a .pen))
       (a .d - 1) (one-down (a .d) z) (sym (c62 .at-edges .ensures) ∙ c61 .if1 .left) (feedOf (c55 .first-half .result) (a .b1) (a .o1 .now) (a .x .now) (a .t1 .now)) (feedOf (c53 .first-half2 .result) (a .b2) (a .o2 .now) (a .y .now) (a .t2 .now)) (record { bytes = c59 .push .last .0; count = c59 .push .result }) (c44 .texts .result) (tapeOf (c44 .texts .result .first) (l .0) (a .x .now) (l .1 .1 .0)) (tapeOf (c44 .texts .result .second) (l .1 .0) (a .y .now) (l .1 .1 .1 .0)) (l .1 .1 .1 .1 .0) (l .1 .1 .1 .1 .1 .0) (l .1 .1 .1 .1 .1 .1 .0) (l .1 .1 .1 .1 .1 .1 .1 .0)
       (c55 .first-half .ensures (a .k .n) (opensIn (a .o1 .now) (a .b1 .cursor .depth)) (a .x .now)) (c53 .first-half2 .ensures (a .k .n) (opensIn (a .o2 .now) (a .b2 .cursor .depth)) (a .y .now)) (c59 .push .ensures) (c44 .texts .ensures)
-      (1 * 2 ^ (a .d - 1) % 18446744073709551616) (shift-words (a .d - 1) (omega (arith, c67 .pre))) (c35 .is-halted .result) (c35 .is-halted .ensures) (c34 .if2 .left)
+      (1 * 2 ^ (a .d - 1) % 18446744073709551616) (shifted (a .d - 1) (omega (arith, c67 .pre))) (c35 .is-halted .result) (c35 .is-halted .ensures) (c34 .if2 .left)
       (omega (arith, c32 .if3 .left)) (begunIn (c29 .first-on .result) (c29 .first-on .last .1 .1 .1 .1 .0) (a .x .now) (c29 .first-on .last .1 .1 .1 .0)) (begunIn (c25 .second-on .result) (c25 .second-on .last .1 .1 .1 .1 .0) (a .y .now) (c25 .second-on .last .1 .1 .1 .0)) (gapIn (c22 .cross .result) (c22 .cross .last .1 .1 .1 .1 .1 .0)) (c10 .texts2 .result) (tapeOf (c10 .texts2 .result .first) (q .0) (a .x .now) (q .1 .1 .0)) (tapeOf (c10 .texts2 .result .second) (q .1 .0) (a .y .now) (q .1 .1 .1 .0)) (q .1 .1 .1 .1 .0) (q .1 .1 .1 .1 .1 .0) (q .1 .1 .1 .1 .1 .1 .0) (q .1 .1 .1 .1 .1 .1 .1 .0)
       (c29 .first-on .ensures) (c25 .second-on .ensures) (c22 .cross .ensures) (c10 .texts2 .ensures)
       (c1 .is-halted2 .result) (c1 .is-halted2 .ensures) (c .if4 .taken)
@@ -438,7 +437,7 @@ module _ (t : ℕ) where
       rw (c .met .ensures) (texts-on (a .k) (a .d) (a .i) (a .at) (a .m) (feedOf (a .f) (a .b1) (a .o1 .now) (a .x .now) (a .t1 .now)) (feedOf (a .g) (a .b2) (a .o2 .now) (a .y .now) (a .t2 .now)) (a .c .now) (a .t .now) (a .out .now) (a .w .now) (penOf (a .pen))
       (a .d - 1) (one-down (a .d) z) (sym (c74 .at-edges .ensures) ∙ c73 .if1 .left) (feedOf (c67 .first-half .result) (a .b1) (a .o1 .now) (a .x .now) (a .t1 .now)) (feedOf (c65 .first-half2 .result) (a .b2) (a .o2 .now) (a .y .now) (a .t2 .now)) (record { bytes = c71 .push .last .0; count = c71 .push .result }) (c56 .texts .result) (tapeOf (c56 .texts .result .first) (l .0) (a .x .now) (l .1 .1 .0)) (tapeOf (c56 .texts .result .second) (l .1 .0) (a .y .now) (l .1 .1 .1 .0)) (l .1 .1 .1 .1 .0) (l .1 .1 .1 .1 .1 .0) (l .1 .1 .1 .1 .1 .1 .0) (l .1 .1 .1 .1 .1 .1 .1 .0)
       (c67 .first-half .ensures (a .k .n) (opensIn (a .o1 .now) (a .b1 .cursor .depth)) (a .x .now)) (c65 .first-half2 .ensures (a .k .n) (opensIn (a .o2 .now) (a .b2 .cursor .depth)) (a .y .now)) (c71 .push .ensures) (c56 .texts .ensures)
-      (1 * 2 ^ (a .d - 1) % 18446744073709551616) (shift-words (a .d - 1) (omega (arith, c79 .pre))) (c47 .is-halted .result) (c47 .is-halted .ensures) (c46 .if2 .left)
+      (1 * 2 ^ (a .d - 1) % 18446744073709551616) (shifted (a .d - 1) (omega (arith, c79 .pre))) (c47 .is-halted .result) (c47 .is-halted .ensures) (c46 .if2 .left)
       (omega (arith, c44 .if3 .left)) (begunIn (c41 .first-on .result) (c41 .first-on .last .1 .1 .1 .1 .0) (a .x .now) (c41 .first-on .last .1 .1 .1 .0)) (begunIn (c37 .second-on .result) (c37 .second-on .last .1 .1 .1 .1 .0) (a .y .now) (c37 .second-on .last .1 .1 .1 .0)) (gapIn (c34 .cross .result) (c34 .cross .last .1 .1 .1 .1 .1 .0)) (c22 .texts2 .result) (tapeOf (c22 .texts2 .result .first) (q .0) (a .x .now) (q .1 .1 .0)) (tapeOf (c22 .texts2 .result .second) (q .1 .0) (a .y .now) (q .1 .1 .1 .0)) (q .1 .1 .1 .1 .0) (q .1 .1 .1 .1 .1 .0) (q .1 .1 .1 .1 .1 .1 .0) (q .1 .1 .1 .1 .1 .1 .1 .0)
       (c41 .first-on .ensures) (c37 .second-on .ensures) (c34 .cross .ensures) (c22 .texts2 .ensures)
       (c13 .is-halted2 .result) (c13 .is-halted2 .ensures) (c12 .if4 .left) (c10 .walked-of .result) (c6 .second .result) (c6 .second .last .1 .1 .1 .1 .1 .1 .0) (c6 .second .last .1 .1 .1 .1 .1 .1 .1 .0) (c6 .second .last .1 .1 .1 .1 .1 .1 .1 .1 .0) (c10 .walked-of .ensures) (c6 .second .ensures))

@@ -3,6 +3,7 @@ use mathlib.Core.Path.{ap, _∙_}
 use native.Mathlib.Omega.{arith}
 use Prim.Native.Nat.{_+_, _≤_, _^_}
 use lib.Pow.{pow-mono}
+use Rattle.reading.specs.Limits.{optionLimit, levelLimit, wordLimit}
 use Rattle.meeting.specs.Cite.{penOf}
 use Rattle.feeds.specs.Cite.{tapeOf, begunIn}
 use Rattle.text_walk.specs.Cite.{sentOf}
@@ -30,14 +31,14 @@ texts-requires : tie.Need-texts-requires
 texts-requires c κs =
     let c20 = c .before .before .before .before .before .before .before .before .before .before .before .before .before .before .before .before .before .before .before .before in
     let n = c20 .args .k .n in
-    let p : 2 ^ n ≤ 2 ^ 32 = pow-mono (c20 .pre) in
-    let h : (n ≤ 32) × ((1 + n ≤ 33) × (0 + 2 ^ n ≤ 4294967296)) = omega (arith, c20 .pre, p) in
+    let p : 2 ^ n ≤ wordLimit = pow-mono (c20 .pre) in
+    let h : (n ≤ optionLimit) × ((1 + n ≤ levelLimit) × (0 + 2 ^ n ≤ wordLimit)) = omega (arith, c20 .pre, p) in
     h
 
 finish-requires : tie.Need-finish-requires
 finish-requires c κs =
     let c31 = c .before .before .before .before .before .before .before .before .before .before .before .before .before .before .before .before .before .before .before .before .before .before .before .before .before .before .before .before .before .before .before in
-    let h : c31 .args .k .n ≤ 32 = c31 .pre in h
+    let h : c31 .args .k .n ≤ optionLimit = c31 .pre in h
 
 same-length : tie.Need-same-length
 same-length c = search needs

@@ -3,6 +3,7 @@ use mathlib.Core.Path.{_∙_}
 use mathlib.Core.List.{[], _∷_}
 use Prim.Native.Nat.{_≤_}
 use native.Mathlib.Omega.{arith}
+use Rattle.reading.specs.Limits.{optionLimit}
 use Rattle.reading.specs.Bytes.{lineFeed}
 use Rattle.writing.specs.Texts.{decimal}
 use Rattle.engine.specs.PendingMade.{push-then}
@@ -54,7 +55,7 @@ nodes-requires : tie.Need-nodes-requires
 nodes-requires c κs =
     let c25 = c .before .before .before .before .before .before .before .before .before .before .before .before .before .before .before .before .before .before .before .before .before .before .before .before .before in
     let c31 = c25 .before .before .before .before .before .before in
-    let h : c31 .args .k .n ≤ 32 = omega (arith, c25 .if1 .left) in h
+    let h : c31 .args .k .n ≤ optionLimit = omega (arith, c25 .if1 .left) in h
 
 same-length-3 : tie.Need-same-length-3
 same-length-3 c = search needs

@@ -4,6 +4,7 @@ use borrow.Author.Needs.{needs}
 use Prim.Native.Nat.{ℕ, _<_}
 use borrow.Fn.Kinds.{In}
 use borrow.Fn.PlainCycle.{Measures, is, falls, and}
+use Rattle.reading.specs.Limits.{truthTableMost, levelLimit, truthLimit}
 use Rattle.writer.proofs.walk.Reads as walk
 use Rattle.writer.proofs.walk.Kinds as walk-kinds
 use Rattle.writer.proofs.+walk.Lts-walk as walk-lts
@@ -26,10 +27,9 @@ use mathlib.Core.Path.{_≡_, sym, ap, _∙_}
 use native.Mathlib.Omega.{arith}
 use Prim.Native.Nat.{suc, _+_, _*_, _-_, _%_, _≤_, _^_}
 use Rattle.lists.specs.Lists.{differ}
-use Rattle.engine.specs.PendingMade.{few-words}
 use Rattle.engine.specs.EngineMade.{walk-word, walk-no, walk-yes, walk-full, walk-on, walk-repeat}
 use Rattle.meeting.specs.Cite.{halfOf, penOf, again-as}
-use Rattle.lists.specs.Powers.{both-halves}
+use Rattle.lists.specs.Powers.{shifted, both-halves}
 
 abbrev μ-walk : Measures 4 walk-kinds.ps ℕ
 μ-walk κs a = a .1 .1 .0
@@ -148,7 +148,7 @@ module _ (t : ℕ) where
       let c4 = c .before .before .before .before in
       let c8 = c4 .before .before .before .before in
       let a = c8 .args in
-      omega (arith, c8 .pre, few-words (a .d - 1) (omega (arith, c8 .pre)), both-halves (a .d) (c4 .if1 .left))
+      omega (arith, c8 .pre, shifted (a .d - 1) (omega (arith, c8 .pre)), both-halves (a .d) (c4 .if1 .left))
 
   push-requires : walk-lts.Need-push-requires K (at t) walk.Post
   push-requires c κs = tt
@@ -207,8 +207,8 @@ module _ (t : ℕ) where
       let c30 = c .before .before .before .before .before .before .before .before .before .before .before .before .before .before .before .before .before .before .before .before .before .before .before .before .before .before .before .before .before .before in
       let c34 = c30 .before .before .before .before in
       let a = c34 .args in
-      let h : (a .d - 1 ≤ 16) × ((a .at ≤ 65536) × (a .at + 1 * 2 ^ (a .d - 1) % 18446744073709551616 ≤ 65536)) =
-      omega (arith, c34 .pre, c30 .if1 .left, few-words (a .d - 1) (omega (arith, c34 .pre)), both-halves (a .d) (c30 .if1 .left)) in
+      let h : (a .d - 1 ≤ truthTableMost) × ((a .at ≤ truthLimit) × (a .at + 1 * 2 ^ (a .d - 1) % 18446744073709551616 ≤ truthLimit)) =
+      omega (arith, c34 .pre, c30 .if1 .left, shifted (a .d - 1) (omega (arith, c34 .pre)), both-halves (a .d) (c30 .if1 .left)) in
       h
 
   numbered-requires : walk-lts.Need-numbered-requires K (at t) walk.Post
@@ -268,7 +268,7 @@ module _ (t : ℕ) where
       ∙ walk-repeat (a .v .now) (a .size) (a .d - 1) (a .i) (a .at) (a .m) (a .t .now) (a .out .now) (a .w .now) (penOf (a .pen)) (a .d) e
       (sym (c42 .all-bytes .ensures) ∙ c41 .if2 .left) (sym (c40 .all-bytes2 .ensures) ∙ c39 .if3 .left) _ _ (c37 .push .ensures) (c31 .walk .ensures)
       (halfOf (c23 .half-of .result)) (penOf (c25 .pen-of .result)) _ _ _ _ _ (ap halfOf (c23 .half-of .ensures)) (ap penOf (c25 .pen-of .ensures))
-      (few-words (a .d - 1) (omega (arith, c47 .pre))) (c24 .if4 .left)
+      (shifted (a .d - 1) (omega (arith, c47 .pre))) (c24 .if4 .left)
       (c21 .differs .ensures ∙ ap (differ (c23 .half-of .result .complement)) (c22 .truth2 .ensures)) (c19 .wait .ensures) (c15 .push-turn .ensures)
       (sym (c12 .is-again .ensures) ∙ c11 .if5 .taken)
       (again-as (c9 .kept4 .result) (c10 .numbered .result) (c23 .half-of .result) (c25 .pen-of .result) _ _ _ _ _ (c9 .kept4 .ensures) (c10 .numbered .ensures) (c22 .truth2 .ensures))
@@ -278,8 +278,8 @@ module _ (t : ℕ) where
       let c35 = c .before .before .before .before .before .before .before .before .before .before .before .before .before .before .before .before .before .before .before .before .before .before .before .before .before .before .before .before .before .before .before .before .before .before .before in
       let c39 = c35 .before .before .before .before in
       let a = c39 .args in
-      let h : (a .d - 1 < t) × ((a .d - 1 ≤ 16) × ((a .i + 1 + (a .d - 1) ≤ 64) × (a .at + 1 * 2 ^ (a .d - 1) % 18446744073709551616 + 2 ^ (a .d - 1) ≤ 65536))) =
-      omega (arith, c39 .pre, c35 .if1 .left, few-words (a .d - 1) (omega (arith, c39 .pre)), both-halves (a .d) (c35 .if1 .left)) in
+      let h : (a .d - 1 < t) × ((a .d - 1 ≤ truthTableMost) × ((a .i + 1 + (a .d - 1) ≤ levelLimit) × (a .at + 1 * 2 ^ (a .d - 1) % 18446744073709551616 + 2 ^ (a .d - 1) ≤ truthLimit))) =
+      omega (arith, c39 .pre, c35 .if1 .left, shifted (a .d - 1) (omega (arith, c39 .pre)), both-halves (a .d) (c35 .if1 .left)) in
       h
 
   second-requires-2 : walk-lts.Need-second-requires-2 K (at t) walk.Post
@@ -335,7 +335,7 @@ module _ (t : ℕ) where
       ∙ walk-on (a .v .now) (a .size) (a .d - 1) (a .i) (a .at) (a .m) (a .t .now) (a .out .now) (a .w .now) (penOf (a .pen)) (a .d) e
       (sym (c49 .all-bytes .ensures) ∙ c48 .if2 .left) (sym (c47 .all-bytes2 .ensures) ∙ c46 .if3 .left) _ _ (c44 .push .ensures) (c38 .walk .ensures)
       (halfOf (c30 .half-of .result)) (penOf (c32 .pen-of .result)) _ _ _ _ _ (ap halfOf (c30 .half-of .ensures)) (ap penOf (c32 .pen-of .ensures))
-      (few-words (a .d - 1) (omega (arith, c54 .pre))) (c31 .if4 .left)
+      (shifted (a .d - 1) (omega (arith, c54 .pre))) (c31 .if4 .left)
       (c28 .differs .ensures ∙ ap (differ (c30 .half-of .result .complement)) (c29 .truth2 .ensures)) (c26 .wait .ensures) (c22 .push-turn .ensures)
       (sym (c19 .is-again .ensures) ∙ c18 .if5 .left) (c14 .walk2 .ensures)
 

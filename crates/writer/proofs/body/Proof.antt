@@ -1,6 +1,7 @@
 -- The leading `~`, the walk and the end, by the law of Engine for this way; nothing more if the output is full.
 -- Assumes nothing.
 use borrow.Author.Needs.{needs}
+use Rattle.reading.specs.Limits.{truthTableMost, levelLimit, truthLimit}
 use Rattle.writer.proofs.body.Statement.{statement}
 use Rattle.writer.proofs.body.Tie as tie
 use mathlib.Core.Path.{refl, ap, _∙_}
@@ -27,8 +28,8 @@ pen-after-requires c κs = search needs
 
 walk-requires : tie.Need-walk-requires
 walk-requires c κs = let n = c .before .before .before .before .before .before .before .before .before .before .before .before .before .args .n in
-    let e : 2 ^ n ≤ 65536 = pow-mono (c .before .before .before .before .before .before .before .before .before .before .before .before .before .pre) in
-    let h : (n ≤ 16) × ((1 + n ≤ 64) × (0 + 2 ^ n ≤ 65536)) = omega (arith, e, c .before .before .before .before .before .before .before .before .before .before .before .before .before .pre) in
+    let e : 2 ^ n ≤ truthLimit = pow-mono (c .before .before .before .before .before .before .before .before .before .before .before .before .before .pre) in
+    let h : (n ≤ truthTableMost) × ((1 + n ≤ levelLimit) × (0 + 2 ^ n ≤ truthLimit)) = omega (arith, e, c .before .before .before .before .before .before .before .before .before .before .before .before .before .pre) in
     h
 
 done-requires : tie.Need-done-requires
