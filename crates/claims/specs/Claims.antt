@@ -20,6 +20,7 @@ use Rattle.reading.specs.Calls.{Checked, extent, Read, check, Checks, Verdict, 
 use Rattle.reading.specs.Covered as C
 use Rattle.reading.specs.Covered.{covered}
 use Rattle.reading.specs.Settled as F
+use Rattle.reading.specs.FaultRank.{Counts, fault-counts}
 use Rattle.reading.specs.CallLaws as L
 use Rattle.writing.specs.Run.{runText, whole, Answer}
 use Rattle.writing.specs.Calls.{truthAt, Write, write, Writes, Combine, combine, Combines}
@@ -47,8 +48,10 @@ pub record Demand1 {R S : Type 0} (z : R) (o : S) : Type 0 where
       → TurnedDown [] (writeLines n size truths (length v)) (c .answer)
   pub combine-refused : (n op size : ℕ) (x y out : List ℕ) (t u : List R) (v : List S) (c : Combine R S) → Combines z o n op size x y out t u v c
       → TurnedDown (x ∷ y ∷ []) (combineLines n op size x y (length t) (length u) (length v)) (c .answer)
-  -- "In a stream the lowest fault place counts": the bytes before it are without fault.
-  pub lowest-fault : (n : ℕ) (x : List ℕ) (f : Fault) → reading n x .fault ≡ some f → (f .byte < length x) × (reading n (take (f .byte) x) .fault ≡ none)
+  -- "In a stream the lowest fault place counts, and there the lower number": the bytes before it are without fault, the cause is met there
+  -- from where reading stands, and none that is met there has a lower rank.
+  pub lowest-fault : (n : ℕ) (x : List ℕ) (f : Fault) → reading n x .fault ≡ some f
+      → (f .byte < length x) × (reading n (take (f .byte) x) .fault ≡ none) × Counts n x (reading n x .state) (f .byte) (f .cause)
   -- A work table is as it was after a refusal that leaves all so, and zero in every record after any other return.
   pub check-table : (n : ℕ) (x : List ℕ) (t : List R) (c : Read Checked R) → Checks z n x t c
       → TableLeft z (c .answer) t (c .table)
@@ -162,7 +165,7 @@ demand-1 {R} {S} z o = record {
   combine-refused = λ n op size x y out t u v c e.
       subst⁻¹ (λ (c : Combine R S). TurnedDown (x ∷ y ∷ []) (combineLines n op size x y (length t) (length u) (length v)) (c .answer)) e
       (T.combine-lines n op size x y out (length t) (length u) (length v));
-  lowest-fault = λ n x f e. (F.fault-inside n x f e, F.fault-lowest n x f e);
+  lowest-fault = λ n x f e. (F.fault-inside n x f e, F.fault-lowest n x f e, fault-counts n x f e);
   check-table = λ n x t c e. subst⁻¹ (λ (c : Read Checked R). TableLeft z (c .answer) t (c .table)) e (M.check-table z n x t);
   decide-table = λ n x w t c e. subst⁻¹ (λ (c : Read Verdict R). TableLeft z (c .answer) t (c .table)) e (M.decide-table z n x w t);
   fill-table = λ n x truths t c e. subst⁻¹ (λ (c : Fill R). TableLeft z (c .answer) t (c .table)) e (M.fill-table z n x truths t);

@@ -82,7 +82,7 @@ late-zero : {A : Type 0} (z : List ℕ) (a : Result A) → Late a → (t : List 
 late-zero z (refused f) h t = cleared-replicate z t ∙ sym (zeroes-table (refused f) z t f refl h)
 late-zero z (done x) h t = cleared-replicate z t ∙ sym (zeroes-done (done x) z t x refl)
 
--- so does the fault of a stream
+-- the fault of a stream keeps the output
 fault-late : {A : Type 0} (n k : ℕ) (x : List ℕ) (a : Result A) → Late a → Late (unlessFault k (reading n x .fault) a)
 fault-late n k x a h = go (reading n x .fault) refl
   where

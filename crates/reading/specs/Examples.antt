@@ -1,10 +1,12 @@
 -- Readings of document 01 that are settled (docs/DECISIONS.md), each on a stream, by computation: a wrong definition fails here. Assumes nothing.
 use mathlib.Core.Path.{_≡_, refl}
+use mathlib.Core.List.{[]}
 use Prim.Native.Nat.{ℕ}
 use Prim.Native.String.{String}
 use Rattle.reading.specs.Limits.{tableLimit}
 use Rattle.reading.specs.Bytes.{text}
-use Rattle.reading.specs.Causes.{Cause, wrongByte, declaredSize, notInTable, otherLevel, notStorable, badNumber, Result, refused, done, refusal}
+use Rattle.reading.specs.Causes.{Cause, optionCount, wrongByte, declaredSize, notInTable, otherLevel, notStorable, badNumber}
+use Rattle.reading.specs.Causes.{Result, refused, done, refusal}
 use Rattle.reading.specs.Calls.{Checked, Extent, cut, checkAnswer, Verdict, isNo, isYes, notYet, decideAnswer}
 
 abbrev checks : ℕ → String → Result Checked
@@ -22,6 +24,11 @@ abbrev rejects : Cause → ℕ → Result Checked
 rejects c b = refused (refusal c 1 b)
 
 -- ---- Places and ranks of faults --------------------------------------------------------------
+
+-- too many options are named before a short work table
+options-first : checkAnswer 33 [] 0 ≡ refused (refusal optionCount 0 0)
+unfolding checkAnswer
+options-first = refl
 
 -- a `:` that a child bars is cause 12 as soon as it is there, whatever follows it
 barred-colon : checks 2 "1\n((0~0)0):" ≡ rejects notStorable 10

@@ -12,6 +12,7 @@ pub mod Grammar
 pub mod StepLaws
 pub mod Prefix
 pub mod Settled
+pub mod FaultRank
 pub mod Moves
 pub mod Words
 pub mod Covered

@@ -193,7 +193,7 @@ blank-no-digit : isDigit blank ≡ false
 unfolding isDigit
 blank-no-digit = refl
 
-digit-not-blank : (b : ℕ) → isDigit b ≡ true → eqb b blank ≡ false
+pub digit-not-blank : (b : ℕ) → isDigit b ≡ true → eqb b blank ≡ false
 digit-not-blank b e = ne-eqb b blank (λ h. true≢false (sym e ∙ ap isDigit h ∙ blank-no-digit))
 
 module _ (bytes : List ℕ) (p : Place) (b : ℕ) (inside : p .at < length bytes) where
