@@ -18,6 +18,7 @@ use reader::read_on;
 use scanner::Cause;
 use scanner::Mark;
 use scanner::OPEN_LIMIT;
+use scanner::mark_number;
 use work_table::Edge;
 use work_table::OPTION_LIMIT;
 use work_table::TABLE_LIMIT;
@@ -131,15 +132,7 @@ pub struct Loaded {
 fn has_ended(m: Mark) -> bool
     ensures { λ r. ⌜ r ≡ ended (markOf m) ⌝ }
 {
-    match m {
-        Mark::Start => false,
-        Mark::Lead => false,
-        Mark::Begins => false,
-        Mark::AfterDigit => true,
-        Mark::AfterTwo => true,
-        Mark::AfterOne => true,
-        Mark::Over => true,
-    }
+    mark_number(Mark::AfterDigit) <= mark_number(m)
 }
 
 // What ended last is the outermost node, and is the terminal or a number that was not given out again.

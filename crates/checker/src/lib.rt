@@ -1,11 +1,10 @@
 // Checking a stream, and how a call is turned down.
 ghost use mathlib.Core.Path.{_≡_};
-ghost use mathlib.Core.Bool.{cond};
 ghost use mathlib.Core.List.{[]};
 ghost use Rattle.reading.specs.Causes.{refusal};
-ghost use Rattle.reading.specs.Calls.{complete, cut, extent, Checks};
+ghost use Rattle.reading.specs.Calls.{Checks};
 ghost use Rattle.work_table.specs.Table.{noRecord};
-ghost use Rattle.scanner.specs.Cite.{markOf, causeOf};
+ghost use Rattle.scanner.specs.Cite.{causeOf};
 ghost use Rattle.reader.specs.Lent.{reachedIn};
 ghost use Rattle.checker.specs.Answers.{refusalOf, checkingOf};
 ghost use Rattle.checker.specs.CheckMade.{checkedBy};
@@ -15,6 +14,7 @@ use reader::read_on;
 use scanner::Cause;
 use scanner::Mark;
 use scanner::OPEN_LIMIT;
+use scanner::is_mark;
 use work_table::OPTION_LIMIT;
 use work_table::TABLE_LIMIT;
 use work_table::WORD_LIMIT;
@@ -62,20 +62,6 @@ pub fn late(r: Reached) -> Refusal
     }
 }
 
-fn is_over(m: Mark) -> bool
-    ensures { λ r. ⌜ cond r complete cut ≡ extent (markOf m) ⌝ }
-{
-    match m {
-        Mark::Start => false,
-        Mark::Lead => false,
-        Mark::Begins => false,
-        Mark::AfterDigit => false,
-        Mark::AfterTwo => false,
-        Mark::AfterOne => false,
-        Mark::Over => true,
-    }
-}
-
 pub fn checked_at(r: Reached) -> Checking
     ensures { λ x. ⌜ checkingOf x ≡ checkedBy (reachedIn r []) ⌝ }
 {
@@ -88,7 +74,7 @@ pub fn checked_at(r: Reached) -> Checking
     Checking::Done(Checked {
         size: q.size,
         covered: q.covered,
-        complete: is_over(m),
+        complete: is_mark(m, Mark::Over),
     })
 }
 

@@ -3,7 +3,7 @@ ghost use mathlib.Core.Path.{_≡_};
 ghost use mathlib.Core.Bool.{cond};
 ghost use lib.Dec.{eqb};
 ghost use lib.ListN.{length, replicate};
-ghost use Prim.Native.Nat.{min, _≤_, _^_};
+ghost use Prim.Native.Nat.{_≤_, _^_};
 ghost use Rattle.reading.specs.Limits.{optionLimit};
 ghost use Rattle.reading.specs.Causes.{refusal, refused, done};
 ghost use Rattle.scanner.specs.Cite.{causeOf};
@@ -41,6 +41,7 @@ use work_table::OPTION_LIMIT;
 use work_table::TABLE_LIMIT;
 use work_table::clear as clear_table;
 use work_table::differs;
+use work_table::least;
 
 fn answer(n: u32, covered: u64, x: Sent) -> Written
     requires { ⌜ n ≤ optionLimit ⌝ }
@@ -58,12 +59,6 @@ struct Both {
     faulty: bool,
     refusal: Refusal,
     covered: u64,
-}
-
-fn least_words(a: u64, b: u64) -> u64
-    ensures { λ r. ⌜ r ≡ min a b ⌝ }
-{
-    if a < b { a } else { b }
 }
 
 fn faulty(r: Refusal) -> Both
@@ -105,7 +100,7 @@ fn after_first(c: u64, b: Checking) -> Both
             let k = f.cause;
             faulty(in_second(k, f.byte))
         }
-        Checking::Done(y) => covering(least_words(c, y.covered)),
+        Checking::Done(y) => covering(least(c as usize, y.covered as usize) as u64),
     }
 }
 

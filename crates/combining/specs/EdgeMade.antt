@@ -15,6 +15,8 @@ use Rattle.engine.specs.Applying.{Source, firstSource, secondSource, fixed}
 use Rattle.engine.specs.Taping.{Feed, atEdge, edgeOf, settle, firstFeed}
 use Rattle.work_table.specs.Table.{getIn}
 use Rattle.work_table.specs.TableLaws.{rowNode, tableOf, table-node}
+use Rattle.work_table.specs.Edges.{firstEdge, secondEdge}
+use Rattle.work_table.specs.declared.Edge.{Edge}
 use Rattle.work_table.specs.declared.Row.{Row}
 
 -- ---- The operator ----------------------------------------------------------------------------
@@ -47,50 +49,30 @@ fixed-two op x y = refl
 
 -- ---- An edge at the halves of a part ---------------------------------------------------------
 
--- k: the number of the edge in a table of z numbers, v: turned about or not, r: the record that code read
-module _ (t : List (List ℕ)) (z i k : ℕ) (v : Bool) (r : Row) (read : r ≡ getIn t z k) where
-  abbrev x : Source
-  x = record { table = tableOf t z; number = k; turned = v }
+-- x: the edge in a table of z numbers; r: the record that code read
+module _ (t : List (List ℕ)) (z i : ℕ) (x : Edge) (r : Row) (read : r ≡ getIn t z (x .number)) where
+  abbrev source : Edge → Source
+  source e = record { table = tableOf t z; number = e .number; turned = e .turned }
 
-  same : rowNode r ≡ node (tableOf t z) k
-  same = ap rowNode read ∙ sym (table-node t z k)
+  same : rowNode r ≡ node (tableOf t z) (x .number)
+  same = ap rowNode read ∙ sym (table-node t z (x .number))
 
-  level : (eqb k 0 || ltb i (r .level)) ≡ (eqb k 0 || ltb i (node (tableOf t z) k .level))
-  level = ap (λ (y : Node). eqb k 0 || ltb i (y .level)) same
+  by-test : (b : Bool) (e f : Edge) → source (cond b e f) ≡ cond b (source e) (source f)
+  by-test true e f = refl
+  by-test false e f = refl
 
-  -- it is passed over
-  pub first-passed : (eqb k 0 || ltb i (r .level)) ≡ true → x ≡ firstSource i x
-  first-passed e =
-      ap (λ (b : Bool). cond b x (record { table = tableOf t z; number = node (tableOf t z) k .first; turned = v }))
-      (sym (sym level ∙ e))
+  -- y, e: the edge and its child as code holds them
+  pub first-child : (y e : Edge) → y ≡ x → e ≡ firstEdge r i y → source e ≡ firstSource i (source x)
+  first-child y e g h =
+      ap source (h ∙ ap (firstEdge r i) g)
+      ∙ by-test (eqb (x .number) 0 || ltb i (r .level)) x (record { number = r .first; turned = x .turned })
+      ∙ ap (λ (n : Node). cond (eqb (x .number) 0 || ltb i (n .level)) (source x) (source (record { number = n .first; turned = x .turned }))) same
 
-  pub second-passed : (eqb k 0 || ltb i (r .level)) ≡ true → x ≡ secondSource i x
-  second-passed e =
-      ap (λ (b : Bool). cond b x (record {
-        table = tableOf t z;
-        number = node (tableOf t z) k .second;
-        turned = differ (node (tableOf t z) k .complement) v;
-      })) (sym (sym level ∙ e))
-
-  -- it goes to a child
-  pub first-child : (eqb k 0 || ltb i (r .level)) ≡ false
-      → record { table = tableOf t z; number = r .first; turned = v } ≡ firstSource i x
-  first-child e =
-      ap (λ (y : Node). record { table = tableOf t z; number = y .first; turned = v }) same
-      ∙ ap (λ (b : Bool). cond b x (record { table = tableOf t z; number = node (tableOf t z) k .first; turned = v }))
-      (sym (sym level ∙ e))
-
-  -- u: turned about or not there
-  pub second-child : (u : Bool) → u ≡ differ (r .complement) v → (eqb k 0 || ltb i (r .level)) ≡ false
-      → record { table = tableOf t z; number = r .second; turned = u } ≡ secondSource i x
-  second-child u f e =
-      ap (λ (u : Bool). record { table = tableOf t z; number = r .second; turned = u }) f
-      ∙ ap (λ (y : Node). record { table = tableOf t z; number = y .second; turned = differ (y .complement) v }) same
-      ∙ ap (λ (b : Bool). cond b x (record {
-        table = tableOf t z;
-        number = node (tableOf t z) k .second;
-        turned = differ (node (tableOf t z) k .complement) v;
-      })) (sym (sym level ∙ e))
+  pub second-child : (y e : Edge) → y ≡ x → e ≡ secondEdge r i y → source e ≡ secondSource i (source x)
+  second-child y e g h =
+      ap source (h ∙ ap (secondEdge r i) g)
+      ∙ by-test (eqb (x .number) 0 || ltb i (r .level)) x (record { number = r .second; turned = differ (r .complement) (x .turned) })
+      ∙ ap (λ (n : Node). cond (eqb (x .number) 0 || ltb i (n .level)) (source x) (source (record { number = n .second; turned = differ (n .complement) (x .turned) }))) same
 
 -- ---- Where an input settles ------------------------------------------------------------------
 

@@ -9,8 +9,12 @@ ghost use Rattle.work_table.specs.Table.{getIn};
 ghost use Rattle.engine.specs.Applying.{firstSource, secondSource, fixed};
 ghost use Rattle.edges.specs.Cite.{edgeIn};
 use unique_table::either;
+use work_table::Edge as NodeEdge;
 use work_table::Row;
 use work_table::differs;
+use work_table::first_edge as first_child;
+use work_table::second_edge as second_child;
+use work_table::skips;
 
 // ---- The operator
 
@@ -37,51 +41,47 @@ pub struct Edge {
     pub size: u32,
 }
 
-// At level i the number k, with the record r, is passed over: the terminal, or of a deeper level
-fn is_passed(i: u32, k: u32, r: Row) -> bool
-    ensures { λ x. ⌜ x ≡ (eqb k 0 || ltb i (r .level)) ⌝ }
+// The edge x without its table, and the edge e in the table of x
+fn bare(x: Edge) -> NodeEdge
+    ensures { λ r. ⌜ r ≡ record { number = x .number; turned = x .turned } ⌝ }
 {
-    if k == 0 {
-        return true;
+    NodeEdge {
+        number: x.number,
+        turned: x.turned,
     }
-    i < r.level
+}
+
+fn beside(x: Edge, e: NodeEdge) -> Edge
+    ensures { λ r. ⌜ r ≡ record { number = e .number; turned = e .turned; size = x .size } ⌝ }
+{
+    Edge {
+        number: e.number,
+        turned: e.turned,
+        size: x.size,
+    }
 }
 
 // The edge at the two halves of a part of level i; r: the record of its number
 pub fn first_edge(i: u32, x: Edge, r: Row) -> Edge
     ensures { λ y. ⌜ ((t : List (List ℕ)) → r ≡ getIn t (x .size) (x .number) → edgeIn y t ≡ firstSource i (edgeIn x t)) ⌝ }
 {
-    if is_passed(i, x.number, r) {
-        return x;
-    }
-    Edge {
-        number: r.first,
-        turned: x.turned,
-        size: x.size,
-    }
+    beside(x, first_child(r, i, bare(x)))
 }
 
 pub fn second_edge(i: u32, x: Edge, r: Row) -> Edge
     ensures { λ y. ⌜ ((t : List (List ℕ)) → r ≡ getIn t (x .size) (x .number) → edgeIn y t ≡ secondSource i (edgeIn x t)) ⌝ }
 {
-    if is_passed(i, x.number, r) {
-        return x;
-    }
-    Edge {
-        number: r.second,
-        turned: differs(r.complement, x.turned),
-        size: x.size,
-    }
+    beside(x, second_child(r, i, bare(x)))
 }
 
 // Both are the same at the two halves of a part of level i; k and r, j and s: their numbers with the records
 pub fn both_pass(i: u32, k: u32, r: Row, j: u32, s: Row) -> bool
     ensures { λ x. ⌜ x ≡ ((eqb k 0 || ltb i (r .level)) && ((eqb j 0 || ltb i (s .level)) && true)) ⌝ }
 {
-    if !is_passed(i, k, r) {
+    if !skips(k, i, r.level) {
         return false;
     }
-    is_passed(i, j, s)
+    skips(j, i, s.level)
 }
 
 // ---- What terminals fix

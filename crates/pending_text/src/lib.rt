@@ -3,11 +3,12 @@ ghost use mathlib.Core.Path.{_≡_};
 ghost use mathlib.Core.Bool.{cond};
 ghost use mathlib.Core.List.{[], _∷_};
 ghost use lib.ListN.{replicate};
-ghost use Prim.Native.Nat.{min, _-_};
+ghost use Prim.Native.Nat.{_-_};
 ghost use Rattle.reading.specs.Bytes.{blank};
 ghost use Rattle.writing.specs.Texts.{decimal, tildeIf, storing};
 ghost use Rattle.engine.specs.Pending.{pushAll, waitIn, closeIn};
 ghost use Rattle.engine.specs.Engine.{sendText};
+use work_table::least;
 
 // So many bytes wait at most, in round numbers: `waiting-room`.
 pub const WAITING_LIMIT: usize = 2400;
@@ -92,12 +93,6 @@ pub fn close(w: &mut [u8], m: usize, space: bool, wrote: bool, j: u32, k: u32, n
 }
 
 // ---- The output
-
-fn least(a: usize, b: usize) -> usize
-    ensures { λ r. ⌜ r ≡ min a b ⌝ }
-{
-    if a < b { a } else { b }
-}
 
 fn less(a: usize, b: usize) -> usize
     ensures { λ r. ⌜ r ≡ a - b ⌝ }

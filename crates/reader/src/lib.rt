@@ -1,7 +1,6 @@
 ghost use mathlib.Core.Path.{_≡_};
 ghost use Prim.Native.Nat.{_+_, _-_, _<_, _≤_, _^_};
 ghost use Rattle.reading.specs.Limits.{optionLimit, openLimit, wordLimit};
-ghost use Rattle.reading.specs.Reading.{isStart};
 ghost use Rattle.reading.specs.StepLaws.{digitPlace};
 ghost use Rattle.scanner.specs.Kinds.{kindTable};
 ghost use Rattle.scanner.specs.Cite.{markOf};
@@ -21,8 +20,7 @@ use scanner::OPEN_LIMIT;
 use scanner::Open;
 use scanner::Ref;
 use scanner::Sight;
-use scanner::is_lead;
-use scanner::is_two;
+use scanner::is_mark;
 use scanner::kinds;
 use scanner::look_at;
 use scanner::spots_of;
@@ -143,7 +141,7 @@ fn turned(r: Run, at: usize, m: Mark) -> Run
 {
     let k = r.mark;
     let mut q = moved(r, at, m);
-    if is_lead(k) {
+    if is_mark(k, Mark::Lead) {
         q.complement = true;
     }
     q
@@ -300,20 +298,6 @@ fn stored(r: Run, k: u32, x: Row, at: usize, m: Mark) -> Taken
     }
 }
 
-fn is_start(m: Mark) -> bool
-    ensures { λ r. ⌜ r ≡ isStart (markOf m) ⌝ }
-{
-    match m {
-        Mark::Start => true,
-        Mark::Lead => false,
-        Mark::Begins => false,
-        Mark::AfterDigit => false,
-        Mark::AfterTwo => false,
-        Mark::AfterOne => false,
-        Mark::Over => false,
-    }
-}
-
 // One element more. n: the option count; d: how many nodes are open, and o the innermost; g: where the first digit of a number stands; x: the
 // record of the number, if it has one; at, m: the place after it.
 fn take_element(
@@ -339,7 +323,7 @@ fn take_element(
         }
         Element::Number(v) => {
             let k = r.mark;
-            if is_start(k) {
+            if is_mark(k, Mark::Start) {
                 return sized(r, g, v, at, m);
             }
             found(n, r, d, g, v, x, at, m)
@@ -368,7 +352,7 @@ fn barred(t: &[[u32; 6]], r: Run, b: u8) -> bool
     if b != COLON {
         return false;
     }
-    if !is_two(m) {
+    if !is_mark(m, Mark::AfterTwo) {
         return false;
     }
     let p = r.pair;

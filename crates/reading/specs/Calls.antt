@@ -10,8 +10,8 @@ use lib.ListN.{length}
 use Rattle.reading.specs.Limits.{optionLimit, tableLimit, truthTableLeast, truthTableMost}
 use Rattle.reading.specs.Bytes.{isDigit}
 use Rattle.reading.specs.Causes.{optionCount, workTable, wordRange, truthTable, Result, refused, done, refusal, Test, test, atCall, gate, tableAfter, unlessRefused}
-use Rattle.reading.specs.Element.{Mark, start, lead, begins, afterDigit, afterTwo, afterOne, over}
-use Rattle.reading.specs.Reading.{State, Fault, reading}
+use Rattle.reading.specs.Element.{Mark, over}
+use Rattle.reading.specs.Reading.{State, Fault, reading, isMark}
 use Rattle.reading.specs.Deciding.{Decision, undecided, decided, Trace, decisionOf, trace}
 
 -- ---- Tests and streams -----------------------------------------------------------------------
@@ -40,13 +40,7 @@ pub data Extent : Type 0 where
   complete cut : Extent
 
 abbrev pub extent : Mark → Extent
-extent start = cut
-extent lead = cut
-extent begins = cut
-extent afterDigit = cut
-extent afterTwo = cut
-extent afterOne = cut
-extent over = complete
+extent m = cond (isMark over m) complete cut
 
 -- "Checking answers the declared size (0 while unfinished), the covered count, and complete or cut."
 pub record Checked : Type 0 where

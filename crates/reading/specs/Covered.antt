@@ -12,7 +12,7 @@ use Rattle.lists.specs.Lists.{differ, decide-le}
 use Rattle.lists.specs.Maps.{map-append, map-same, map-map, map-replicate, getD-pad, getD-replicate-same}
 use Rattle.reading.specs.Nodes.{Ref, Node, noNode, node}
 use Rattle.reading.specs.Element.{Open, inFirst, inSecond, Mark, start, lead, begins, afterDigit, afterTwo, afterOne, over, place, moved, step}
-use Rattle.reading.specs.Reading.{State, state, Fault, Reading, goes, fresh, level, passed, isLead, nextBy, next, reading}
+use Rattle.reading.specs.Reading.{State, state, Fault, Reading, goes, fresh, level, passed, isMark, isLead, nextBy, next, reading}
 use Rattle.reading.specs.Deciding.{Decision, undecided, decided, complemented, Diagram, missing, leaf, branch, top, below, Drawing, drawing, drawUnless, Trace, traced, nextTrace, traceOn, trace, ended, around, outermostOf, outermost, decisionOf, decision}
 use Rattle.reading.specs.Prefix.{trace-continues, trace-reading}
 use Rattle.reading.specs.Moves.{Begins, anew, second, Move, rests, refuses, sizes, leads, opens, constants, numbers, turns, closesOne, closesTwo, stores, ends, advance-move}
@@ -116,13 +116,7 @@ under false x = x
 
 -- the mark is before any node or after the point: no node is open
 abbrev pub isOutside : Mark → Bool
-isOutside start = true
-isOutside lead = true
-isOutside begins = false
-isOutside afterDigit = false
-isOutside afterTwo = false
-isOutside afterOne = false
-isOutside over = true
+isOutside m = isMark start m || (isMark lead m || isMark over m)
 
 -- what holds of every reading and its drawing
 pub record Good (n : ℕ) (s : State) (d : Drawing) : Type 0 where

@@ -3,10 +3,10 @@ use mathlib.Core.Bool.{Bool, true, false, not, cond}
 use mathlib.Core.List.{List, [], _∷_}
 use mathlib.Core.Option.{Option, none, some}
 use Prim.Native.Nat.{ℕ, zero, suc, _-_, _^_}
-use lib.Dec.{ltb}
+use lib.Dec.{leb, ltb}
 use lib.ListN.{length, getD, set, replicate}
-use Rattle.reading.specs.Element.{Element, opening, number, constant, turn, closing, storing, end, Open, inFirst, inSecond, Mark, start, lead, begins, afterDigit, afterTwo, afterOne, over, Outcome, got, fault, ranOut, step}
-use Rattle.reading.specs.Reading.{State, Fault, Reading, goes, fresh, isStart, next}
+use Rattle.reading.specs.Element.{Element, opening, number, constant, turn, closing, storing, end, Open, inFirst, inSecond, Mark, afterDigit, Outcome, got, fault, ranOut, step}
+use Rattle.reading.specs.Reading.{State, Fault, Reading, goes, fresh, markNumber, isStart, next}
 
 -- ---- Words -----------------------------------------------------------------------------------
 
@@ -112,15 +112,9 @@ trace n bytes = traceOn (suc (length bytes)) n bytes (traced (goes fresh) (drawi
 
 -- ---- The decision ----------------------------------------------------------------------------
 
--- a node has just ended
+-- a node has just ended: the marks from `afterDigit` on
 abbrev pub ended : Mark → Bool
-ended start = false
-ended lead = false
-ended begins = false
-ended afterDigit = true
-ended afterTwo = true
-ended afterOne = true
-ended over = true
+ended m = leb (markNumber afterDigit) (markNumber m)
 
 -- The outermost node, as far as it is read: the open nodes around the node x that stands at the end of the text.
 unfoldable pub around : List Open → List Diagram → Diagram → Diagram

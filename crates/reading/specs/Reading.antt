@@ -74,14 +74,21 @@ ending r p = place (p .at) (p .mark) (p .opens) r
 abbrev pub passed : ℕ → State → Place → Ref → State
 passed n s q r = state (ending r q) (s .size) (s .covered + wordsAt n (s .place)) (s .complement) (s .table) (s .pair)
 
+-- the marks by number, in the order of their names
+abbrev pub markNumber : Mark → ℕ
+markNumber start = 0
+markNumber lead = 1
+markNumber begins = 2
+markNumber afterDigit = 3
+markNumber afterTwo = 4
+markNumber afterOne = 5
+markNumber over = 6
+
+abbrev pub isMark : Mark → Mark → Bool
+isMark k m = eqb (markNumber m) (markNumber k)
+
 abbrev pub isStart : Mark → Bool
-isStart start = true
-isStart lead = false
-isStart begins = false
-isStart afterDigit = false
-isStart afterTwo = false
-isStart afterOne = false
-isStart over = false
+isStart m = isMark start m
 
 -- "declared size above 1,024". d: the first digit's place
 abbrev pub sized : State → Place → ℕ → ℕ → Reading
@@ -95,13 +102,7 @@ found n s q d v x =
 
 -- a `~` before the outermost node
 abbrev pub isLead : Mark → Bool
-isLead start = false
-isLead lead = true
-isLead begins = false
-isLead afterDigit = false
-isLead afterTwo = false
-isLead afterOne = false
-isLead over = false
+isLead m = isMark lead m
 
 abbrev pub turned : State → Place → State
 turned s q = state q (s .size) (s .covered) (isLead (s .place .mark) || s .complement) (s .table) (s .pair)
@@ -143,13 +144,7 @@ withElement n s d end q = goes (state q (s .size) (s .covered) (s .complement) (
 -- ---- The reading -----------------------------------------------------------------------------
 
 abbrev pub isTwo : Mark → Bool
-isTwo start = false
-isTwo lead = false
-isTwo begins = false
-isTwo afterDigit = false
-isTwo afterTwo = true
-isTwo afterOne = false
-isTwo over = false
+isTwo m = isMark afterTwo m
 
 -- "storing barred by a child": a node may be given a number "only if both children are kept and no number of theirs has been given out again
 -- since they were read". Cause 12 at the `:`, whatever follows it. b: the byte at the place

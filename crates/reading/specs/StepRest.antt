@@ -16,6 +16,7 @@ use Rattle.reading.specs.Bytes.{opener, closer, tilde, colon, dot, blank
 use Rattle.reading.specs.Nodes.{Ref}
 use Rattle.reading.specs.Causes.{wrongByte, tooDeep}
 use Rattle.reading.specs.Element.{Element, opening, number, constant, turn, closing, storing, end, Open, inFirst, inSecond, Mark, start, lead, begins, afterDigit, afterTwo, afterOne, over, Place, place, moved, Scan, read, unread, digitsOn, numberAt, Outcome, got, fault, ranOut, Step, gives, fails, waits, sizeEnds, sizeRead, numberRead, storingRead, nodeBegins, afterSpace, afterColon, nodeEnded, stepBy, step}
+use Rattle.reading.specs.Reading.{isMark}
 use Rattle.reading.specs.Grammar.{Digits, noDigit, aDigit, IsNumber, isZero, isOther, beginsInDigit}
 use Rattle.reading.specs.Residual.{_⊆_, After, Byte, Number, numbered, Node, Stored, unstored, stored, Second, First, closes, turns, joins, spaces, Tail, Lead, turned, unturned, Rest, byte-here, byte-head, byte-not, byte-tail, byte-none, Nondigit, nondigit-begins, byte-nondigit, number-begins, number-head, number-none, node-not, node-none, closer-not, tilde-not, blank-not, lineFeed-not, node-number, number-node, node-opens, opens-node, tail-none, tail-colon, tail-nondigit, Some, byte-some, number-some, tail-some, rest-some}
 
@@ -157,17 +158,8 @@ one-byte p b bs e q a c f g = takes (b ∷ []) bs e q refl a (omega arith) c f (
 wrong-here : (p : Place) (b : ℕ) (bs : List ℕ) → ((zs : List ℕ) → RestAt p (b ∷ zs) → ⊥) → FitsStep p (b ∷ bs) (fails p wrongByte (p .at))
 wrong-here p b bs n = wrong [] bs b (p .at) refl (omega arith) (rest-some (p .mark) (p .opens)) n
 
-abbrev isOver : Mark → Bool
-isOver start = false
-isOver lead = false
-isOver begins = false
-isOver afterDigit = false
-isOver afterTwo = false
-isOver afterOne = false
-isOver over = true
-
-not-over : (m : Mark) → isOver m ≡ false → m ≡ over → ⊥
-not-over m n e = clash (ap isOver e) n
+not-over : (m : Mark) → isMark over m ≡ false → m ≡ over → ⊥
+not-over m n e = clash (ap (isMark over) e) n
 
 -- ---- Where a number is read ------------------------------------------------------------------
 

@@ -9,6 +9,7 @@ use Rattle.reading.specs.Limits.{openLimit}
 use Rattle.reading.specs.Nodes as N
 use Rattle.reading.specs.Causes as C
 use Rattle.reading.specs.Element as T
+use Rattle.reading.specs.Reading.{isMark}
 use Rattle.scanner.specs.Glance as G
 use Rattle.scanner.specs.Capped.{capGlance}
 use Rattle.scanner.specs.declared.Element.{Element}
@@ -102,13 +103,7 @@ stageOf Over = Past
 
 -- the node that has ended ends in a digit
 abbrev pub isAfter : Mark → Bool
-isAfter Start = false
-isAfter Lead = false
-isAfter Begins = false
-isAfter AfterDigit = true
-isAfter AfterTwo = false
-isAfter AfterOne = false
-isAfter Over = false
+isAfter m = isMark T.afterDigit (markOf m)
 
 -- ---- A glance --------------------------------------------------------------------------------
 

@@ -5,7 +5,7 @@ ghost use lib.Dec.{eqb};
 ghost use lib.ListN.{length, getD, getElem?};
 ghost use Rattle.reading.specs.Bytes.{digitZero};
 ghost use Rattle.reading.specs.Element.{begin, step};
-ghost use Rattle.reading.specs.Reading.{isLead, isTwo};
+ghost use Rattle.reading.specs.Reading.{markNumber, isMark};
 ghost use Rattle.scanner.specs.Kinds.{kindTable, kindIn, digitIn, numberBy};
 ghost use Rattle.scanner.specs.Glance.{glance, endSeen, innerSeen, colonSeen, spaceSeen, nodeSeen, numberSeen, storingSeen, sizeSeen, leadSeen, endedSeen, wrongAt};
 ghost use Rattle.scanner.specs.Capped.{cap, capScan, capGlance, capStep};
@@ -468,46 +468,25 @@ fn stage_of(m: Mark) -> Stage
     }
 }
 
-pub fn is_lead(m: Mark) -> bool
-    ensures { λ r. ⌜ r ≡ isLead (markOf m) ⌝ }
+// The marks by number, in the order of their names
+pub fn mark_number(m: Mark) -> u8
+    ensures { λ r. ⌜ r ≡ markNumber (markOf m) ⌝ }
 {
     match m {
-        Mark::Start => false,
-        Mark::Lead => true,
-        Mark::Begins => false,
-        Mark::AfterDigit => false,
-        Mark::AfterTwo => false,
-        Mark::AfterOne => false,
-        Mark::Over => false,
+        Mark::Start => 0,
+        Mark::Lead => 1,
+        Mark::Begins => 2,
+        Mark::AfterDigit => 3,
+        Mark::AfterTwo => 4,
+        Mark::AfterOne => 5,
+        Mark::Over => 6,
     }
 }
 
-pub fn is_two(m: Mark) -> bool
-    ensures { λ r. ⌜ r ≡ isTwo (markOf m) ⌝ }
+pub fn is_mark(m: Mark, k: Mark) -> bool
+    ensures { λ r. ⌜ r ≡ isMark (markOf k) (markOf m) ⌝ }
 {
-    match m {
-        Mark::Start => false,
-        Mark::Lead => false,
-        Mark::Begins => false,
-        Mark::AfterDigit => false,
-        Mark::AfterTwo => true,
-        Mark::AfterOne => false,
-        Mark::Over => false,
-    }
-}
-
-fn is_after(m: Mark) -> bool
-    ensures { λ r. ⌜ r ≡ isAfter m ⌝ }
-{
-    match m {
-        Mark::Start => false,
-        Mark::Lead => false,
-        Mark::Begins => false,
-        Mark::AfterDigit => true,
-        Mark::AfterTwo => false,
-        Mark::AfterOne => false,
-        Mark::Over => false,
-    }
+    mark_number(m) == mark_number(k)
 }
 
 // At the size.
@@ -529,7 +508,7 @@ fn begin_seen(k: &[u8; 256], s: &[u8], at: usize, m: Mark, d: usize) -> Glance
 {
     let b = s[at];
     if is_one(k, b, kind::MARK, TILDE) {
-        if is_lead(m) {
+        if is_mark(m, Mark::Lead) {
             return gave(Sight::Turn, 0, at + 1, Mark::Begins, d, false, false);
         }
     }
@@ -542,12 +521,12 @@ fn ended_seen(k: &[u8; 256], s: &[u8], at: usize, m: Mark, top: Top, d: usize) -
     ensures { λ r. ⌜ seenOf r ≡ plain d (capGlance (endedSeen (now (k .entry)) (now (s .entry)) at (markOf m) (topsOf top) d (isAfter m) (getD (now (s .entry)) at 0))) ⌝ }
 {
     let b = s[at];
-    if is_two(m) {
+    if is_mark(m, Mark::AfterTwo) {
         if is_one(k, b, kind::MARK, COLON) {
             return colon_seen(k, s, at, m, d);
         }
     }
-    end_seen(k, s, at, m, top, d, is_after(m))
+    end_seen(k, s, at, m, top, d, is_mark(m, Mark::AfterDigit))
 }
 
 // One step, by what stands before the place, the innermost open node and how many are open.

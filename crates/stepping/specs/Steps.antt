@@ -1,9 +1,11 @@
 -- A place and a step as C has them: numbers, each cause with the paper's number. What does not apply is 0. Assumes nothing.
+use mathlib.Core.Path.{_≡_, refl}
 use mathlib.Core.Bool.{cond}
 use Prim.Native.Nat.{ℕ}
 use lib.Dec.{eqb}
 use Rattle.reading.specs.Causes.{causeRow}
 use Rattle.reading.specs.Element as T
+use Rattle.reading.specs.Reading.{markNumber}
 use Rattle.scanner.specs.Cite.{openList, refOf}
 use Rattle.stepping.specs.declared.RulePlace.{RulePlace}
 use Rattle.stepping.specs.declared.RuleStepped.{RuleStepped}
@@ -12,6 +14,16 @@ use Rattle.stepping.specs.declared.RuleStepped.{RuleStepped}
 abbrev pub markFrom : ℕ → T.Mark
 markFrom k =
     cond (eqb k 0) T.start (cond (eqb k 1) T.lead (cond (eqb k 2) T.begins (cond (eqb k 3) T.afterDigit (cond (eqb k 4) T.afterTwo (cond (eqb k 5) T.afterOne T.over)))))
+
+-- the number of a mark gives it back
+pub mark-back : (m : T.Mark) → markFrom (markNumber m) ≡ m
+mark-back T.start = refl
+mark-back T.lead = refl
+mark-back T.begins = refl
+mark-back T.afterDigit = refl
+mark-back T.afterTwo = refl
+mark-back T.afterOne = refl
+mark-back T.over = refl
 
 -- the place that C holds; entries of nodes that are not open count for nothing
 abbrev pub placeFrom : RulePlace → T.Place

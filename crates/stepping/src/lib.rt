@@ -11,6 +11,7 @@ use scanner::Opens;
 use scanner::Outcome;
 use scanner::Place;
 use scanner::Ref;
+use scanner::mark_number;
 
 #[repr(C)]
 pub struct RulePlace {
@@ -28,20 +29,6 @@ pub struct RuleStepped {
     pub cause: u32,
     pub byte: usize,
     pub place: RulePlace,
-}
-
-fn mark_number(m: Mark) -> u32
-    ensures { λ r. ⌜ markFrom r ≡ markOf m ⌝ }
-{
-    match m {
-        Mark::Start => 0,
-        Mark::Lead => 1,
-        Mark::Begins => 2,
-        Mark::AfterDigit => 3,
-        Mark::AfterTwo => 4,
-        Mark::AfterOne => 5,
-        Mark::Over => 6,
-    }
 }
 
 fn mark_from(k: u32) -> Mark
@@ -76,7 +63,7 @@ fn place_numbers(p: Place) -> RulePlace
     let l = p.last;
     RulePlace {
         at: p.at,
-        mark: mark_number(m),
+        mark: mark_number(m) as u32,
         last: l,
         opens: o,
     }

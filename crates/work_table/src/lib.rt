@@ -146,7 +146,8 @@ pub fn clear(t: &mut [[u32; 6]], m: usize)
     }
 }
 
-fn least(a: usize, b: usize) -> usize
+// The smaller of two numbers
+pub fn least(a: usize, b: usize) -> usize
     ensures { λ r. ⌜ r ≡ min a b ⌝ }
 {
     if a < b { a } else { b }
@@ -167,11 +168,11 @@ pub fn differs(t: bool, a: bool) -> bool
     if t { !a } else { a }
 }
 
-// The number of an edge, of level l, stands for a node of level i inside brackets, or is the terminal.
-fn skips(e: Edge, i: u32, l: u32) -> bool
-    ensures { λ r. ⌜ r ≡ (eqb (e .number) 0 || ltb i l) ⌝ }
+// The number k, of level l, stands for a node of level i inside brackets, or is the terminal.
+pub fn skips(k: u32, i: u32, l: u32) -> bool
+    ensures { λ r. ⌜ r ≡ (eqb k 0 || ltb i l) ⌝ }
 {
-    if e.number == 0 {
+    if k == 0 {
         return true;
     }
     i < l
@@ -181,7 +182,7 @@ fn skips(e: Edge, i: u32, l: u32) -> bool
 pub fn first_edge(x: Row, i: u32, e: Edge) -> Edge
     ensures { λ r. ⌜ r ≡ firstEdge x i e ⌝ }
 {
-    if skips(e, i, x.level) {
+    if skips(e.number, i, x.level) {
         return e;
     }
     Edge {
@@ -194,7 +195,7 @@ pub fn first_edge(x: Row, i: u32, e: Edge) -> Edge
 pub fn second_edge(x: Row, i: u32, e: Edge) -> Edge
     ensures { λ r. ⌜ r ≡ secondEdge x i e ⌝ }
 {
-    if skips(e, i, x.level) {
+    if skips(e.number, i, x.level) {
         return e;
     }
     Edge {

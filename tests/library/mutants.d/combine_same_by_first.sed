@@ -1,2 +1,2 @@
 # crates/edges/src/lib.rt
-/^pub fn both_pass/,/^}/s/^    is_passed(i, j, s)/    is_passed(i, k, r)/
+/^pub fn both_pass/,/^}/s/^    skips(j, i, s\.level)/    skips(k, i, r.level)/

@@ -1,2 +1,2 @@
 # crates/edges/src/lib.rt
-/^pub fn both_pass/,/^}/s/^    if !is_passed(i, k, r) {/    if !is_passed(i, j, s) {/
+/^pub fn both_pass/,/^}/s/^    if !skips(k, i, r\.level) {/    if !skips(j, i, s.level) {/

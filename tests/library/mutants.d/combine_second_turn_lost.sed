@@ -1,2 +1,2 @@
 # crates/edges/src/lib.rt
-/^pub fn second_edge/,/^}/s/turned: differs(r\.complement, x\.turned),/turned: x.turned,/
+/^fn beside/,/^}/s/turned: e\.turned,/turned: x.turned,/

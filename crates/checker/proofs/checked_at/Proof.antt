@@ -1,6 +1,7 @@
 -- The fault that the loop met, or what it has come to.
 -- Assumes nothing.
 use mathlib.Core.Path.{refl, ap, _∙_}
+use mathlib.Core.Bool.{Bool, cond}
 use Rattle.reading.specs.Causes as C
 use Rattle.reading.specs.Calls as R
 use borrow.Author.Needs.{needs}
@@ -13,13 +14,13 @@ late-requires c κs = search needs
 returns : tie.Need-returns
 returns c = ap C.refused (c .late .ensures) ∙ rw (c .before .if1 .taken) refl
 
-is-over-requires : tie.Need-is-over-requires
-is-over-requires c κs = search needs
+is-mark-requires : tie.Need-is-mark-requires
+is-mark-requires c κs = search needs
 
 returns-2 : tie.Need-returns-2
 returns-2 c =
     let a = c .before .before .before .args in
-    ap (λ (e : R.Extent). C.done (record { size = a .r .run .size; covered = a .r .run .covered; extent = e })) (c .is-over .ensures) ∙ rw (c .before .before .if1 .left) refl
+    ap (λ (t : Bool). C.done (record { size = a .r .run .size; covered = a .r .run .covered; extent = cond t R.complete R.cut })) (c .is-mark .ensures) ∙ rw (c .before .before .if1 .left) refl
 
 pub checked-at-spec : {M : Type 1} → statement M
-checked-at-spec = tie.close (tie.spec late-requires returns is-over-requires returns-2)
+checked-at-spec = tie.close (tie.spec late-requires returns is-mark-requires returns-2)

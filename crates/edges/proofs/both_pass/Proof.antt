@@ -6,17 +6,17 @@ use borrow.Author.Needs.{needs}
 use Rattle.edges.proofs.both_pass.Statement.{statement}
 use Rattle.edges.proofs.both_pass.Tie as tie
 
-is-passed-requires : tie.Need-is-passed-requires
-is-passed-requires c κs = search needs
+skips-requires : tie.Need-skips-requires
+skips-requires c κs = search needs
 
 returns : tie.Need-returns
-returns c = rw (sym (c .before .is-passed .ensures), not-true (c .before .is-passed .result) (c .if1 .taken)) refl
+returns c = rw (sym (c .before .skips .ensures), not-true (c .before .skips .result) (c .if1 .taken)) refl
 
-is-passed-requires-2 : tie.Need-is-passed-requires-2
-is-passed-requires-2 c κs = search needs
+skips-requires-2 : tie.Need-skips-requires-2
+skips-requires-2 c κs = search needs
 
 returns-2 : tie.Need-returns-2
-returns-2 c = rw (sym (c .before .before .is-passed .ensures), not-false (c .before .before .is-passed .result) (c .before .if1 .left), sym (c .is-passed2 .ensures)) (and-none (c .is-passed2 .result))
+returns-2 c = rw (sym (c .before .before .skips .ensures), not-false (c .before .before .skips .result) (c .before .if1 .left), sym (c .skips2 .ensures)) (and-none (c .skips2 .result))
 
 pub both-pass-spec : {M : Type 1} → statement M
-both-pass-spec = tie.close (tie.spec is-passed-requires returns is-passed-requires-2 returns-2)
+both-pass-spec = tie.close (tie.spec skips-requires returns skips-requires-2 returns-2)

@@ -1,18 +1,27 @@
--- The edge stays or goes to the first child, by its record. Assumes nothing.
-use mathlib.Core.Path.{sym, _∙_}
-use Rattle.combining.specs.EdgeMade.{first-passed, first-child}
+-- The first child of the node, in the same table. Assumes nothing.
+use mathlib.Core.Path.{ap, _∙_}
+use Rattle.combining.specs.EdgeMade.{first-child}
+use Rattle.edges.specs.Cite.{edgeIn}
+use Rattle.edges.specs.declared.Edge.{Edge}
 use borrow.Author.Needs.{needs}
 use Rattle.edges.proofs.first_edge.Statement.{statement}
 use Rattle.edges.proofs.first_edge.Tie as tie
 
-is-passed-requires : tie.Need-is-passed-requires
-is-passed-requires c κs = search needs
+bare-requires : tie.Need-bare-requires
+bare-requires c κs = search needs
+
+first-edge-requires : tie.Need-first-edge-requires
+first-edge-requires c κs = search needs
+
+beside-requires : tie.Need-beside-requires
+beside-requires c κs = search needs
 
 returns : tie.Need-returns
-returns c = λ t e. first-passed t (c .before .before .args .x .size) (c .before .before .args .i) (c .before .before .args .x .number) (c .before .before .args .x .turned) (c .before .before .args .r) e (sym (c .before .is-passed .ensures) ∙ c .if1 .taken)
-
-returns-2 : tie.Need-returns-2
-returns-2 c = λ t e. first-child t (c .before .before .args .x .size) (c .before .before .args .i) (c .before .before .args .x .number) (c .before .before .args .x .turned) (c .before .before .args .r) e (sym (c .before .is-passed .ensures) ∙ c .if1 .left)
+returns c = λ t e.
+    let b = c .before .before in
+    let a = b .before .args in
+    ap (λ (y : Edge). edgeIn y t) (c .beside .ensures)
+    ∙ first-child t (a .x .size) (a .i) (record { number = a .x .number; turned = a .x .turned }) (a .r) e (b .bare .result) (c .before .first-edge .result) (b .bare .ensures) (c .before .first-edge .ensures)
 
 pub first-edge-spec : {M : Type 1} → statement M
-first-edge-spec = tie.close (tie.spec is-passed-requires returns returns-2)
+first-edge-spec = tie.close (tie.spec bare-requires first-edge-requires beside-requires returns)

@@ -1,21 +1,27 @@
--- The edge stays or goes to the second child, by its record. Assumes nothing.
-use mathlib.Core.Path.{sym, _∙_}
-use Rattle.combining.specs.EdgeMade.{second-passed, second-child}
+-- The second child of the node, in the same table. Assumes nothing.
+use mathlib.Core.Path.{ap, _∙_}
+use Rattle.combining.specs.EdgeMade.{second-child}
+use Rattle.edges.specs.Cite.{edgeIn}
+use Rattle.edges.specs.declared.Edge.{Edge}
 use borrow.Author.Needs.{needs}
 use Rattle.edges.proofs.second_edge.Statement.{statement}
 use Rattle.edges.proofs.second_edge.Tie as tie
 
-is-passed-requires : tie.Need-is-passed-requires
-is-passed-requires c κs = search needs
+bare-requires : tie.Need-bare-requires
+bare-requires c κs = search needs
+
+second-edge-requires : tie.Need-second-edge-requires
+second-edge-requires c κs = search needs
+
+beside-requires : tie.Need-beside-requires
+beside-requires c κs = search needs
 
 returns : tie.Need-returns
-returns c = λ t e. second-passed t (c .before .before .args .x .size) (c .before .before .args .i) (c .before .before .args .x .number) (c .before .before .args .x .turned) (c .before .before .args .r) e (sym (c .before .is-passed .ensures) ∙ c .if1 .taken)
-
-differs-requires : tie.Need-differs-requires
-differs-requires c κs = search needs
-
-returns-2 : tie.Need-returns-2
-returns-2 c = λ t e. second-child t (c .before .before .before .args .x .size) (c .before .before .before .args .i) (c .before .before .before .args .x .number) (c .before .before .before .args .x .turned) (c .before .before .before .args .r) e (c .differs .result) (c .differs .ensures) (sym (c .before .before .is-passed .ensures) ∙ c .before .if1 .left)
+returns c = λ t e.
+    let b = c .before .before in
+    let a = b .before .args in
+    ap (λ (y : Edge). edgeIn y t) (c .beside .ensures)
+    ∙ second-child t (a .x .size) (a .i) (record { number = a .x .number; turned = a .x .turned }) (a .r) e (b .bare .result) (c .before .second-edge .result) (b .bare .ensures) (c .before .second-edge .ensures)
 
 pub second-edge-spec : {M : Type 1} → statement M
-second-edge-spec = tie.close (tie.spec is-passed-requires returns differs-requires returns-2)
+second-edge-spec = tie.close (tie.spec bare-requires second-edge-requires beside-requires returns)

@@ -31,8 +31,8 @@ goes-requires c κs = search needs
 enum-known-e : tie.Need-enum-known-e
 enum-known-e c = search needs
 
-is-start-requires : tie.Need-is-start-requires
-is-start-requires c κs = search needs
+is-mark-requires : tie.Need-is-mark-requires
+is-mark-requires c κs = search needs
 
 sized-requires : tie.Need-sized-requires
 sized-requires c κs = search needs
@@ -40,7 +40,7 @@ sized-requires c κs = search needs
 returns-2 : tie.Need-returns-2
 returns-2 c =
     c .sized .ensures
-    ∙ rw (c .before .before .before .before .e .given .1, sym (c .before .before .is-start .ensures) ∙ c .before .if2 .taken) refl
+    ∙ rw (c .before .before .before .before .e .given .1, sym (c .before .before .is-mark .ensures) ∙ c .before .if2 .taken) refl
 
 found-requires : tie.Need-found-requires
 found-requires c κs = search needs
@@ -96,7 +96,7 @@ returns-3 c =
 returns-4 : tie.Need-returns-4
 returns-4 c =
     c .found .ensures
-    ∙ rw (c .before .before .before .before .e .given .1, sym (c .before .before .is-start .ensures) ∙ c .before .if2 .left) refl
+    ∙ rw (c .before .before .before .before .e .given .1, sym (c .before .before .is-mark .ensures) ∙ c .before .if2 .left) refl
 
 returns-5 : tie.Need-returns-5
 returns-5 c =
@@ -135,7 +135,7 @@ take-element-spec =
     moved-requires
     goes-requires
     enum-known-e
-    is-start-requires
+    is-mark-requires
     sized-requires
     returns-2
     found-requires

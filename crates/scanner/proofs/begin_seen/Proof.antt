@@ -23,8 +23,8 @@ shared-slice-read-b c = search needs
 is-one-requires : tie.Need-is-one-requires
 is-one-requires c κs = search needs
 
-is-lead-requires : tie.Need-is-lead-requires
-is-lead-requires c κs = search needs
+is-mark-requires : tie.Need-is-mark-requires
+is-mark-requires c κs = search needs
 
 add-gave : tie.Need-add-gave
 add-gave c = search needs
@@ -42,7 +42,7 @@ returns c =
     let b = getD s (a .at) 0 in
     ap seenOf (c .gave .ensures)
     ∙ ap (plain (a .d)) (G.way-taken (isLead m && tildeIn k b) (gave turn (a .at + 1) begins same) (nodeSeen k s (a .at) m (a .d) false b)
-    (and-true (sym (c .before .before .is-lead .ensures) ∙ c .before .if2 .taken) (sym (q .is-one .ensures) ∙ c .before .before .before .if1 .taken)))
+    (and-true (sym (c .before .before .is-mark .ensures) ∙ c .before .if2 .taken) (sym (q .is-one .ensures) ∙ c .before .before .before .if1 .taken)))
 
 node-seen-requires : tie.Need-node-seen-requires
 node-seen-requires c κs = search needs
@@ -69,7 +69,7 @@ begin-seen-spec =
     (tie.spec
     shared-slice-read-b
     is-one-requires
-    is-lead-requires
+    is-mark-requires
     add-gave
     gave-requires
     returns

@@ -20,8 +20,8 @@ use Rattle.scanner.proofs.ended_seen.Tie as tie
 shared-slice-read-b : tie.Need-shared-slice-read-b
 shared-slice-read-b c = search needs
 
-is-two-requires : tie.Need-is-two-requires
-is-two-requires c κs = search needs
+is-mark-requires : tie.Need-is-mark-requires
+is-mark-requires c κs = search needs
 
 is-one-requires : tie.Need-is-one-requires
 is-one-requires c κs = search needs
@@ -39,10 +39,10 @@ returns c =
     let b = getD s (a .at) 0 in
     c .colon-seen .ensures
     ∙ ap (plain (a .d)) (G.way-taken (isTwo m && colonIn k b) (colonSeen k s (a .at) m (getElem? s (a .at + 1))) (endSeen k s (a .at) m (topsOf (a .top)) (a .d) (isAfter (a .m)) b)
-    (and-true (sym (q .is-two .ensures) ∙ c .before .before .before .if1 .taken) (sym (c .before .before .is-one .ensures) ∙ c .before .if2 .taken)))
+    (and-true (sym (q .is-mark .ensures) ∙ c .before .before .before .if1 .taken) (sym (c .before .before .is-one .ensures) ∙ c .before .if2 .taken)))
 
-is-after-requires : tie.Need-is-after-requires
-is-after-requires c κs = search needs
+is-mark-requires-2 : tie.Need-is-mark-requires-2
+is-mark-requires-2 c κs = search needs
 
 end-seen-requires : tie.Need-end-seen-requires
 end-seen-requires c κs = search needs
@@ -58,10 +58,10 @@ returns-2 c =
     let other : (isTwo m && colonIn k b) ≡ false
     = ⊎-elim
     (λ w. and-right (isTwo m) (colonIn k b) (sym (w .1 .ensures) ∙ w .2 .left))
-    (λ w. and-left (isTwo m) (colonIn k b) (sym (q .is-two .ensures) ∙ w .left))
+    (λ w. and-left (isTwo m) (colonIn k b) (sym (q .is-mark .ensures) ∙ w .left))
     (c .before .before .if1 .came) in
     c .end-seen .ensures
-    ∙ ap (λ (t : Bool). plain (a .d) (capGlance (endSeen k s (a .at) m (topsOf (a .top)) (a .d) t b))) (c .before .is-after .ensures)
+    ∙ ap (λ (t : Bool). plain (a .d) (capGlance (endSeen k s (a .at) m (topsOf (a .top)) (a .d) t b))) (c .before .is-mark2 .ensures)
     ∙ ap (plain (a .d)) (G.way-left (isTwo m && colonIn k b) (colonSeen k s (a .at) m (getElem? s (a .at + 1))) (endSeen k s (a .at) m (topsOf (a .top)) (a .d) (isAfter (a .m)) b) other)
 
 pub ended-seen-spec : {M : Type 1} → statement M
@@ -69,10 +69,10 @@ ended-seen-spec =
     tie.close
     (tie.spec
     shared-slice-read-b
-    is-two-requires
+    is-mark-requires
     is-one-requires
     colon-seen-requires
     returns
-    is-after-requires
+    is-mark-requires-2
     end-seen-requires
     returns-2)

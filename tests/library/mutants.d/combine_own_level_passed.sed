@@ -1,2 +1,0 @@
-# crates/edges/src/lib.rt
-/^fn is_passed/,/^}/s/^    i < r\.level/    i <= r.level/
