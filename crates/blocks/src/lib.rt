@@ -28,7 +28,7 @@ use work_table::get;
 
 // ---- What was passed last
 
-// The edges to second children that are complemented, of d open nodes: an odd number? There are 32 at most.
+// The edges to second children that are complemented, of d open nodes: an odd number? Past the limit none is looked at.
 fn parity_of(o: &[[u32; 4]; OPEN_LIMIT], d: usize) -> bool
     ensures { λ r. ⌜ r ≡ parity (openList (opensIn (now (o .entry)) d)) ⌝ }
 {

@@ -2,10 +2,10 @@
 -- the OR of two rules over three options with table size 4. Assumes nothing.
 use mathlib.Core.Path.{_≡_, refl}
 use mathlib.Core.List.{List, [], _∷_, map}
-use Prim.Native.Nat.{ℕ}
+use Prim.Native.Nat.{ℕ, _+_}
 use native.Mathlib.Omega.{arith}
 use lib.ListN.{take, replicate}
-use Rattle.reading.specs.Limits.{tableLimit}
+use Rattle.reading.specs.Limits.{optionLimit, tableLimit}
 use Rattle.reading.specs.Bytes.{text}
 use Rattle.reading.specs.Causes.{optionCount, operatorCode, sizeToWrite, wordRange, truthTable, notInTable, tooDeep, refused, done, refusal}
 use Rattle.reading.specs.Reading.{reading}
@@ -74,8 +74,8 @@ no-operator : run 16 (text "4\n((((") second output ≡ record {
 unfolding combine text
 no-operator = refl
 
--- the other calls: 33 options, word 8 of 8, a truth table of two bytes for three options, table size 1,025
-many-options : check 0 33 first table ≡ record { answer = refused (refusal optionCount 0 0); table = table }
+-- the other calls: an option too many, word 8 of 8, a truth table of two bytes for three options, a size too large
+many-options : check 0 (optionLimit + 1) first table ≡ record { answer = refused (refusal optionCount 0 0); table = table }
 unfolding check
 many-options = refl
 
@@ -87,7 +87,7 @@ two-bytes : fill 0 3 first (1 ∷ 2 ∷ []) table ≡ record { answer = refused 
 unfolding fill text
 two-bytes = refl
 
-large-size : write 0 3 1025 (232 ∷ []) output table ≡ record { answer = refused (refusal sizeToWrite 0 0); table = table; output = output }
+large-size : write 0 3 (tableLimit + 1) (232 ∷ []) output table ≡ record { answer = refused (refusal sizeToWrite 0 0); table = table; output = output }
 unfolding write text
 large-size = refl
 

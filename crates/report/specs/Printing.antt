@@ -3,12 +3,12 @@ use mathlib.Core.Path.{_≡_, refl, sym, ap, ap₂, _∙_}
 use mathlib.Core.Logic.{⊎-elim}
 use mathlib.Core.List.{List, [], _∷_, _++_}
 use Prim.Native.Nat.{ℕ, zero, suc, _+_, _*_, _/_, _%_, _^_, _≤_, _<_, min}
-use native.Mathlib.Nat.{one-mul}
 use native.Mathlib.Omega.{arith}
 use lib.ListN.{length, getD, take, length-append, length-take}
-use lib.Pow.{pow-add, shl-exact}
+use lib.Pow.{pow-add}
 use lib.Seq.{take-suc, take-all}
 use Rattle.lists.specs.Lists.{decide-le}
+use Rattle.lists.specs.Powers.{shifted}
 use Rattle.reading.specs.Limits.{optionLimit}
 use Rattle.reading.specs.Bytes.{blank, lineFeed, digitZero, text}
 use Rattle.reading.specs.Causes.{causeRow, Refusal, Result, refused, done}
@@ -168,7 +168,7 @@ module _ (r : Refusal) (w : List ℕ) (room : length w ≡ lineLimit) (k : ℕ) 
 pub all-words : (n : ℕ) → n ≤ optionLimit → 1 * 2 ^ n % 18446744073709551616 ≡ 2 ^ min n optionLimit
 all-words n h =
     let e : min n optionLimit ≡ n = omega (arith, h) in
-    shl-exact {a = 1} 1 n 64 (omega arith) (omega (arith, h)) ∙ one-mul (2 ^ n) ∙ ap (λ (i : ℕ). 2 ^ i) (sym e)
+    shifted n (omega (arith, h)) ∙ ap (λ (i : ℕ). 2 ^ i) (sym e)
 
 pub limit-words : (n : ℕ) → optionLimit < n → 2 ^ optionLimit ≡ 2 ^ min n optionLimit
 limit-words n h = let e : min n optionLimit ≡ optionLimit = omega (arith, h) in ap (λ (i : ℕ). 2 ^ i) (sym e)

@@ -5,6 +5,7 @@ use mathlib.Core.Bool.{Bool, true, false, _&&_}
 use mathlib.Core.List.{[], _∷_}
 use Prim.Native.Nat.{ℕ, zero, suc, _+_, _/_, _%_, _^_}
 use lib.Dec.{leb, eqb}
+use Rattle.reading.specs.Limits.{tableLimit}
 use Rattle.reading.specs.Bytes.{text}
 use Rattle.reading.specs.Causes.{operatorCode, notInTable, refused, refusal}
 use Rattle.writing.specs.UniqueTable.{start}
@@ -91,12 +92,12 @@ three-decisions = refl
 -- ---- Turned down -----------------------------------------------------------------------------
 
 -- an operator above 15 comes before a size above 1,024, and both before the work tables
-operator-first : combineAnswer 3 16 1025 ([] ∷ [] ∷ []) [] (0 ∷ 0 ∷ 0 ∷ []) ≡ refused (refusal operatorCode 0 0)
+operator-first : combineAnswer 3 16 (tableLimit + 1) ([] ∷ [] ∷ []) [] (0 ∷ 0 ∷ 0 ∷ []) ≡ refused (refusal operatorCode 0 0)
 unfolding combineAnswer
 operator-first = refl
 
 -- number 1 is not in the table of stream 2
-second-stream : combineAnswer 3 14 4 (text "4\n(0(0~0):1):2." ∷ text "4\n(1)." ∷ []) [] (1024 ∷ 1024 ∷ 1024 ∷ []) ≡ refused (refusal notInTable 2 3)
+second-stream : combineAnswer 3 14 4 (text "4\n(0(0~0):1):2." ∷ text "4\n(1)." ∷ []) [] (tableLimit ∷ tableLimit ∷ tableLimit ∷ []) ≡ refused (refusal notInTable 2 3)
 unfolding combineAnswer text
 second-stream = refl
 

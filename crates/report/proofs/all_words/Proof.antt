@@ -1,4 +1,4 @@
--- A shift gives a power of two, as it is by at most 32.
+-- A shift gives a power of two, as it is by the option limit at most.
 -- Assumes nothing.
 use borrow.Author.Needs.{needs}
 use Rattle.report.proofs.all_words.Statement.{statement}
