@@ -114,7 +114,8 @@ module _ (n : ℕ) (bytes : List ℕ) (t : List (List ℕ)) where
   reads few room = all-reads n bytes (z .reached) (z .table) few (read-reaches n bytes few wordLimit firstRun firstOpens t (stands-first n bytes t room) (omega arith))
 
   -- the three ways
-  load-ways : (P : LoadTo → Type 0) → (optionLimit < n → P (refusedLoad C.optionCount t)) → (n ≤ optionLimit → length t < tableLimit → P (refusedLoad C.workTable t))
+  load-ways : (P : LoadTo → Type 0) → (optionLimit < n → P (refusedLoad C.optionCount t))
+      → (n ≤ optionLimit → length t < tableLimit → P (refusedLoad C.workTable t))
       → (n ≤ optionLimit → tableLimit ≤ length t → P (loadOf z)) → P (load n bytes t)
   load-ways P many short on = ⊎-elim
       (λ (few : n ≤ optionLimit). ⊎-elim

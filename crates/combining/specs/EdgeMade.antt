@@ -1,14 +1,12 @@
 -- One law for each way through code that stands at edges: the operator, the edge at a half of a part, what terminals fix, and where an
 -- input settles. Assumes nothing.
 use mathlib.Core.Path.{_≡_, refl, sym, ap, ap₂, _∙_}
-use mathlib.Core.Logic.{⊎-elim}
 use mathlib.Core.Bool.{Bool, true, false, cond, not, _&&_, _||_}
 use mathlib.Core.List.{List, [], _∷_}
-use Prim.Native.Nat.{ℕ, _+_, _-_, _≤_}
+use Prim.Native.Nat.{ℕ, _+_, _≤_}
 use native.Mathlib.Omega.{arith}
 use lib.Dec.{eqb, ltb}
-use borrow.Author.Tests.{eq-eqb, ne-eqb}
-use Rattle.lists.specs.Lists.{differ, decide-eq}
+use Rattle.lists.specs.Lists.{differ}
 use Rattle.reading.specs.Nodes.{Node, node}
 use Rattle.writing.specs.Run.{digitAt}
 use Rattle.engine.specs.Applying.{Source, firstSource, secondSource, fixed}
@@ -75,13 +73,6 @@ module _ (t : List (List ℕ)) (z i : ℕ) (x : Edge) (r : Row) (read : r ≡ ge
       ∙ ap (λ (n : Node). cond (eqb (x .number) 0 || ltb i (n .level)) (source x) (source (record { number = n .second; turned = differ (n .complement) (x .turned) }))) same
 
 -- ---- Where an input settles ------------------------------------------------------------------
-
--- d open nodes around a part of level i
-pub around : (d i : ℕ) → (i ≡ 0 → ⊥) → eqb (i - 1) d ≡ eqb (d + 1) i
-around d i h = ⊎-elim
-    (λ (e : i - 1 ≡ d). eq-eqb (i - 1) d e ∙ sym (eq-eqb (d + 1) i (omega (arith, e, h))))
-    (λ (e : i - 1 ≡ d → ⊥). ne-eqb (i - 1) d e ∙ sym (ne-eqb (d + 1) i (λ k. e (omega (arith, k)))))
-    (decide-eq (i - 1) d)
 
 module _ {Tape : Type 0} (deepOf : Tape → ℕ) (sourceOf : Tape → Source) (next : Tape → Tape) (i : ℕ) (f : Feed Tape) where
   -- not in its text

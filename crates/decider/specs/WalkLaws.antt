@@ -71,6 +71,9 @@ module _ (t : List (List ℕ)) (z i : ℕ) (e : Edge) (x : Row) (some : e .numbe
     abbrev half : ℕ
     half = 1 * 2 ^ (m - 1) % 18446744073709551616
 
+    halved : half ≡ 2 ^ (m - 1)
+    halved = few-words m 1 (omega (arith, most))
+
     one-more : suc (m - 1) ≡ m
     one-more = omega (arith, more)
 
@@ -80,12 +83,12 @@ module _ (t : List (List ℕ)) (z i : ℕ) (e : Edge) (x : Row) (some : e .numbe
     walk-low f child h =
         ap (λ (g : Edge). edgeWalk (tableOf t z) (i + 1) g (options (m - 1) w)) child
         ∙ sym (walk-first (options (m - 1) w))
-        ∙ ap (edgeWalk (tableOf t z) i e) (sym (options-low (m - 1) w (omega (arith, few-words m 1 (omega (arith, most)), h))) ∙ ap (λ (k : ℕ). options k w) one-more)
+        ∙ ap (edgeWalk (tableOf t z) i e) (sym (options-low (m - 1) w (omega (arith, halved, h))) ∙ ap (λ (k : ℕ). options k w) one-more)
 
     pub walk-high : (f : Edge) → f ≡ secondEdge x i e → half ≤ w
         → edgeWalk (tableOf t z) (i + 1) f (options (m - 1) (w - half)) ≡ edgeWalk (tableOf t z) i e (options m w)
     walk-high f child h =
         ap (λ (g : Edge). edgeWalk (tableOf t z) (i + 1) g (options (m - 1) (w - half))) child
-        ∙ ap (λ (k : ℕ). edgeWalk (tableOf t z) (i + 1) (secondEdge x i e) (options (m - 1) (w - k))) (few-words m 1 (omega (arith, most)))
+        ∙ ap (λ (k : ℕ). edgeWalk (tableOf t z) (i + 1) (secondEdge x i e) (options (m - 1) (w - k))) halved
         ∙ sym (walk-second (options (m - 1) (w - 2 ^ (m - 1))))
-        ∙ ap (edgeWalk (tableOf t z) i e) (sym (options-high (m - 1) w (omega (arith, few-words m 1 (omega (arith, most)), h))) ∙ ap (λ (k : ℕ). options k w) one-more)
+        ∙ ap (edgeWalk (tableOf t z) i e) (sym (options-high (m - 1) w (omega (arith, halved, h))) ∙ ap (λ (k : ℕ). options k w) one-more)

@@ -1,6 +1,5 @@
 // Writing and combining for C, as `include/rule.h` declares it.
 ghost use mathlib.Core.Path.{_≡_};
-ghost use Prim.Native.Nat.{ℕ};
 ghost use Rattle.meeting.specs.Cite.{endingsOf, writingOf};
 ghost use Rattle.desk.specs.Numbers.{endingNumber, writtenNumbers, writeGiven, combineGiven};
 use meeting::Ending;

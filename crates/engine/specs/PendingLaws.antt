@@ -175,12 +175,6 @@ sent-append out at (b ∷ x) y =
     let e : at + 1 + length x ≡ at + suc (length x) = omega arith in
     sent-append (set out at b) (at + 1) x y ∙ ap (λ (k : ℕ). sentTo (sentTo (set out at b) (at + 1) x) k y) e
 
--- the output stays as long
-pub sent-length : (out : List ℕ) (at : ℕ) (x : List ℕ) → length (sentTo out at x) ≡ length out
-unfolding sentTo
-sent-length out at [] = refl
-sent-length out at (b ∷ x) = sent-length (set out at b) (at + 1) x ∙ length-set out at b
-
 -- one byte more
 pub sent-set : (out : List ℕ) (at : ℕ) (x : List ℕ) (b : ℕ)
     → sentTo out at (x ++ (b ∷ [])) ≡ set (sentTo out at x) (at + length x) b

@@ -1,6 +1,5 @@
 // Checking, deciding and filling for C, as `include/rule.h` declares them.
 ghost use mathlib.Core.Path.{_≡_};
-ghost use Prim.Native.Nat.{ℕ};
 ghost use Rattle.lists.specs.Lists.{bit};
 ghost use Rattle.reading.specs.Causes.{causeRow};
 ghost use Rattle.scanner.specs.Cite.{causeOf};

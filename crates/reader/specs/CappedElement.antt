@@ -23,7 +23,10 @@ cap-self v h = omega arith
 
 -- what is alike for all numbers above the limit is so for capped ones
 by-cap : (f : ℕ → Reading) (x : Reading) → ((v : ℕ) → tableLimit < v → f v ≡ x) → (v : ℕ) → f (cap v) ≡ f v
-by-cap f x k v = ⊎-elim (λ h. ap f (cap-self v h)) (λ h. k (cap v) (omega (arith, h, few-numbers)) ∙ sym (k v (omega (arith, h, few-numbers)))) (decide-le v numberMost)
+by-cap f x k v = ⊎-elim
+    (λ h. ap f (cap-self v h))
+    (λ h. k (cap v) (omega (arith, h, few-numbers)) ∙ sym (k v (omega (arith, h, few-numbers))))
+    (decide-le v numberMost)
 
 -- A number above the limit is refused without a look at its value, as a size, as a node and to store.
 module _ (n : ℕ) (s : State) (d : ℕ) (q : Place) (small : s .size ≤ tableLimit) (short : length (s .table) ≤ suc (s .size)) where

@@ -3,7 +3,6 @@ ghost use Prim.Native.Nat.{_+_, _-_, _<_, _≤_, _^_};
 ghost use Rattle.reading.specs.Limits.{optionLimit, openLimit, wordLimit};
 ghost use Rattle.reading.specs.StepLaws.{digitPlace};
 ghost use Rattle.scanner.specs.Kinds.{kindTable};
-ghost use Rattle.scanner.specs.Cite.{markOf};
 ghost use Rattle.reader.specs.Taking.{goesOf, failsOf, movedTo, passedTo, turnedTo, sizedTo, foundTo, closedTwo, closedTo, isKeptOf, isBadOf, nextStamp, storedTo, takenOf};
 ghost use Rattle.reader.specs.Advance.{barredBy, rowTo, lentTo, lowOf, nodesTo, stayed, wentBy, TurnMade};
 ghost use Rattle.reader.specs.Lent.{nodesIn, opensIn, reachedIn, cursorIn};

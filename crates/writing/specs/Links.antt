@@ -11,7 +11,7 @@ use lib.Dec.{eqb}
 use lib.ListN.{length, getD, set, length-set}
 use lib.Seq.{getD-set-same, getD-set-other}
 use borrow.Author.Tests.{eqb-true, eqb-false, eq-eqb, ne-eqb, not-false}
-use Rattle.lists.specs.Lists.{or-l, or-r, or-false, or-left, or-right, All, all-map, all-snoc, has, all-has, Distinct, distinct-snoc}
+use Rattle.lists.specs.Lists.{or-l, or-r, or-false, or-left, or-right, All, all-snoc, has, all-has, Distinct, distinct-snoc}
 use Rattle.writing.specs.UniqueTable.{firstFree, without}
 use Rattle.writing.specs.Queue.{all-without′, distinct-without}
 
@@ -312,11 +312,6 @@ chain-first-of : (f g : ℕ → ℕ) (p : ℕ) (q : List ℕ) → Chain f g p q 
 chain-first-of f g p [] c = c .0
 chain-first-of f g p (x ∷ xs) c = c .0
 
-chain-split : (f g : ℕ → ℕ) (p : ℕ) (xs : List ℕ) (k : ℕ) (ys : List ℕ) → Chain f g p (xs ++ (k ∷ ys))
-    → (f k ≡ firstOf ys) × (g k ≡ lastOf p xs)
-chain-split f g p [] k ys c = (chain-first-of f g k ys (c .2), c .1)
-chain-split f g p (x ∷ xs) k ys c = chain-split f g x xs k ys (c .2)
-
 first-member : (q : List ℕ) → firstOf q ≢ 0 → has (firstOf q) q ≡ true
 first-member [] d = absurd (d refl)
 first-member (x ∷ xs) d = or-left (eqb x x) (has x xs) (eq-eqb x x refl)
@@ -341,10 +336,6 @@ first-inside : (z : ℕ) (q : List ℕ) → All (λ x. x ≤ z) q → firstOf q 
 first-inside z [] m = omega arith
 first-inside z (x ∷ xs) m = m .0
 
-all-middle : (P : ℕ → Type 0) (xs : List ℕ) (k : ℕ) (ys : List ℕ) → All P (xs ++ (k ∷ ys)) → P k
-all-middle P [] k ys h = h .0
-all-middle P (x ∷ xs) k ys h = all-middle P xs k ys (h .1)
-
 module _ (z : ℕ) (l : Links) where
   pub holds-head : (q : List ℕ) → Holds z l q → l .head ≡ firstOf q
   holds-head q h = chain-first-of (after l) (before l) 0 q (h .chain)
@@ -352,19 +343,7 @@ module _ (z : ℕ) (l : Links) where
   pub holds-tail : (q : List ℕ) → Holds z l q → l .tail ≡ lastOf 0 q
   holds-tail q h = chain-last (after l) (before l) 0 q (h .chain)
 
-  -- each number's neighbours
-  pub holds-split : (xs : List ℕ) (k : ℕ) (ys : List ℕ) → Holds z l (xs ++ (k ∷ ys))
-      → (getD (l .next) k 0 ≡ firstOf ys) × (getD (l .prev) k 0 ≡ lastOf 0 xs)
-  holds-split xs k ys h =
-      let d = all-middle (λ x. x ≢ 0) xs k ys (h .real) in
-      let c = chain-split (after l) (before l) 0 xs k ys (h .chain) in
-      (sym (beside-list (l .head) (l .next) k d) ∙ c .0, sym (beside-list (l .tail) (l .prev) k d) ∙ c .1)
-
-  -- the first, and what comes after a member, is in the queue or 0
-  pub holds-first : (q : List ℕ) → Holds z l q → l .head ≢ 0 → has (l .head) q ≡ true
-  holds-first q h d =
-      subst⁻¹ (λ (j : ℕ). has j q ≡ true) (holds-head q h) (first-member q (λ e. d (holds-head q h ∙ e)))
-
+  -- what comes after a member is in the queue or 0
   pub holds-next : (q : List ℕ) (k : ℕ) → Holds z l q → has k q ≡ true → getD (l .next) k 0 ≢ 0 → has (getD (l .next) k 0) q ≡ true
   holds-next q k h i d =
       let w = beside-list (l .head) (l .next) k (all-has (λ x. x ≢ 0) k q (h .real) i) in
@@ -393,18 +372,6 @@ module _ (z : ℕ) (l : Links) where
 pub holds-none : (z : ℕ) (l : Links) → z < length (l .next) → z < length (l .prev) → l .head ≡ 0 → l .tail ≡ 0 → Holds z l []
 holds-none z l n p h t =
     record { real = tt; known = tt; once = tt; next-room = n; prev-room = p; chain = (h, t) }
-
--- more numbers
-pub holds-more : (z y : ℕ) (l : Links) (q : List ℕ) → z ≤ y → y < length (l .next) → y < length (l .prev) → Holds z l q → Holds y l q
-holds-more z y l q m n p h =
-    record {
-      real = h .real;
-      known = all-map (λ k. k ≤ z) (λ k. k ≤ y) (λ k a. omega arith) q (h .known);
-      once = h .once;
-      next-room = n;
-      prev-room = p;
-      chain = h .chain;
-    }
 
 pub holds-leaves : (z : ℕ) (l : Links) (q : List ℕ) (k : ℕ) → Holds z l q → has k q ≡ true → Holds z (leaves l k) (without k q)
 unfolding leaves

@@ -15,7 +15,6 @@ use Rattle.writing.specs.UniqueTable.{State}
 use Rattle.writing.specs.Rules.{Text, number, one, Part, Done, isTerminal, sameNumber, bothTerminal, sameEntry, halfBarred, found, newNumber, byRule, meet, part}
 use Rattle.writing.specs.ConstantPart.{joined, part-suc, constant, joined-constant}
 use Rattle.writing.specs.Storing.{Sound}
-use Rattle.writing.specs.Steps.{Step}
 use Rattle.writing.specs.Normal.{Normal, find-hits}
 use Rattle.writing.specs.Meaning.{Is}
 

@@ -32,7 +32,7 @@ use Rattle.applier.proofs.+walk.{statement}
 use Rattle.applier.proofs.+walk.Tie.{close}
 use mathlib.Core.Path.{sym, ap, _∙_}
 use native.Mathlib.Omega.{arith}
-use Prim.Native.Nat.{ℕ, _-_, _<_}
+use Prim.Native.Nat.{ℕ, _<_, _-_}
 use Rattle.writing.specs.Run.{operate}
 use Rattle.engine.specs.Memo.{slotOf}
 use Rattle.engine.specs.RecallMade.{recall-word, recall-constant}

@@ -1,4 +1,4 @@
--- After i turns p is the parity of the first i open nodes: one more counts if the place is in its second child. It ends after all, or after as many as may be open.
+-- After i turns p is the parity of the first i open nodes: one more counts if the place is in its second child. It ends after all, or at the limit.
 -- Assumes nothing.
 use mathlib.Core.Path.{_≡_, sym, ap, _∙_}
 use mathlib.Core.Logic.{⊎-elim}

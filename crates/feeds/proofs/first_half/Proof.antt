@@ -4,7 +4,6 @@ use Rattle.combining.specs.Tapes.{deepOf, sourceOf, nextTape}
 use Rattle.combining.specs.EdgeMade.{first-inside}
 use Rattle.feeds.specs.Cite.{feedOn}
 use Rattle.feeds.specs.FeedMade.{first-gone}
-use borrow.Author.Needs.{needs}
 use Rattle.feeds.proofs.first_half.Statement.{statement}
 use Rattle.feeds.proofs.first_half.Tie as tie
 

@@ -1,6 +1,5 @@
 -- It settles in its text, or goes on from its edge. Assumes nothing.
 use Rattle.feeds.specs.FeedMade.{second-inside, second-gone}
-use borrow.Author.Needs.{needs}
 use Rattle.feeds.proofs.second_feed.Statement.{statement}
 use Rattle.feeds.proofs.second_feed.Tie as tie
 

@@ -11,10 +11,9 @@ use Rattle.unique_table.proofs.fits.Reads as fits
 use Rattle.unique_table.proofs.get.Reads as get
 use Rattle.unique_table.proofs.+search_from.{statement}
 use Rattle.unique_table.proofs.+search_from.Tie.{close}
-use mathlib.Core.Path.{refl, sym, ap, _∙_}
-use mathlib.Core.List.{List}
+use mathlib.Core.Path.{sym, ap, _∙_}
 use Rattle.engine.specs.Recycling.{searchIn}
-use Rattle.engine.specs.RecyclingMade.{cell-got, search-none, search-end, search-hit, search-on}
+use Rattle.engine.specs.RecyclingMade.{search-none, search-end, search-hit, search-on}
 
 abbrev μ : Measures 1 walk-kinds.ps ℕ
 μ κs a = a .1 .0

@@ -3,7 +3,7 @@
 use borrow.Author.Needs.{needs}
 use Rattle.unique_table.proofs.get.Statement.{statement}
 use Rattle.unique_table.proofs.get.Tie as tie
-use mathlib.Core.Path.{refl, sym, ap, _∙_}
+use mathlib.Core.Path.{sym, ap, _∙_}
 use Rattle.engine.specs.Cells.{cell, cell-none, cell-past, cell-at}
 use native.Mathlib.Omega.{arith}
 

@@ -3,7 +3,7 @@
 use borrow.Author.Needs.{needs}
 use Rattle.unique_table.proofs.next_number.Statement.{statement}
 use Rattle.unique_table.proofs.next_number.Tie as tie
-use mathlib.Core.Path.{refl, _∙_}
+use mathlib.Core.Path.{_∙_}
 use Rattle.engine.specs.RecyclingMade.{next-fresh, next-free}
 
 add-result : tie.Need-add-result
