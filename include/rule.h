@@ -186,7 +186,7 @@ typedef struct {
 /* An open node, with what its first child was. */
 typedef struct {
     rule_ref first;
-    bool second, turned;
+    bool second, complement;
 } rule_open;
 
 /* The open nodes, at most 32 at one time. */
@@ -198,7 +198,7 @@ typedef struct {
 /* A place in a stream. To be passed on, not looked into, but for `at`: the bytes read so far, up to the end of the last element given. */
 typedef struct {
     size_t at;
-    uint32_t mark;
+    uint32_t context;
     rule_ref last;
     rule_opens opens;
 } rule_place;
@@ -219,7 +219,8 @@ enum {
 
 /*
  * RULE_GOT: the element, its number if it is a number or a storing (4294967295 stands for that number and all above it), and the place after it.
- * RULE_FAULT: cause and byte, and the place as it was. RULE_RAN_OUT: the place as it was. What an outcome does not use is 0.
+ * RULE_FAULT: cause and byte, and the place as it was. RULE_RAN_OUT: the place as it was. What an outcome does not use is 0. A place is as it was if
+ * it has the same `at`, the same number of open nodes and the same entries for these; entries of `nodes` beyond `depth` mean nothing and may differ.
  */
 typedef struct {
     uint32_t outcome, element, number, cause;

@@ -1,2 +1,2 @@
-pub mod Cite
-pub mod WalkMade
+pub mod Abstraction
+pub mod WalkCorrect

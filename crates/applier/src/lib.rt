@@ -3,13 +3,13 @@ ghost use mathlib.Core.Path.{_≡_};
 ghost use mathlib.Core.Bool.{false, not, _&&_};
 ghost use mathlib.Core.List.{[], _∷_};
 ghost use Prim.Native.Nat.{_+_, _≤_};
-ghost use Rattle.reading.specs.Limits.{optionLimit, levelLimit};
-ghost use Rattle.writing.specs.Run.{operate};
-ghost use Rattle.engine.specs.Memo.{slotOf};
-ghost use Rattle.engine.specs.Recalling.{recallIn};
-ghost use Rattle.meeting.specs.Cite.{penOf};
-ghost use Rattle.edges.specs.Cite.{edgeIn};
-ghost use Rattle.applier.specs.Cite.{recalledOf, applied};
+ghost use Rattle.theory_reading.specs.Limits.{optionLimit, levelLimit};
+ghost use Rattle.theory_writing.specs.Run.{operate};
+ghost use Rattle.theory_engine.specs.Memo.{slotOf};
+ghost use Rattle.theory_engine.specs.Recalling.{recallIn};
+ghost use Rattle.meeting.specs.Abstraction.{progressOf};
+ghost use Rattle.edges.specs.Abstraction.{edgeIn};
+ghost use Rattle.applier.specs.Abstraction.{recalledOf, applied};
 use edges::Edge;
 use edges::both_pass;
 use edges::first_edge;
@@ -17,13 +17,13 @@ use edges::is_fixed;
 use edges::operate;
 use edges::second_edge;
 use meeting::Half;
-use meeting::Pen;
+use meeting::Progress;
 use meeting::Walked;
 use meeting::constant;
 use meeting::half_of;
 use meeting::kept;
 use meeting::numbered;
-use meeting::pen_of;
+use meeting::progress_of;
 use meeting::second;
 use operation_cache::Told;
 use operation_cache::key_of;
@@ -31,11 +31,11 @@ use operation_cache::note;
 use operation_cache::recall;
 use operation_cache::slot;
 use pending_text::push;
-use pending_text::push_turn;
+use pending_text::push_tilde;
 use pending_text::wait;
 use work_table::OPTION_LIMIT;
 use work_table::differs;
-use work_table::get as row_at;
+use work_table::get as record_at;
 
 // The level of a word, below all options.
 const LEVEL_LIMIT: u32 = OPTION_LIMIT + 1;
@@ -74,33 +74,35 @@ fn walk(
     out: &mut [u8],
     w: &mut [u8],
     c: &mut [[u32; 9]],
-    pen: Pen,
+    progress: Progress,
 ) -> Walked
     requires { ⌜ i + d ≤ optionLimit + levelLimit ⌝ }
-    ensures { λ r. ⌜ recalledOf r (now (t .exit)) (now (out .exit)) (now (w .exit)) (now (c .exit)) ≡ recallIn slotOf (operate op) size d i m (edgeIn x (now (t1 .entry)) ∷ edgeIn y (now (t2 .entry)) ∷ []) (now (c .entry)) (now (t .entry)) (now (out .entry)) (now (w .entry)) (penOf pen) ⌝ }
+    ensures { λ r. ⌜ recalledOf r (now (t .exit)) (now (out .exit)) (now (w .exit)) (now (c .exit))
+        ≡ recallIn slotOf (operate op) size d i m (edgeIn x (now (t1 .entry)) ∷ edgeIn y (now (t2 .entry)) ∷ []) (now (c .entry)) (now (t .entry))
+        (now (out .entry)) (now (w .entry)) (progressOf progress) ⌝ }
 {
     if d == 0 {
-        return kept(constant(operate(op, x.turned, y.turned)), pen);
+        return kept(constant(operate(op, x.complement, y.complement)), progress);
     }
     if is_fixed(op, x, y) {
-        return kept(constant(operate(op, x.turned, y.turned)), pen);
+        return kept(constant(operate(op, x.complement, y.complement)), progress);
     }
-    let r1 = row_at(t1, x.size, x.number);
-    let r2 = row_at(t2, y.size, y.number);
+    let r1 = record_at(t1, x.size, x.number);
+    let r2 = record_at(t2, y.size, y.number);
     let k = key_of(x, r1.stamp, y, r2.stamp);
     let s = slot(k);
     let g = recall(c, t, s, i, k);
     let known = g.known;
     if known {
-        return kept(half_told(g), pen);
+        return kept(half_told(g), progress);
     }
     let e = d - 1;
     let j = i + 1;
     let p = push(w, m, b'(');
     let x1 = first_edge(i, x, r1);
     let y1 = first_edge(i, y, r2);
-    let a = walk(op, size, e, j, p, x1, y1, t1, t2, t, out, w, c, pen);
-    let z = pen_of(a);
+    let a = walk(op, size, e, j, p, x1, y1, t1, t2, t, out, w, c, progress);
+    let z = progress_of(a);
     if z.full {
         return a;
     }
@@ -108,10 +110,10 @@ fn walk(
     let pass = both_pass(i, x.number, r1, y.number, r2);
     let x2 = second_edge(i, x, r1);
     let y2 = second_edge(i, y, r2);
-    let v = operate(op, x2.turned, y2.turned);
+    let v = operate(op, x2.complement, y2.complement);
     let u = differs(h.complement, v);
     let q = wait(w, p, h.wrote, h.skipped, h.number);
-    let r = push_turn(w, q, u);
+    let r = push_tilde(w, q, u);
     if is_alike(h, pass) {
         let b = kept(numbered(h.number, h.stamp, h.skipped, v, false), z);
         return second(size, i, r, u, h, b, t, out, w);
@@ -137,15 +139,17 @@ pub fn apply(
     out: &mut [u8],
     w: &mut [u8],
     c: &mut [[u32; 9]],
-    pen: Pen,
+    progress: Progress,
 ) -> Walked
-    ensures { λ r. ⌜ recalledOf r (now (t .exit)) (now (out .exit)) (now (w .exit)) (now (c .exit)) ≡ applied op size d i m (edgeIn x (now (t1 .entry)) ∷ edgeIn y (now (t2 .entry)) ∷ []) (now (c .entry)) (now (t .entry)) (now (out .entry)) (now (w .entry)) (penOf pen) ⌝ }
+    ensures { λ r. ⌜ recalledOf r (now (t .exit)) (now (out .exit)) (now (w .exit)) (now (c .exit))
+        ≡ applied op size d i m (edgeIn x (now (t1 .entry)) ∷ edgeIn y (now (t2 .entry)) ∷ []) (now (c .entry)) (now (t .entry)) (now (out .entry))
+        (now (w .entry)) (progressOf progress) ⌝ }
 {
     if OPTION_LIMIT < d {
-        return kept(constant(false), pen);
+        return kept(constant(false), progress);
     }
     if LEVEL_LIMIT < i {
-        return kept(constant(false), pen);
+        return kept(constant(false), progress);
     }
-    walk(op, size, d, i, m, x, y, t1, t2, t, out, w, c, pen)
+    walk(op, size, d, i, m, x, y, t1, t2, t, out, w, c, progress)
 }

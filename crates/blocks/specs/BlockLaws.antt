@@ -9,20 +9,20 @@ use Prim.Native.Nat.{ℕ, suc, _+_, _-_, _*_, _<_, _≤_, _^_}
 use native.Mathlib.Omega.{arith}
 use lib.ListN.{length}
 use borrow.Author.Tests.{lt-ltb}
-use Rattle.lists.specs.Lists.{decide-le}
-use Rattle.reading.specs.Limits.{optionLimit, tableLimit}
-use Rattle.reading.specs.Nodes.{node}
-use Rattle.reading.specs.Reading.{State, Reading, level, isStart, reading}
-use Rattle.reading.specs.Deciding.{Decision, undecided, decided, complemented, options, Trace, traceOn, trace, decisionOf, decision}
-use Rattle.reading.specs.Calls.{Verdict, notYet, isNo, isYes, verdictOf, verdict}
-use Rattle.reading.specs.Covered.{grown-on, grown-count, trace-covered}
-use Rattle.reading.specs.TableWalk.{rowWalk, tied-on}
-use Rattle.reading.specs.Passing.{startTrace}
-use Rattle.reading.specs.Settled.{never-some, trace-onward}
-use Rattle.reading.specs.Reaching.{At, at-fault, at-end, at-grows, at-most, at-passes}
-use Rattle.reading.specs.Aligned.{Multiple, at-nested, at-aligned}
-use Rattle.reading.specs.Lasting.{Lasts, Ordered, at-ordered, at-lasts, at-sits}
-use Rattle.scanner.specs.Cite.{markOf, causeOf}
+use Rattle.theory_lists.specs.Lists.{decide-le}
+use Rattle.theory_reading.specs.Limits.{optionLimit, tableLimit}
+use Rattle.theory_reading.specs.Nodes.{node}
+use Rattle.theory_reading.specs.Reading.{State, Reading, level, isStart, reading}
+use Rattle.theory_reading.specs.Deciding.{Decision, undecided, decided, complemented, options, Trace, traceOn, trace, decisionOf, decision}
+use Rattle.theory_reading.specs.Calls.{Verdict, notYet, isNo, isYes, verdictOf, verdict}
+use Rattle.theory_reading.specs.Covered.{grown-on, grown-count, trace-covered}
+use Rattle.theory_reading.specs.TableWalk.{tableWalk, tied-on}
+use Rattle.theory_reading.specs.Passing.{startTrace}
+use Rattle.theory_reading.specs.Settled.{never-some, trace-onward}
+use Rattle.theory_reading.specs.Reaching.{At, at-fault, at-end, at-grows, at-most, at-passes}
+use Rattle.theory_reading.specs.Aligned.{Multiple, at-nested, at-aligned}
+use Rattle.theory_reading.specs.Lasting.{Lasts, Ordered, at-ordered, at-lasts, at-sits}
+use Rattle.scanner.specs.Abstraction.{contextOf, causeOf}
 use Rattle.reader.specs.Simulation.{child-of}
 use Rattle.work_table.specs.TableLaws.{tableOf}
 use Rattle.reader.specs.Advance.{stateAt, HaltsAt}
@@ -30,13 +30,14 @@ use Rattle.reader.specs.Loop.{Stands, stands-first, stands-covered, PassedLast,
 use Rattle.reader.specs.ReadOn.{firstCursor, ReadTo, readAll, read-reaches, read-within}
 use Rattle.scanner.specs.declared.Opens.{Opens}
 use Rattle.reader.specs.declared.Run.{Run}
-use Rattle.reader.specs.Lent.{ReadReached, ReadCursor}
+use Rattle.reader.specs.OpenCells.{ReadReached, ReadCursor}
 use Rattle.blocks.specs.Blocks.{ReadBlock, blockOf, Next, nextOf, nextBlock, word-passed}
 
 -- ---- What the loop passes --------------------------------------------------------------------
 
 -- x: what the loop reaches from where r stands, with r's covered count as its stop
-module _ (n : ℕ) (bytes : List ℕ) (r : Run) (o : Opens) (t : List (List ℕ)) (h : Stands n bytes r o t) (x : ReadReached) (u : List (List ℕ)) (reached : ReachedBy n bytes (r .covered) x u) where
+module _ (n : ℕ) (bytes : List ℕ) (r : Run) (o : Opens) (t : List (List ℕ)) (h : Stands n bytes r o t) (x : ReadReached) (u : List (List ℕ))
+    (reached : ReachedBy n bytes (r .covered) x u) where
   abbrev s : State
   s = stateAt r o t
 
@@ -47,10 +48,10 @@ module _ (n : ℕ) (bytes : List ℕ) (r : Run) (o : Opens) (t : List (List ℕ)
   there = reached .stands .here
 
   module _ (e : x .halted ≡ false) where
-    past : (r .covered < x .run .covered) × PassedLast n bytes (x .run .mark) (reached .stands .steps) (r .covered) (x .from) (x .deep)
+    past : (r .covered < x .run .covered) × PassedLast n bytes (x .run .context) (reached .stands .steps) (r .covered) (x .from) (x .deep)
     past = subst (Ends n bytes (r .covered) x u (reached .stands .steps)) e (reached .ends)
 
-    abbrev p : PassedLast n bytes (x .run .mark) (reached .stands .steps) (r .covered) (x .from) (x .deep)
+    abbrev p : PassedLast n bytes (x .run .context) (reached .stands .steps) (r .covered) (x .from) (x .deep)
     p = past .1
 
     there-last : At n bytes (suc (p .before)) s′
@@ -60,7 +61,12 @@ module _ (n : ℕ) (bytes : List ℕ) (r : Run) (o : Opens) (t : List (List ℕ)
     pub passed-from : x .from ≡ r .covered
     passed-from = ⊎-elim
         (λ (l : h .steps ≤ p .before). omega (arith, p .low, p .covered, at-grows n bytes (h .steps) (p .before) s (p .state) l (h .here) (p .here)))
-        (λ (l : p .before < h .steps). absurd (omega (arith, past .0, at-grows n bytes (suc (p .before)) (h .steps) s′ s (omega (arith, l)) there-last (h .here))))
+        (λ (l : p .before < h .steps). absurd (omega (
+          arith,
+          past .0,
+          at-grows n bytes (suc (p .before)) (h .steps) s′ s (omega (arith, l)) there-last
+              (h .here),
+        )))
         (decide-le (h .steps) (p .before))
 
     -- and has the words of a node inside so many open ones.
@@ -79,7 +85,7 @@ module _ (n : ℕ) (bytes : List ℕ) (r : Run) (o : Opens) (t : List (List ℕ)
         subst (λ (d : ℕ). Multiple (n - d) (x .from)) (p .depth)
         (subst (Multiple (n - length (p .state .place .opens))) (p .covered) (at-aligned n bytes (p .before) (p .state) (p .here)))
 
-    passed-later : isStart (markOf (x .run .mark)) ≡ false
+    passed-later : isStart (contextOf (x .run .context)) ≡ false
     passed-later = p .later
 
     -- The table after it is ordered,
@@ -98,7 +104,7 @@ module _ (n : ℕ) (bytes : List ℕ) (r : Run) (o : Opens) (t : List (List ℕ)
         (at-sits n bytes (p .before) (p .state) s′ (p .here) there-last (omega (arith, p .covered, p .low, past .0)))))
 
     -- and the table lasts from where r stands, if it has one.
-    passed-lasts : isStart (markOf (r .mark)) ≡ false → Lasts (tableOf t (r .size)) (tableOf u (x .run .size))
+    passed-lasts : isStart (contextOf (r .context)) ≡ false → Lasts (tableOf t (r .size)) (tableOf u (x .run .size))
     passed-lasts later =
         subst (λ (b : Bool). Lasts (tableOf t (r .size)) (cond b [] (tableOf u (x .run .size)))) (p .later)
         (subst (λ (b : Bool). Lasts (cond b [] (tableOf t (r .size))) (s′ .table)) later (⊎-elim
@@ -111,7 +117,21 @@ module _ (n : ℕ) (bytes : List ℕ) (r : Run) (o : Opens) (t : List (List ℕ)
     passed-word : (w : ℕ) → x .from ≤ w → w < x .run .covered → ReachedBy n bytes w x u
     passed-word w l k = record {
       stands = reached .stands;
-      ends = subst (Ends n bytes w x u (reached .stands .steps)) (sym e) (k, record { before = p .before; last = p .last; state = p .state; here = p .here; covered = p .covered; low = l; depth = p .depth; shallow = p .shallow; later = p .later });
+      ends = subst (Ends n bytes w x u (reached .stands .steps)) (sym e) (
+        k,
+        record {
+          before = p .before;
+          last = p .last;
+          state = p .state;
+          here = p .here;
+          covered = p .covered;
+          low = l;
+          depth = p .depth;
+          shallow
+              = p .shallow;
+          later = p .later;
+        },
+      );
     }
 
   -- Where it halts without a fault, no more words are covered.
@@ -119,7 +139,8 @@ module _ (n : ℕ) (bytes : List ℕ) (r : Run) (o : Opens) (t : List (List ℕ)
   halted-covers e clean = let k = subst (Ends n bytes (r .covered) x u (reached .stands .steps)) e (reached .ends) in go (x .faulty) (k .0) (k .1)
     where
       go : (b : Bool) → x .run .covered ≤ r .covered → HaltsAt n bytes s′ b (x .cause) (x .byte) → reading n bytes .state .covered ≡ r .covered
-      go true l k = never-some (record { cause = causeOf (x .cause); byte = x .byte }) (sym clean ∙ ap (λ (y : Reading). y .fault) (at-fault n bytes (reached .stands .steps) s′ (causeOf (x .cause)) (x .byte) there k))
+      go true l k = never-some (record { cause = causeOf (x .cause); byte = x .byte })
+          (sym clean ∙ ap (λ (y : Reading). y .fault) (at-fault n bytes (reached .stands .steps) s′ (causeOf (x .cause)) (x .byte) there k))
       go false l k =
           let i = at-end n bytes (reached .stands .steps) s′ there k in
           omega (arith, l, at-most n bytes (h .steps) s s′ (h .here) i, ap (λ (y : Reading). y .state .covered) i)
@@ -141,9 +162,16 @@ decision-back (decided true) = refl
 at-all : (n : ℕ) (bytes : List ℕ) (f : ℕ) (s : State) → At n bytes f s → s .covered ≤ trace n bytes .reading .state .covered
 at-all n bytes f s h =
     let q = tied-on f n bytes .good in
-    omega (arith, grown-count n (traceOn f n bytes startTrace) _ q (grown-on (suc (length bytes)) n bytes (traceOn f n bytes startTrace) q), ap (λ (t : Trace). t .reading .state .covered) (trace-onward n bytes f), ap (λ (x : Reading). x .state .covered) h)
+    omega (
+      arith,
+      grown-count n (traceOn f n bytes startTrace) _ q (grown-on (suc (length bytes)) n bytes (traceOn f n bytes startTrace) q),
+      ap
+          (λ (t : Trace). t .reading .state .covered) (trace-onward n bytes f),
+      ap (λ (x : Reading). x .state .covered) h,
+    )
 
-verdict-decision : (n : ℕ) (bytes : List ℕ) (w : ℕ) (d : Decision) → w < trace n bytes .reading .state .covered → verdict n (trace n bytes) w ≡ verdictOf d → decision n bytes w ≡ d
+verdict-decision : (n : ℕ) (bytes : List ℕ) (w : ℕ) (d : Decision) → w < trace n bytes .reading .state .covered → verdict n (trace n bytes) w
+    ≡ verdictOf d → decision n bytes w ≡ d
 unfolding decision
 verdict-decision n bytes w d l e =
     let v : verdictOf (decisionOf n (trace n bytes) w) ≡ verdictOf d = rw (lt-ltb w (trace n bytes .reading .state .covered) l) at e in
@@ -166,7 +194,8 @@ stands-read n bytes c t h =
     omega (arith, at-all n bytes (h .steps) (stateAt (c .run) (c .opens) t) (h .here), trace-covered n bytes)
 
 -- b, u: the next block of a cursor that stands where reading does, and the table after it
-module _ (n : ℕ) (bytes : List ℕ) (few : n ≤ optionLimit) (c : ReadCursor) (t : List (List ℕ)) (h : StandsAt n bytes c t) (b : ReadBlock) (u : List (List ℕ)) (called : record { block = b; table = u } ≡ nextBlock n bytes c t) where
+module _ (n : ℕ) (bytes : List ℕ) (few : n ≤ optionLimit) (c : ReadCursor) (t : List (List ℕ)) (h : StandsAt n bytes c t) (b : ReadBlock)
+    (u : List (List ℕ)) (called : record { block = b; table = u } ≡ nextBlock n bytes c t) where
   abbrev z : ReadTo
   z = readAll n bytes (c .run .covered) (c .run) (c .opens) t
 
@@ -194,7 +223,8 @@ module _ (n : ℕ) (bytes : List ℕ) (few : n ≤ optionLimit) (c : ReadCursor)
 
     -- has the words of a node inside so many open ones,
     pub block-covers : b .cursor .run .covered ≡ b .from + 2 ^ (n - b .deep)
-    block-covers = subst (λ (y : ReadBlock). y .cursor .run .covered ≡ y .from + 2 ^ (n - y .deep)) (sym same-block) (passed-covers n bytes (c .run) (c .opens) t h (z .reached) (z .table) reached on)
+    block-covers = subst (λ (y : ReadBlock). y .cursor .run .covered ≡ y .from + 2 ^ (n - y .deep)) (sym same-block)
+        (passed-covers n bytes (c .run) (c .opens) t h (z .reached) (z .table) reached on)
 
     -- no more than there are options,
     pub block-deep : b .deep ≤ n
@@ -209,9 +239,9 @@ module _ (n : ℕ) (bytes : List ℕ) (few : n ≤ optionLimit) (c : ReadCursor)
         (passed-aligned n bytes (c .run) (c .opens) t h (z .reached) (z .table) reached on)
 
     -- The cursor after it has a table, which is ordered and lasts from the cursor before, if that has one;
-    pub block-later : isStart (markOf (b .cursor .run .mark)) ≡ false
+    pub block-later : isStart (contextOf (b .cursor .run .context)) ≡ false
     block-later =
-        subst (λ (y : ReadBlock). isStart (markOf (y .cursor .run .mark)) ≡ false) (sym same-block)
+        subst (λ (y : ReadBlock). isStart (contextOf (y .cursor .run .context)) ≡ false) (sym same-block)
         (passed-later n bytes (c .run) (c .opens) t h (z .reached) (z .table) reached on)
 
     pub block-ordered : Ordered (tableOf u (b .cursor .run .size))
@@ -219,7 +249,7 @@ module _ (n : ℕ) (bytes : List ℕ) (few : n ≤ optionLimit) (c : ReadCursor)
         subst (λ (y : Next). Ordered (tableOf (y .table) (y .block .cursor .run .size))) (sym same)
         (passed-ordered n bytes (c .run) (c .opens) t h (z .reached) (z .table) reached on)
 
-    pub block-lasts : isStart (markOf (c .run .mark)) ≡ false → Lasts (tableOf t (c .run .size)) (tableOf u (b .cursor .run .size))
+    pub block-lasts : isStart (contextOf (c .run .context)) ≡ false → Lasts (tableOf t (c .run .size)) (tableOf u (b .cursor .run .size))
     block-lasts later =
         subst (λ (y : Next). Lasts (tableOf t (c .run .size)) (tableOf (y .table) (y .block .cursor .run .size))) (sym same)
         (passed-lasts n bytes (c .run) (c .opens) t h (z .reached) (z .table) reached on later)
@@ -233,14 +263,23 @@ module _ (n : ℕ) (bytes : List ℕ) (few : n ≤ optionLimit) (c : ReadCursor)
 
     -- and EVERY WORD OF IT is decided by the table.
     pub block-decides : (w : ℕ) → b .from ≤ w → w < b .cursor .run .covered
-        → decision n bytes w ≡ complemented (b .turned) (rowWalk (tableOf u (b .cursor .run .size)) (b .deep + 1) (b .number) (options (n - b .deep) (w - b .from)))
+        → decision n bytes w ≡ complemented (b .complement) (tableWalk (tableOf u (b .cursor .run .size)) (b .deep + 1) (b .number)
+        (options (n - b .deep) (w - b .from)))
     block-decides w l k =
-        subst (λ (y : Next). decision n bytes w ≡ complemented (y .block .turned) (rowWalk (tableOf (y .table) (y .block .cursor .run .size)) (y .block .deep + 1) (y .block .number) (options (n - y .block .deep) (w - y .block .from)))) (sym same)
+        subst (λ (y : Next). decision n bytes w ≡ complemented (y .block .complement)
+        (tableWalk (tableOf (y .table) (y .block .cursor .run .size)) (y .block .deep + 1) (y .block .number)
+        (options (n - y .block .deep) (w - y .block .from)))) (sym same)
         (let l′ : z .reached .from ≤ w = omega (arith, l, ap (λ (y : ReadBlock). y .from) same-block) in
         let k′ : w < z .reached .run .covered = omega (arith, k, ap (λ (y : ReadBlock). y .cursor .run .covered) same-block) in
-        verdict-decision n bytes w _ (omega (arith, k′, at-all n bytes (reached .stands .steps) (stateAt (z .reached .run) (z .reached .opens) (z .table)) (reached .stands .here)))
+        verdict-decision n bytes w _ (omega (
+          arith,
+          k′,
+          at-all n bytes (reached .stands .steps)
+              (stateAt (z .reached .run) (z .reached .opens) (z .table)) (reached .stands .here),
+        ))
         (word-passed n bytes w (z .reached) (z .table) (passed-word n bytes (c .run) (c .opens) t h (z .reached) (z .table) reached on w l′ k′) on))
 
   -- Where no block is left of a stream without a fault, its words are covered.
   pub block-last : b .halted ≡ true → reading n bytes .fault ≡ none → reading n bytes .state .covered ≡ c .run .covered
-  block-last e = halted-covers n bytes (c .run) (c .opens) t h (z .reached) (z .table) reached (sym (ap (λ (y : ReadBlock). y .halted) same-block) ∙ e)
+  block-last e = halted-covers n bytes (c .run) (c .opens) t h (z .reached) (z .table) reached
+      (sym (ap (λ (y : ReadBlock). y .halted) same-block) ∙ e)

@@ -8,16 +8,16 @@ use native.Mathlib.Omega.{arith}
 use lib.Dec.{eqb, ltb}
 use lib.ListN.{length, replicate}
 use borrow.Author.Tests.{lt-ltb, le-ltb}
-use Rattle.reading.specs.Limits.{optionLimit, openLimit, tableLimit, wordLimit}
-use Rattle.reading.specs.Causes as C
-use Rattle.reading.specs.Calls as R
-use Rattle.reading.specs.Deciding.{ended}
-use Rattle.scanner.specs.Cite.{markOf}
+use Rattle.theory_reading.specs.Limits.{optionLimit, openLimit, tableLimit, wordLimit}
+use Rattle.theory_reading.specs.Causes as C
+use Rattle.theory_reading.specs.Calls as R
+use Rattle.theory_reading.specs.Deciding.{ended}
+use Rattle.scanner.specs.Abstraction.{contextOf}
 use Rattle.work_table.specs.Table.{getIn}
-use Rattle.reader.specs.Lent.{ReadReached, cursorIn}
+use Rattle.reader.specs.OpenCells.{ReadReached, cursorIn}
 use Rattle.reader.specs.Loop.{firstRun, firstOpens, stands-first}
 use Rattle.checker.specs.Answers.{checkingOf}
-use Rattle.checker.specs.CheckMade.{checkedBy}
+use Rattle.checker.specs.CheckCorrect.{checkedBy}
 use Rattle.reader.specs.ReadOn.{ReadTo, readOn, readAll, firstCursor, startCursor, readFrom, read-within}
 use Rattle.blocks.specs.Blocks.{ReadBlock, blockOf}
 use Rattle.blocks.specs.declared.Loaded.{Loaded}
@@ -33,16 +33,24 @@ pub record LoadTo : Type 0 where
   pub whole : Bool
   pub size : ℕ
   pub number : ℕ
-  pub turned : Bool
+  pub complement : Bool
   pub table : List (List ℕ)
 
 -- as code has it; u: the table after it
 abbrev pub loadIn : Loaded → List (List ℕ) → LoadTo
-loadIn x u = record { answer = checkingOf (x .checking); whole = x .whole; size = x .block .cursor .run .size; number = x .block .number; turned = x .block .turned; table = u }
+loadIn x u = record {
+  answer = checkingOf (x .checking);
+  whole = x .whole;
+  size = x .block .cursor .run .size;
+  number = x .block .number;
+  complement =
+      x .block .complement;
+  table = u;
+}
 
 -- turned down before anything is read
 abbrev pub refusedLoad : C.Cause → List (List ℕ) → LoadTo
-refusedLoad c t = record { answer = C.refused (C.refusal c 0 0); whole = false; size = 0; number = 0; turned = false; table = t }
+refusedLoad c t = record { answer = C.refused (C.refusal c 0 0); whole = false; size = 0; number = 0; complement = false; table = t }
 
 -- a is the terminal, or a number that was not given out again
 abbrev pub staysIn : List (List ℕ) → ℕ → Ref → Bool
@@ -50,13 +58,21 @@ staysIn t z a = eqb (getIn t z (a .number) .stamp) (a .stamp)
 
 -- no fault was met, no node is open, and the one that has just ended is in the table
 abbrev pub wholeBy : ReadReached → List (List ℕ) → Bool
-wholeBy y t = not (y .faulty) && (eqb (y .opens .depth) 0 && (ended (markOf (y .run .mark)) && staysIn t (y .run .size) (y .run .last)))
+wholeBy y t = not (y .faulty) && (eqb (y .opens .depth) 0 && (ended (contextOf (y .run .context)) && staysIn t (y .run .size) (y .run .last)))
 
 -- what is made of what the loop reaches
 abbrev pub loadOf : ReadTo → LoadTo
 loadOf z =
     let b = blockOf (z .reached) in
-    record { answer = checkedBy (z .reached); whole = wholeBy (z .reached) (z .table); size = b .cursor .run .size; number = b .number; turned = b .turned; table = z .table }
+    record {
+      answer = checkedBy (z .reached);
+      whole = wholeBy (z .reached) (z .table);
+      size = b .cursor .run .size;
+      number = b .number;
+      complement = b
+          .complement;
+      table = z .table;
+    }
 
 -- LOADING a stream: causes 1 and 4, then the stream is read to its end
 unfoldable pub load : ℕ → List ℕ → List (List ℕ) → LoadTo
@@ -82,12 +98,14 @@ module _ (n : ℕ) (bytes : List ℕ) (t : List (List ℕ)) where
   load-on few room = rw (le-ltb optionLimit n few, le-ltb (length t) tableLimit room) refl
 
   -- y, u: what the loop reaches, and the table after it; b, a, w: the block, the answer and whether it is whole, as code has them
-  pub load-made : n ≤ optionLimit → tableLimit ≤ length t → (c : Cursor) → c ≡ startCursor → (y : ReadReached) (u : List (List ℕ))
-      → record { reached = y; table = u } ≡ readFrom n bytes wordLimit (cursorIn c (replicate openLimit (replicate 4 0))) t → (b : ReadBlock) → b ≡ blockOf y
+  pub load-correct : n ≤ optionLimit → tableLimit ≤ length t → (c : Cursor) → c ≡ startCursor → (y : ReadReached) (u : List (List ℕ))
+      → record { reached = y; table = u } ≡ readFrom n bytes wordLimit (cursorIn c (replicate openLimit (replicate 4 0))) t → (b : ReadBlock) → b
+      ≡ blockOf y
       → (a : C.Result R.Checked) → a ≡ checkedBy y → (w : Bool) → w ≡ wholeBy y u
-      → record { answer = a; whole = w; size = b .cursor .run .size; number = b .number; turned = b .turned; table = u } ≡ load n bytes t
-  load-made few room c ce y u k b be a ae w we =
-      ap (λ (b : ReadBlock). record { answer = a; whole = w; size = b .cursor .run .size; number = b .number; turned = b .turned; table = u }) be
+      → record { answer = a; whole = w; size = b .cursor .run .size; number = b .number; complement = b .complement; table = u } ≡ load n bytes t
+  load-correct few room c ce y u k b be a ae w we =
+      ap (λ (b : ReadBlock). record { answer = a; whole = w; size = b .cursor .run .size; number = b .number; complement = b .complement; table = u })
+      be
       ∙ rw (ae, we) refl
       ∙ ap loadOf (k
       ∙ ap (λ (c : Cursor). readFrom n bytes wordLimit (cursorIn c (replicate openLimit (replicate 4 0))) t) ce

@@ -9,34 +9,34 @@ use native.Mathlib.Omega.{arith}
 use lib.Dec.{eqb}
 use lib.ListN.{length}
 use borrow.Author.Tests.{eqb-true}
-use Rattle.lists.specs.Lists.{differ, decide-le}
-use Rattle.reading.specs.Limits.{optionLimit, tableLimit, wordLimit}
-use Rattle.reading.specs.Nodes.{Node, child, node, bars}
-use Rattle.reading.specs.Causes as C
-use Rattle.reading.specs.Element as T
-use Rattle.reading.specs.Reading.{State, Reading, isStart, reading}
-use Rattle.reading.specs.Deciding.{complemented, options, ended, decision}
-use Rattle.reading.specs.Calls as R
-use Rattle.reading.specs.Covered.{parity, covered}
-use Rattle.reading.specs.TableWalk.{rowWalk}
-use Rattle.reading.specs.Lasting.{Ordered}
-use Rattle.reading.specs.Rooted.{Rooted, reading-ordered, rooted-decides, rooted-deep, rooted-covers}
-use Rattle.scanner.specs.Cite.{markOf, refOf, openList}
+use Rattle.theory_lists.specs.Lists.{differ, decide-le}
+use Rattle.theory_reading.specs.Limits.{optionLimit, tableLimit, wordLimit}
+use Rattle.theory_reading.specs.Nodes.{Node, child, node, bars}
+use Rattle.theory_reading.specs.Causes as C
+use Rattle.theory_reading.specs.Element as T
+use Rattle.theory_reading.specs.Reading.{State, Reading, isStart, reading}
+use Rattle.theory_reading.specs.Deciding.{complemented, options, ended, decision}
+use Rattle.theory_reading.specs.Calls as R
+use Rattle.theory_reading.specs.Covered.{parity, covered}
+use Rattle.theory_reading.specs.TableWalk.{tableWalk}
+use Rattle.theory_reading.specs.Lasting.{Ordered}
+use Rattle.theory_reading.specs.Rooted.{Rooted, reading-ordered, rooted-decides, rooted-deep, rooted-covers}
+use Rattle.scanner.specs.Abstraction.{contextOf, refOf, openList}
 use Rattle.scanner.specs.OpenLaws.{open-none}
 use Rattle.work_table.specs.Table.{noRecord}
 use Rattle.work_table.specs.TableLaws.{tableOf}
 use Rattle.reader.specs.Simulation.{child-of}
-use Rattle.reader.specs.Advance.{stateAt, bars-row}
-use Rattle.reader.specs.Lent.{ReadReached}
+use Rattle.reader.specs.Advance.{stateAt, bars-record}
+use Rattle.reader.specs.OpenCells.{ReadReached}
 use Rattle.reader.specs.Loop.{firstRun, firstOpens, stands-first}
-use Rattle.checker.specs.CheckMade.{checkedBy, Reads, all-reads, check-options, check-table, check-made}
+use Rattle.checker.specs.CheckCorrect.{checkedBy, Reads, all-reads, check-options, check-table, check-correct}
 use Rattle.reader.specs.ReadOn.{ReadTo, readAll, read-length, read-reaches}
 use Rattle.blocks.specs.Load.{LoadTo, staysIn, wholeBy, refusedLoad, loadOf, load, load-options, load-table, load-on}
 
 -- ---- What is made of what the loop reaches ---------------------------------------------------
 
 -- where a node has just ended the size has been read
-ended-later : (m : T.Mark) → ended m ≡ true → isStart m ≡ false
+ended-later : (m : T.Context) → ended m ≡ true → isStart m ≡ false
 ended-later T.start e = absurd (false≢true e)
 ended-later T.lead e = refl
 ended-later T.begins e = refl
@@ -49,13 +49,13 @@ ended-later T.over e = refl
 record Whole (y : ReadReached) (u : List (List ℕ)) : Type 0 where
   clean : y .faulty ≡ false
   alone : y .opens .depth ≡ 0
-  done : ended (markOf (y .run .mark)) ≡ true
+  done : ended (contextOf (y .run .context)) ≡ true
   stays : staysIn u (y .run .size) (y .run .last) ≡ true
 
 whole-says : (y : ReadReached) (u : List (List ℕ)) → wholeBy y u ≡ true → Whole y u
-whole-says y u = go (y .faulty) (eqb (y .opens .depth) 0) (ended (markOf (y .run .mark))) refl refl refl
+whole-says y u = go (y .faulty) (eqb (y .opens .depth) 0) (ended (contextOf (y .run .context))) refl refl refl
   where
-    go : (a b c : Bool) → y .faulty ≡ a → eqb (y .opens .depth) 0 ≡ b → ended (markOf (y .run .mark)) ≡ c
+    go : (a b c : Bool) → y .faulty ≡ a → eqb (y .opens .depth) 0 ≡ b → ended (contextOf (y .run .context)) ≡ c
         → (not a && (b && (c && staysIn u (y .run .size) (y .run .last)))) ≡ true → Whole y u
     go true b c i j k e = absurd (false≢true e)
     go false false c i j k e = absurd (false≢true e)
@@ -74,26 +74,28 @@ module _ (n : ℕ) (bytes : List ℕ) (y : ReadReached) (u : List (List ℕ)) (h
   opens-none = ap (λ (d : ℕ). openList (record { nodes = y .opens .nodes; depth = d })) (w .alone) ∙ open-none (y .opens .nodes)
 
   table-same : s .table ≡ tableOf u (y .run .size)
-  table-same = ap (λ (b : Bool). cond b [] (tableOf u (y .run .size))) (ended-later (markOf (y .run .mark)) (w .done))
+  table-same = ap (λ (b : Bool). cond b [] (tableOf u (y .run .size))) (ended-later (contextOf (y .run .context)) (w .done))
 
   rooted : Rooted (reading n bytes .state)
   rooted = subst Rooted (sym state-same) (record {
     alone = opens-none;
     done = w .done;
-    stays = ap (λ (t : List Node). bars t (refOf (y .run .last))) table-same ∙ bars-row u (y .run .size) (y .run .last) ∙ ap not (w .stays);
+    stays = ap (λ (t : List Node). bars t (refOf (y .run .last))) table-same ∙ bars-record u (y .run .size) (y .run .last) ∙ ap not (w .stays);
   })
 
-  turn-same : y .run .complement ≡ differ (parity (openList (y .opens))) (y .run .complement)
+  complement-same : y .run .complement ≡ differ (parity (openList (y .opens))) (y .run .complement)
   unfolding parity
-  turn-same = ap (λ (o : List T.Open). differ (parity o) (y .run .complement)) (sym opens-none)
+  complement-same = ap (λ (o : List T.Open). differ (parity o) (y .run .complement)) (sym opens-none)
 
   whole-decides : (i : ℕ) → decision n bytes i
-      ≡ complemented (differ (parity (openList (y .opens))) (y .run .complement)) (rowWalk (tableOf u (y .run .size)) 1 (y .run .last .number) (options n i))
+      ≡ complemented (differ (parity (openList (y .opens))) (y .run .complement))
+      (tableWalk (tableOf u (y .run .size)) 1 (y .run .last .number) (options n i))
   whole-decides i =
       rooted-decides n bytes rooted i
-      ∙ ap (λ (s : State). complemented (s .complement) (rowWalk (s .table) 1 (child (s .place .last)) (options n i))) state-same
-      ∙ ap₂ (λ (b : Bool) (t : List Node). complemented b (rowWalk t 1 (child (refOf (y .run .last))) (options n i))) turn-same table-same
-      ∙ ap (λ (k : ℕ). complemented (differ (parity (openList (y .opens))) (y .run .complement)) (rowWalk (tableOf u (y .run .size)) 1 k (options n i))) (sym (child-of (y .run .last)))
+      ∙ ap (λ (s : State). complemented (s .complement) (tableWalk (s .table) 1 (child (s .place .last)) (options n i))) state-same
+      ∙ ap₂ (λ (b : Bool) (t : List Node). complemented b (tableWalk t 1 (child (refOf (y .run .last))) (options n i))) complement-same table-same
+      ∙ ap (λ (k : ℕ). complemented (differ (parity (openList (y .opens))) (y .run .complement))
+      (tableWalk (tableOf u (y .run .size)) 1 k (options n i))) (sym (child-of (y .run .last)))
 
   whole-ordered : Ordered (tableOf u (y .run .size))
   whole-ordered = subst Ordered (ap (λ (s : State). s .table) state-same ∙ table-same) (reading-ordered n bytes)
@@ -102,7 +104,8 @@ module _ (n : ℕ) (bytes : List ℕ) (y : ReadReached) (u : List (List ℕ)) (h
   whole-deep =
       subst (λ (t : List Node). 0 < y .run .last .number → 1 ≤ node t (y .run .last .number) .level) table-same
       (subst (λ (k : ℕ). 0 < k → 1 ≤ node (s .table) k .level) (sym (child-of (y .run .last)))
-      (subst (λ (s : State). 0 < child (s .place .last) → 1 ≤ node (s .table) (child (s .place .last)) .level) state-same (rooted-deep n bytes rooted)))
+      (subst (λ (s : State). 0 < child (s .place .last) → 1 ≤ node (s .table) (child (s .place .last)) .level) state-same
+      (rooted-deep n bytes rooted)))
 
 -- ---- Loading ---------------------------------------------------------------------------------
 
@@ -111,7 +114,8 @@ module _ (n : ℕ) (bytes : List ℕ) (t : List (List ℕ)) where
   z = readAll n bytes wordLimit firstRun firstOpens t
 
   reads : n ≤ optionLimit → tableLimit ≤ length t → Reads n bytes (z .reached) (z .table)
-  reads few room = all-reads n bytes (z .reached) (z .table) few (read-reaches n bytes few wordLimit firstRun firstOpens t (stands-first n bytes t room) (omega arith))
+  reads few room = all-reads n bytes (z .reached) (z .table) few (read-reaches n bytes few wordLimit firstRun firstOpens t
+      (stands-first n bytes t room) (omega arith))
 
   -- the three ways
   load-ways : (P : LoadTo → Type 0) → (optionLimit < n → P (refusedLoad C.optionCount t))
@@ -131,7 +135,7 @@ module _ (n : ℕ) (bytes : List ℕ) (t : List (List ℕ)) where
       (λ h. ap (λ (x : R.Read R.Checked (List ℕ)). x .answer) (check-options n bytes t _ h refl))
       (λ few h. ap (λ (x : R.Read R.Checked (List ℕ)). x .answer) (check-table n bytes t _ few h refl))
       (λ few room. ap (λ (x : R.Read R.Checked (List ℕ)). x .answer)
-      (check-made n bytes t (checkedBy (z .reached)) (C.cleared noRecord t) (z .reached) (z .table) few room (reads few room) refl refl))
+      (check-correct n bytes t (checkedBy (z .reached)) (C.cleared noRecord t) (z .reached) (z .table) few room (reads few room) refl refl))
 
   -- The table is as long as it was.
   pub load-length : length (load n bytes t .table) ≡ length t
@@ -142,7 +146,8 @@ module _ (n : ℕ) (bytes : List ℕ) (t : List (List ℕ)) where
 module _ (n : ℕ) (bytes : List ℕ) (t : List (List ℕ)) (x : LoadTo) (called : x ≡ load n bytes t) (whole : x .whole ≡ true) where
   -- what holds of what was read
   abbrev Holds : (LoadTo → Type 0) → Type 0
-  Holds P = n ≤ optionLimit → Reads n bytes (z n bytes t .reached) (z n bytes t .table) → Whole (z n bytes t .reached) (z n bytes t .table) → P (loadOf (z n bytes t))
+  Holds P = n ≤ optionLimit → Reads n bytes (z n bytes t .reached) (z n bytes t .table) → Whole (z n bytes t .reached) (z n bytes t .table)
+      → P (loadOf (z n bytes t))
 
   by-whole : (P : LoadTo → Type 0) → Holds P → P x
   by-whole P k = subst P (sym called) (load-ways n bytes t (λ (x : LoadTo). x .whole ≡ true → P x)
@@ -151,8 +156,10 @@ module _ (n : ℕ) (bytes : List ℕ) (t : List (List ℕ)) (x : LoadTo) (called
       (ap (λ (x : LoadTo). x .whole) (sym called) ∙ whole))
 
   -- THE NUMBER DECIDES EVERY WORD, by the table as it is left,
-  pub load-decides : (w : ℕ) → decision n bytes w ≡ complemented (x .turned) (rowWalk (tableOf (x .table) (x .size)) 1 (x .number) (options n w))
-  load-decides w = by-whole (λ (x : LoadTo). decision n bytes w ≡ complemented (x .turned) (rowWalk (tableOf (x .table) (x .size)) 1 (x .number) (options n w)))
+  pub load-decides : (w : ℕ) → decision n bytes w ≡ complemented (x .complement)
+      (tableWalk (tableOf (x .table) (x .size)) 1 (x .number) (options n w))
+  load-decides w = by-whole (λ (x : LoadTo). decision n bytes w ≡ complemented (x .complement)
+      (tableWalk (tableOf (x .table) (x .size)) 1 (x .number) (options n w)))
       (λ few h k. whole-decides n bytes _ _ h k w)
 
   -- which is ordered.
@@ -161,7 +168,8 @@ module _ (n : ℕ) (bytes : List ℕ) (t : List (List ℕ)) (x : LoadTo) (called
 
   -- The number has a level, unless it is the terminal's.
   pub load-deep : 0 < x .number → 1 ≤ node (tableOf (x .table) (x .size)) (x .number) .level
-  load-deep = by-whole (λ (x : LoadTo). 0 < x .number → 1 ≤ node (tableOf (x .table) (x .size)) (x .number) .level) (λ few h k. whole-deep n bytes _ _ h k)
+  load-deep = by-whole (λ (x : LoadTo). 0 < x .number → 1 ≤ node (tableOf (x .table) (x .size)) (x .number) .level)
+      (λ few h k. whole-deep n bytes _ _ h k)
 
   -- All words are covered.
   pub load-covers : covered n bytes ≡ 2 ^ n

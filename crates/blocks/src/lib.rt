@@ -2,10 +2,10 @@
 ghost use mathlib.Core.Path.{_≡_};
 ghost use mathlib.Core.List.{List, []};
 ghost use Prim.Native.Nat.{ℕ, _-_};
-ghost use Rattle.reading.specs.Covered.{parity};
-ghost use Rattle.reading.specs.Deciding.{ended};
-ghost use Rattle.scanner.specs.Cite.{openList, markOf, causeOf};
-ghost use Rattle.reader.specs.Lent.{opensIn, reachedIn, cursorIn};
+ghost use Rattle.theory_reading.specs.Covered.{parity};
+ghost use Rattle.theory_reading.specs.Deciding.{ended};
+ghost use Rattle.scanner.specs.Abstraction.{openList, contextOf, causeOf};
+ghost use Rattle.reader.specs.OpenCells.{opensIn, reachedIn, cursorIn};
 ghost use Rattle.blocks.specs.Blocks.{edgeAt, blockIn, blockOf, nextBlock};
 ghost use Rattle.blocks.specs.Load.{loadIn, refusedLoad, wholeBy, load};
 use checker::Checking;
@@ -16,9 +16,9 @@ use reader::Reached;
 use reader::first_cursor;
 use reader::read_on;
 use scanner::Cause;
-use scanner::Mark;
+use scanner::Context;
 use scanner::OPEN_LIMIT;
-use scanner::mark_number;
+use scanner::context_number;
 use work_table::Edge;
 use work_table::OPTION_LIMIT;
 use work_table::TABLE_LIMIT;
@@ -56,7 +56,7 @@ pub fn edge_of(r: Reached, o: &[[u32; 4]; OPEN_LIMIT]) -> Edge
     let l = q.last;
     Edge {
         number: l.number,
-        turned: differs(p, q.complement),
+        complement: differs(p, q.complement),
     }
 }
 
@@ -79,7 +79,7 @@ pub struct Block {
     pub from: u64,
     pub deep: usize,
     pub number: u32,
-    pub turned: bool,
+    pub complement: bool,
     pub halted: bool,
 }
 
@@ -98,7 +98,7 @@ fn block_of(r: Reached, o: &[[u32; 4]; OPEN_LIMIT]) -> Block
         from: r.from,
         deep: r.deep,
         number: e.number,
-        turned: e.turned,
+        complement: e.complement,
         halted: r.halted,
     }
 }
@@ -111,7 +111,8 @@ pub fn next_block(
     o: &mut [[u32; 4]; OPEN_LIMIT],
     c: Cursor,
 ) -> Block
-    ensures { λ b. ⌜ record { block = blockIn b (now (o .exit)); table = now (t .exit) } ≡ nextBlock n (now (s .entry)) (cursorIn c (now (o .entry))) (now (t .entry)) ⌝ }
+    ensures { λ b. ⌜ record { block = blockIn b (now (o .exit)); table = now (t .exit) }
+        ≡ nextBlock n (now (s .entry)) (cursorIn c (now (o .entry))) (now (t .entry)) ⌝ }
 {
     let q = c.run;
     let r = read_on(n, s, t, o, c, q.covered);
@@ -129,10 +130,10 @@ pub struct Loaded {
 }
 
 // A node has just ended.
-fn has_ended(m: Mark) -> bool
-    ensures { λ r. ⌜ r ≡ ended (markOf m) ⌝ }
+fn has_ended(m: Context) -> bool
+    ensures { λ r. ⌜ r ≡ ended (contextOf m) ⌝ }
 {
-    mark_number(Mark::AfterDigit) <= mark_number(m)
+    context_number(Context::AfterDigit) <= context_number(m)
 }
 
 // What ended last is the outermost node, and is the terminal or a number that was not given out again.
@@ -147,7 +148,7 @@ fn is_whole(t: &[[u32; 6]], r: Reached) -> bool
         return false;
     }
     let q = r.run;
-    let m = q.mark;
+    let m = q.context;
     if !has_ended(m) {
         return false;
     }
@@ -165,7 +166,7 @@ fn not_loaded(c: Cause) -> Loaded
         from: 0,
         deep: 0,
         number: 0,
-        turned: false,
+        complement: false,
         halted: true,
     };
     Loaded {

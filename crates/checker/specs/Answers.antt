@@ -1,8 +1,8 @@
 -- What checking answers, as the paper has it: refusals with the paper's number of each cause, extents. Assumes nothing.
 use mathlib.Core.Bool.{cond}
-use Rattle.reading.specs.Causes as C
-use Rattle.reading.specs.Calls as R
-use Rattle.scanner.specs.Cite.{causeOf}
+use Rattle.theory_reading.specs.Causes as C
+use Rattle.theory_reading.specs.Calls as R
+use Rattle.scanner.specs.Abstraction.{causeOf}
 use Rattle.checker.specs.declared.Refusal.{Refusal}
 use Rattle.checker.specs.declared.Checked.{Checked}
 use Rattle.checker.specs.declared.Checking.{Checking}

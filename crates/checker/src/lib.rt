@@ -1,20 +1,20 @@
 // Checking a stream, and how a call is turned down.
 ghost use mathlib.Core.Path.{_≡_};
 ghost use mathlib.Core.List.{[]};
-ghost use Rattle.reading.specs.Causes.{refusal};
-ghost use Rattle.reading.specs.Calls.{Checks};
+ghost use Rattle.theory_reading.specs.Causes.{refusal};
+ghost use Rattle.theory_reading.specs.Calls.{Checks};
 ghost use Rattle.work_table.specs.Table.{noRecord};
-ghost use Rattle.scanner.specs.Cite.{causeOf};
-ghost use Rattle.reader.specs.Lent.{reachedIn};
+ghost use Rattle.scanner.specs.Abstraction.{causeOf};
+ghost use Rattle.reader.specs.OpenCells.{reachedIn};
 ghost use Rattle.checker.specs.Answers.{refusalOf, checkingOf};
-ghost use Rattle.checker.specs.CheckMade.{checkedBy};
+ghost use Rattle.checker.specs.CheckCorrect.{checkedBy};
 use reader::Reached;
 use reader::first_cursor;
 use reader::read_on;
 use scanner::Cause;
-use scanner::Mark;
+use scanner::Context;
 use scanner::OPEN_LIMIT;
-use scanner::is_mark;
+use scanner::is_context;
 use work_table::OPTION_LIMIT;
 use work_table::TABLE_LIMIT;
 use work_table::WORD_LIMIT;
@@ -70,11 +70,11 @@ pub fn checked_at(r: Reached) -> Checking
         return Checking::Refused(late(r));
     }
     let q = r.run;
-    let m = q.mark;
+    let m = q.context;
     Checking::Done(Checked {
         size: q.size,
         covered: q.covered,
-        complete: is_mark(m, Mark::Over),
+        complete: is_context(m, Context::Over),
     })
 }
 

@@ -9,21 +9,21 @@ use mathlib.Core.List.{List, [], _∷_, _++_}
 use mathlib.Core.Option.{none, some}
 use Prim.Native.Nat.{ℕ, _/_, _%_, _≤_, _<_, _^_, min}
 use lib.ListN.{length, take, getD}
-use Rattle.lists.specs.Lists.{All}
-use Rattle.lists.specs.Prefixes.{Begins}
-use Rattle.reading.specs.Limits.{tableLimit}
-use Rattle.reading.specs.Causes.{Refusal, refused, done}
-use Rattle.reading.specs.Element.{over}
-use Rattle.reading.specs.Reading.{Fault, reading}
-use Rattle.reading.specs.Deciding.{decided, undecided, decision}
-use Rattle.reading.specs.Calls.{Checked, extent, Read, check, Checks, Verdict, verdictOf, decide, Decides, digitOf, Fill, fill, Fills}
-use Rattle.reading.specs.Covered as C
-use Rattle.reading.specs.Covered.{covered}
-use Rattle.reading.specs.Settled as F
-use Rattle.reading.specs.FaultRank.{Counts, fault-counts}
-use Rattle.reading.specs.CallLaws as L
-use Rattle.writing.specs.Run.{runText, whole, Answer}
-use Rattle.writing.specs.Calls.{truthAt, Write, write, Writes, Combine, combine, Combines}
+use Rattle.theory_lists.specs.Lists.{All}
+use Rattle.theory_lists.specs.Prefixes.{Begins}
+use Rattle.theory_reading.specs.Limits.{tableLimit}
+use Rattle.theory_reading.specs.Causes.{Refusal, refused, done}
+use Rattle.theory_reading.specs.Element.{over}
+use Rattle.theory_reading.specs.Reading.{Fault, reading}
+use Rattle.theory_reading.specs.Deciding.{decided, undecided, decision}
+use Rattle.theory_reading.specs.Calls.{Checked, extent, Read, check, Checks, Verdict, verdictOf, decide, Decides, digitOf, Fill, fill, Fills}
+use Rattle.theory_reading.specs.Covered as C
+use Rattle.theory_reading.specs.Covered.{covered}
+use Rattle.theory_reading.specs.Settled as F
+use Rattle.theory_reading.specs.FaultRank.{Counts, fault-counts}
+use Rattle.theory_reading.specs.CallLaws as L
+use Rattle.theory_writing.specs.Run.{runText, whole, Answer}
+use Rattle.theory_writing.specs.Calls.{truthAt, Write, write, Writes, Combine, combine, Combines}
 use Rattle.claims.specs.Terms.{TurnedDown, checkLines, decideLines, fillLines, writeLines, combineLines}
 use Rattle.claims.specs.Terms.{TableLeft, OutputLeft, Gets, Operated, ReadAs, Complete}
 use Rattle.claims.specs.Refused as T
@@ -80,11 +80,11 @@ pub record Demand2 {R S : Type 0} (z : R) (o : S) : Type 0 where
   pub covered-words : (n : ℕ) (x : List ℕ) (w : ℕ) → w < 2 ^ n
       → (w < covered n x → (d : Bool) × (decision n x w ≡ decided d)) × (covered n x ≤ w → decision n x w ≡ undecided)
   -- A complete stream covers every word.
-  pub complete-covers : (n : ℕ) (x : List ℕ) → reading n x .state .place .mark ≡ over → covered n x ≡ 2 ^ n
+  pub complete-covers : (n : ℕ) (x : List ℕ) → reading n x .state .place .context ≡ over → covered n x ≡ 2 ^ n
   -- Checking answers the declared size, the covered count, and complete or cut.
   pub checking : (n : ℕ) (x : List ℕ) (t : List R) (r : Checked) (c : Read Checked R) → Checks z n x t c
       → c .answer ≡ done r
-      → let s = reading n x .state in r ≡ record { size = s .size; covered = covered n x; extent = extent (s .place .mark) }
+      → let s = reading n x .state in r ≡ record { size = s .size; covered = covered n x; extent = extent (s .place .context) }
   -- Deciding answers yes, no or not yet as the diagram decides the word.
   pub deciding : (n : ℕ) (x : List ℕ) (w : ℕ) (t : List R) (r : Verdict) (c : Read Verdict R) → Decides z n x w t c
       → c .answer ≡ done r → r ≡ verdictOf (decision n x w)
@@ -111,17 +111,21 @@ pub record Demand2 {R S : Type 0} (z : R) (o : S) : Type 0 where
   -- COMBINING. On the words that both streams cover the operator decides; their number is the run's covered count.
   pub combining-words : (n op : ℕ) (x y : List ℕ) (w : ℕ) → w < min (covered n x) (covered n y) → (d : Bool) × Operated n op x y w d
   -- Whatever f decides these words as the operator does, the output gets the first bytes of its stream for that covered count, as many as fit.
-  pub combining-stream : (n op size : ℕ) (x y out : List ℕ) (t u : List R) (v : List S) (r : Answer) (c : Combine R S) → Combines z o n op size x y out t u v c
+  pub combining-stream : (n op size : ℕ) (x y out : List ℕ) (t u : List R) (v : List S) (r : Answer) (c : Combine R S)
+      → Combines z o n op size x y out t u v c
       → let k = min (covered n x) (covered n y) in
       c .answer ≡ done r → (f : ℕ → Bool) → ((w : ℕ) → w < k → Operated n op x y w (f w)) → Gets n k (runText n size k f) out r (c .output)
   -- The written bytes, whatever the ending, are accepted and decide the words that they cover as the operator does.
-  pub combining-read : (n op size : ℕ) (x y out : List ℕ) (t u : List R) (v : List S) (r : Answer) (c : Combine R S) → Combines z o n op size x y out t u v c
+  pub combining-read : (n op size : ℕ) (x y out : List ℕ) (t u : List R) (v : List S) (r : Answer) (c : Combine R S)
+      → Combines z o n op size x y out t u v c
       → c .answer ≡ done r → ReadAs n (r .covered) (Operated n op x y) (take (r .written) (c .output))
   -- If the ending is "whole" they are complete, and cover every word.
-  pub combining-whole : (n op size : ℕ) (x y out : List ℕ) (t u : List R) (v : List S) (r : Answer) (c : Combine R S) → Combines z o n op size x y out t u v c
+  pub combining-whole : (n op size : ℕ) (x y out : List ℕ) (t u : List R) (v : List S) (r : Answer) (c : Combine R S)
+      → Combines z o n op size x y out t u v c
       → c .answer ≡ done r → r .ending ≡ whole → Complete n (take (r .written) (c .output))
   -- "reading that stream gives the same decisions": deciding a word that the written bytes cover answers what the operator decides there.
-  pub combining-decided : (n op size : ℕ) (x y out : List ℕ) (t u : List R) (v : List S) (r : Answer) (c : Combine R S) → Combines z o n op size x y out t u v c
+  pub combining-decided : (n op size : ℕ) (x y out : List ℕ) (t u : List R) (v : List S) (r : Answer) (c : Combine R S)
+      → Combines z o n op size x y out t u v c
       → let bytes = take (r .written) (c .output) in
       c .answer ≡ done r
       → (w : ℕ) (p : List R) (k : Read Verdict R) → Decides z n bytes w p k → w < covered n bytes → tableLimit ≤ length p
@@ -155,7 +159,8 @@ pub record Demand3 {R S : Type 0} (z : R) (o : S) : Type 0 where
 pub demand-1 : {R S : Type 0} (z : R) (o : S) → Demand1 z o
 unfolding check decide fill write combine
 demand-1 {R} {S} z o = record {
-  check-refused = λ n x t c e. subst⁻¹ (λ (c : Read Checked R). TurnedDown (x ∷ []) (checkLines n x (length t)) (c .answer)) e (T.check-lines n x (length t));
+  check-refused = λ n x t c e. subst⁻¹ (λ (c : Read Checked R). TurnedDown (x ∷ []) (checkLines n x (length t)) (c .answer)) e
+      (T.check-lines n x (length t));
   decide-refused = λ n x w t c e.
       subst⁻¹ (λ (c : Read Verdict R). TurnedDown (x ∷ []) (decideLines n x w (length t)) (c .answer)) e (T.decide-lines n x w (length t));
   fill-refused = λ n x truths t c e.
@@ -171,12 +176,14 @@ demand-1 {R} {S} z o = record {
   fill-table = λ n x truths t c e. subst⁻¹ (λ (c : Fill R). TableLeft z (c .answer) t (c .table)) e (M.fill-table z n x truths t);
   write-table = λ n size truths out v c e. subst⁻¹ (λ (c : Write S). TableLeft o (c .answer) v (c .table)) e (M.write-table o n size truths out v);
   combine-tables = λ n op size x y out t u v c e.
-      subst⁻¹ (λ (c : Combine R S). TableLeft z (c .answer) t (c .first) × TableLeft z (c .answer) u (c .second) × TableLeft o (c .answer) v (c .third)) e
+      subst⁻¹ (λ (c : Combine R S). TableLeft z (c .answer) t (c .first) × TableLeft z (c .answer) u (c .second)
+      × TableLeft o (c .answer) v (c .third)) e
       (M.combine-tables z o n op size x y out t u v);
   fill-truths = λ n x truths t c e.
       subst⁻¹ (λ (c : Fill R). ((f : Refusal) → c .answer ≡ refused f → c .truths ≡ truths) × (length (c .truths) ≡ length truths)) e
       (L.fill-refused z n x truths t, M.fill-length z n x truths t);
-  write-output = λ n size truths out v c e. subst⁻¹ (λ (c : Write S). OutputLeft (c .answer) out (c .output)) e (M.write-output o n size truths out v);
+  write-output = λ n size truths out v c e. subst⁻¹ (λ (c : Write S). OutputLeft (c .answer) out (c .output)) e
+      (M.write-output o n size truths out v);
   combine-output = λ n op size x y out t u v c e.
       subst⁻¹ (λ (c : Combine R S). OutputLeft (c .answer) out (c .output)) e (M.combine-output z o n op size x y out t u v);
 }

@@ -5,14 +5,14 @@ use mathlib.Core.List.{List, [], _∷_, map}
 use Prim.Native.Nat.{ℕ, _+_}
 use native.Mathlib.Omega.{arith}
 use lib.ListN.{take, replicate}
-use Rattle.reading.specs.Limits.{optionLimit, tableLimit}
-use Rattle.reading.specs.Bytes.{text}
-use Rattle.reading.specs.Causes.{optionCount, operatorCode, sizeToWrite, wordRange, truthTable, notInTable, tooDeep, refused, done, refusal}
-use Rattle.reading.specs.Reading.{reading}
-use Rattle.reading.specs.Calls.{complete, cut, check, isNo, isYes, decide, fill}
-use Rattle.reading.specs.Covered.{covered}
-use Rattle.writing.specs.Run.{whole, inputEnded, outputFull}
-use Rattle.writing.specs.Calls.{write, Combine, combine}
+use Rattle.theory_reading.specs.Limits.{optionLimit, tableLimit}
+use Rattle.theory_reading.specs.Bytes.{text}
+use Rattle.theory_reading.specs.Causes.{optionCount, operatorCode, sizeToWrite, wordRange, truthTable, notInTable, tooDeep, refused, done, refusal}
+use Rattle.theory_reading.specs.Reading.{reading}
+use Rattle.theory_reading.specs.Calls.{complete, cut, check, isNo, isYes, decide, fill}
+use Rattle.theory_reading.specs.Covered.{covered}
+use Rattle.theory_writing.specs.Run.{whole, inputEnded, outputFull}
+use Rattle.theory_writing.specs.Calls.{write, Combine, combine}
 use Rattle.claims.specs.Terms.{First, AllUnmet, combineLines, Operated, ReadAs, Complete}
 use Rattle.claims.specs.Claims.{demand-1, demand-2, Together, demand-3}
 
@@ -61,7 +61,8 @@ faulty-both = refl
 -- demand 1 of this call: what it is refused with is what the first line that is met returns
 faulty-first : First (combineLines 3 14 4 (text "4\n((((") (text "4\n(1).") tableLimit tableLimit tableLimit) (refusal tooDeep 1 5)
 unfolding combine text
-faulty-first = demand-1 {R = ℕ} {S = ℕ} 0 0 .combine-refused 3 14 4 (text "4\n((((") (text "4\n(1).") output table table table _ refl .exactly _ .0 refl
+faulty-first = demand-1 {R = ℕ} {S = ℕ} 0 0 .combine-refused 3 14 4 (text "4\n((((") (text "4\n(1).") output table table table _ refl .exactly _ .0
+    refl
 
 -- an operator above 15 comes before the streams, and all is as it was
 no-operator : run 16 (text "4\n((((") second output ≡ record {
@@ -87,14 +88,15 @@ two-bytes : fill 0 3 first (1 ∷ 2 ∷ []) table ≡ record { answer = refused 
 unfolding fill text
 two-bytes = refl
 
-large-size : write 0 3 (tableLimit + 1) (232 ∷ []) output table ≡ record { answer = refused (refusal sizeToWrite 0 0); table = table; output = output }
+large-size : write 0 3 (tableLimit + 1) (232 ∷ []) output table ≡ record
+    { answer = refused (refusal sizeToWrite 0 0); table = table; output = output }
 unfolding write text
 large-size = refl
 
 -- ---- Demand 2 --------------------------------------------------------------------------------
 
 -- the run of the paper, whole; the bytes beyond those written keep their content
-joined : run 14 first second output ≡ record {
+combined : run 14 first second output ≡ record {
   answer = done (record { written = 23; covered = 8; ending = whole });
   first = zeros;
   second = zeros;
@@ -102,39 +104,39 @@ joined : run 14 first second output ≡ record {
   output = text "4\n(((0~0):1)(1~0):2):3......";
 }
 unfolding combine text
-joined = refl
+combined = refl
 
 -- its written bytes are accepted, complete, and decide each word as OR does
 abbrev written : List ℕ
 unfolding combine text
 written = take 23 (run 14 first second output .output)
 
-joined-checked : check 0 3 written table .answer ≡ done (record { size = 4; covered = 8; extent = complete })
+combined-checked : check 0 3 written table .answer ≡ done (record { size = 4; covered = 8; extent = complete })
 unfolding combine check text
-joined-checked = refl
+combined-checked = refl
 
-joined-decided : map (λ w. decide 0 3 written w table .answer) (0 ∷ 1 ∷ 2 ∷ 3 ∷ 4 ∷ 5 ∷ 6 ∷ 7 ∷ [])
+combined-decided : map (λ w. decide 0 3 written w table .answer) (0 ∷ 1 ∷ 2 ∷ 3 ∷ 4 ∷ 5 ∷ 6 ∷ 7 ∷ [])
     ≡ map done (isNo ∷ isYes ∷ isNo ∷ isYes ∷ isNo ∷ isYes ∷ isYes ∷ isYes ∷ [])
 unfolding combine decide text
-joined-decided = refl
+combined-decided = refl
 
 -- demand 2 of this run, and demand 1: it meets no cause
-joined-read : ReadAs 3 8 (Operated 3 14 first second) written
+combined-read : ReadAs 3 8 (Operated 3 14 first second) written
 unfolding combine text
-joined-read = demand-2 {R = ℕ} {S = ℕ} 0 0 .combining-read 3 14 4 first second output table table table _ _ refl refl
+combined-read = demand-2 {R = ℕ} {S = ℕ} 0 0 .combining-read 3 14 4 first second output table table table _ _ refl refl
 
-joined-complete : Complete 3 written
+combined-complete : Complete 3 written
 unfolding combine text
-joined-complete = demand-2 {R = ℕ} {S = ℕ} 0 0 .combining-whole 3 14 4 first second output table table table _ _ refl refl refl
+combined-complete = demand-2 {R = ℕ} {S = ℕ} 0 0 .combining-whole 3 14 4 first second output table table table _ _ refl refl refl
 
-joined-unmet : AllUnmet (combineLines 3 14 4 first second tableLimit tableLimit tableLimit)
+combined-unmet : AllUnmet (combineLines 3 14 4 first second tableLimit tableLimit tableLimit)
 unfolding combine text
-joined-unmet = demand-1 {R = ℕ} {S = ℕ} 0 0 .combine-refused 3 14 4 first second output table table table _ refl .unless .0 (_, refl)
+combined-unmet = demand-1 {R = ℕ} {S = ℕ} 0 0 .combine-refused 3 14 4 first second output table table table _ refl .unless .0 (_, refl)
 
 -- an output that is too short gets the first bytes, which are accepted and cover two words
-joined-short : run 14 first second (text "...........") .answer ≡ done (record { written = 11; covered = 8; ending = outputFull })
+combined-short : run 14 first second (text "...........") .answer ≡ done (record { written = 11; covered = 8; ending = outputFull })
 unfolding combine text
-joined-short = refl
+combined-short = refl
 
 short-checked : check 0 3 (run 14 first second (text "...........") .output) table .answer ≡ done (record { size = 4; covered = 2; extent = cut })
 unfolding combine check text
@@ -174,9 +176,9 @@ unfolding combine reading text
 begun-covered = refl
 
 -- THE PAIR: demand 3 of this run and the run of the paper
-begun-joined : Together 3 14 first begun first second
+begun-combined : Together 3 14 first begun first second
     (record { written = 11; covered = 4; ending = inputEnded }) (record { written = 23; covered = 8; ending = whole })
     (text "4\n(((0~0):1") (text "4\n(((0~0):1)(1~0):2):3.")
 unfolding combine text
-begun-joined = demand-3 {R = ℕ} {S = ℕ} 0 0 .runs 3 14 4 first begun [] rest (text "............") output
+begun-combined = demand-3 {R = ℕ} {S = ℕ} 0 0 .runs 3 14 4 first begun [] rest (text "............") output
     table table table table table table _ _ _ _ refl refl (omega arith) refl refl

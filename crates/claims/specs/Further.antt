@@ -8,31 +8,31 @@ use mathlib.Core.List.{List, _++_, List·Memᴰ}
 use mathlib.Core.Option.{none, some}
 use Prim.Native.Nat.{ℕ, suc, _≤_, _<_, _^_}
 use lib.ListN.{length, take}
-use Rattle.lists.specs.Lists.{has, Distinct}
-use Rattle.reading.specs.Causes.{wrongByte}
-use Rattle.reading.specs.Grammar.{IsStream, Viable}
-use Rattle.reading.specs.Nodes.{hasParent}
-use Rattle.reading.specs.Element.{over, fault, ranOut}
-use Rattle.reading.specs.Reading.{Fault, Reading, reading}
-use Rattle.reading.specs.Deciding.{decided, decision}
-use Rattle.reading.specs.Covered as C
-use Rattle.reading.specs.Covered.{covered}
-use Rattle.reading.specs.Prefix as P
-use Rattle.reading.specs.CauseSeven as G
-use Rattle.writing.specs.UniqueTable.{start}
-use Rattle.writing.specs.Rules.{part}
-use Rattle.writing.specs.Run.{runText, writtenBytes, outputAfter, outputFull, answerOf}
-use Rattle.writing.specs.PaperRows as R
-use Rattle.writing.specs.PaperRows.{Row, rows, Holds}
-use Rattle.writing.specs.Queue as Q
-use Rattle.writing.specs.Grows as W
-use Rattle.writing.specs.Output as O
+use Rattle.theory_lists.specs.Lists.{has, Distinct}
+use Rattle.theory_reading.specs.Causes.{wrongByte}
+use Rattle.theory_reading.specs.Grammar.{IsStream, Viable}
+use Rattle.theory_reading.specs.Nodes.{hasParent}
+use Rattle.theory_reading.specs.Element.{over, fault, ranOut}
+use Rattle.theory_reading.specs.Reading.{Fault, Reading, reading}
+use Rattle.theory_reading.specs.Deciding.{decided, decision}
+use Rattle.theory_reading.specs.Covered as C
+use Rattle.theory_reading.specs.Covered.{covered}
+use Rattle.theory_reading.specs.Prefix as P
+use Rattle.theory_reading.specs.CauseSeven as G
+use Rattle.theory_writing.specs.UniqueTable.{start}
+use Rattle.theory_writing.specs.Rules.{part}
+use Rattle.theory_writing.specs.Run.{runText, writtenBytes, outputAfter, outputFull, answerOf}
+use Rattle.theory_writing.specs.PaperCases as R
+use Rattle.theory_writing.specs.PaperCases.{Case, rows, Holds}
+use Rattle.theory_writing.specs.Queue as Q
+use Rattle.theory_writing.specs.Grows as W
+use Rattle.theory_writing.specs.Output as O
 
 -- ---- The examples marked P -------------------------------------------------------------------
 
 -- Each row of the table P1 to P12 holds: what is written, and what checking answers.
-pub paper-rows : (r : Row) → List·Memᴰ r rows → Holds r
-paper-rows = R.the-table
+pub paper-cases : (r : Case) → List·Memᴰ r rows → Holds r
+paper-cases = R.the-table
 
 -- ---- Cause 7 and the grammar -----------------------------------------------------------------
 
@@ -46,7 +46,7 @@ pub no-fault : (n : ℕ) (bytes : List ℕ) → reading n bytes .fault ≡ none 
 no-fault = G.viable-so-far
 
 -- Of bytes without fault, those that have come to the point are exactly the streams of the grammar.
-pub complete-streams : (n : ℕ) (bytes : List ℕ) → reading n bytes .fault ≡ none → (reading n bytes .state .place .mark ≡ over) ↔ IsStream bytes
+pub complete-streams : (n : ℕ) (bytes : List ℕ) → reading n bytes .fault ≡ none → (reading n bytes .state .place .context ≡ over) ↔ IsStream bytes
 complete-streams n bytes e = (G.complete-stream n bytes e, λ h. G.stream-complete n bytes h e)
 
 -- The reader, which only steps, stops at the same byte: where it finds cause 7, and where the bytes run out.
@@ -54,7 +54,8 @@ pub reader-cause-seven : (bytes : List ℕ) (b : ℕ) → G.stepped bytes .outco
     → (b < length bytes) × Viable (take b bytes) × (Viable (take (suc b) bytes) → ⊥)
 reader-cause-seven = G.stepped-wrong
 
-pub reader-no-fault : (bytes : List ℕ) → G.stepped bytes .outcome ≡ ranOut → Viable bytes × ((G.stepped bytes .place .mark ≡ over) ↔ IsStream bytes)
+pub reader-no-fault : (bytes : List ℕ) → G.stepped bytes .outcome ≡ ranOut → Viable bytes
+    × ((G.stepped bytes .place .context ≡ over) ↔ IsStream bytes)
 reader-no-fault bytes e = (G.stepped-viable bytes e, G.stepped-over bytes e)
 
 -- ---- Longer streams --------------------------------------------------------------------------
@@ -64,7 +65,12 @@ pub longer-streams : (n : ℕ) (x u : List ℕ)
     → ((f : Fault) → reading n x .fault ≡ some f → reading n (x ++ u) .fault ≡ some f)
     × (covered n x ≤ covered n (x ++ u))
     × ((w : ℕ) (d : Bool) → w < 2 ^ n → decision n x w ≡ decided d → decision n (x ++ u) w ≡ decided d)
-longer-streams n x u = (λ f e. ap (λ (r : Reading). r .fault) (P.fault-stands n x u f e) ∙ e, C.covered-grows n x u, λ w d. C.decision-stands n x u w d)
+longer-streams n x u = (
+  λ f e. ap (λ (r : Reading). r .fault) (P.fault-stands n x u f e)
+      ∙ e,
+  C.covered-grows n x u,
+  λ w d. C.decision-stands n x u w d,
+)
 
 -- ---- Writing ---------------------------------------------------------------------------------
 

@@ -6,18 +6,18 @@ use Prim.Native.Nat.{ℕ, zero, suc, _/_, _%_, _≤_, _<_, _^_}
 use native.Mathlib.Nat.{pow-suc}
 use native.Mathlib.Omega.{arith}
 use lib.ListN.{length, drop, getD}
-use Rattle.lists.specs.Lists.{All}
-use Rattle.reading.specs.Limits.{truthTableLeast}
-use Rattle.reading.specs.LimitLaws.{truth-bytes}
-use Rattle.reading.specs.Causes.{Result, refused, done, tableAfter, unlessRefused}
-use Rattle.reading.specs.Deciding.{decision, trace}
-use Rattle.reading.specs.Calls.{check, checkAnswer, decide, decideAnswer, digitOf, verdictOf, bytesFrom, fill, fillAnswer}
-use Rattle.reading.specs.CallLaws.{keeps-output, keeps-table, zeroes-table, zeroes-done, filled-word, filled-length, filled-bytes}
-use Rattle.reading.specs.Covered.{covered}
-use Rattle.writing.specs.Run.{runCovered, Answer, answerOf, outputAfter}
-use Rattle.writing.specs.Output.{output-beyond, output-length}
-use Rattle.writing.specs.Calls.{writeText, writeAnswer, write, combineText, combineAnswer, Combine, combine}
-use Rattle.writing.specs.CallLaws.{write-refused, combine-refused, combine-untouched, combine-zeroed, combine-done}
+use Rattle.theory_lists.specs.Lists.{All}
+use Rattle.theory_reading.specs.Limits.{truthTableLeast}
+use Rattle.theory_reading.specs.LimitLaws.{truth-bytes}
+use Rattle.theory_reading.specs.Causes.{Result, refused, done, tableAfter, unlessRefused}
+use Rattle.theory_reading.specs.Deciding.{decision, trace}
+use Rattle.theory_reading.specs.Calls.{check, checkAnswer, decide, decideAnswer, digitOf, verdictOf, bytesFrom, fill, fillAnswer}
+use Rattle.theory_reading.specs.CallLaws.{keeps-output, keeps-table, zeroes-table, zeroes-done, filled-word, filled-length, filled-bytes}
+use Rattle.theory_reading.specs.Covered.{covered}
+use Rattle.theory_writing.specs.Run.{runCovered, Answer, answerOf, outputAfter}
+use Rattle.theory_writing.specs.Output.{output-beyond, output-length}
+use Rattle.theory_writing.specs.Calls.{writeText, writeAnswer, write, combineText, combineAnswer, Combine, combine}
+use Rattle.theory_writing.specs.CallLaws.{write-refused, combine-refused, combine-untouched, combine-zeroed, combine-done}
 use Rattle.claims.specs.Terms.{TableLeft, OutputLeft}
 use Rattle.claims.specs.Refused.{fill-by, write-by, inputs, Streams, combine-by, not-above, not-apart}
 
@@ -47,7 +47,8 @@ module _ {R S : Type 0} (z : R) (o : S) (n op size : ℕ) (x y out : List ℕ) (
   abbrev call : Combine R S
   call = combine z o n op size x y out t u v
 
-  pub combine-tables : TableLeft z (call .answer) t (call .first) × TableLeft z (call .answer) u (call .second) × TableLeft o (call .answer) v (call .third)
+  pub combine-tables : TableLeft z (call .answer) t (call .first) × TableLeft z (call .answer) u (call .second)
+      × TableLeft o (call .answer) v (call .third)
   combine-tables =
       let k = combine-untouched z o n op size x y out t u v in
       let e = combine-zeroed z o n op size x y out t u v in
@@ -65,8 +66,11 @@ beyond : (n c : ℕ) (text out : List ℕ) (a : Result Answer) (r : Answer) → 
 unfolding answerOf unlessRefused
 beyond n c text out a r e h =
     let p = ap (λ (b : Result Answer). unlessRefused b out (λ _. outputAfter text out)) e in
-    let cut : List ℕ → Answer → List ℕ = λ l q. drop (q .written) l in
-    (ap (λ (l : List ℕ). cut l r) p ∙ ap (cut (outputAfter text out)) h ∙ output-beyond text out ∙ sym (ap (cut out) h), ap length p ∙ output-length text out)
+    let cut : List ℕ → Answer → List ℕ = λ l q. drop (q .written) l in (
+      ap (λ (l : List ℕ). cut l r) p ∙ ap (cut (outputAfter text out)) h ∙ output-beyond text out ∙ sym (ap (cut out) h),
+      ap length p
+          ∙ output-length text out,
+    )
 
 pub write-output : {R : Type 0} (z : R) (n size : ℕ) (truths out : List ℕ) (t : List R)
     → let c = write z n size truths out t in OutputLeft (c .answer) out (c .output)

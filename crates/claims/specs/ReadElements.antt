@@ -9,30 +9,34 @@ use native.Mathlib.Omega.{arith}
 use lib.Dec.{ltb, eqb}
 use lib.ListN.{length, getD, drop, set, replicate, getElem?}
 use borrow.Author.Tests.{eq-eqb, ne-eqb, lt-ltb, le-ltb}
-use Rattle.reading.specs.Limits.{optionLimit, openLimit, tableLimit}
-use Rattle.reading.specs.LimitLaws.{open-options}
-use Rattle.reading.specs.Bytes.{opener, closer, tilde, colon, dot, blank, lineFeed, isDigit}
-use Rattle.reading.specs.Nodes.{Ref, terminal, entry, temporary, isKept, child, Node, newNode, noNode, node, stamp, bars}
-use Rattle.reading.specs.Causes.{notStorable}
-use Rattle.reading.specs.Element.{number, constant, closing, Open, inFirst, inSecond, Mark, start, lead, begins, afterDigit, afterTwo, afterOne, over, place, moved, read, numberAt, Step, gives, sizeRead, numberRead, nodeBegins, afterColon, stepBy, stepOn, step}
-use Rattle.reading.specs.Reading.{children, State, state, Reading, goes, fails, fresh, level, isStart, isBad, withElement, barredColon, firstDigit, after, advance, next}
-use Rattle.reading.specs.Deciding.{Diagram, missing, leaf, branch, top, below, Drawing, drawing, draw, drawUnless, Trace, traced, nextTrace, traceOn}
-use Rattle.reading.specs.Prefix.{traceOn-add}
-use Rattle.writing.specs.Texts.{decimal}
-use Rattle.claims.specs.Numerals.{digit-not, Stops, drop-one, drop-byte, drop-look, Scanned, scanned}
+use Rattle.theory_reading.specs.Limits.{optionLimit, openLimit, tableLimit}
+use Rattle.theory_reading.specs.LimitLaws.{open-options}
+use Rattle.theory_reading.specs.Bytes.{opener, closer, tilde, colon, dot, blank, lineFeed, isDigit}
+use Rattle.theory_reading.specs.Nodes.{Ref, terminal, entry, temporary, isKept, child, Node, newNode, noNode, node, stamp, bars}
+use Rattle.theory_reading.specs.Causes.{notStorable}
+use Rattle.theory_reading.specs.Element.{number, constant, closing, Open, inFirst, inSecond, Context, start, lead, begins, afterDigit, afterTwo}
+use Rattle.theory_reading.specs.Element.{afterOne, over, place, moved, read, numberAt, Step, gives, sizeRead, numberRead, nodeBegins, afterColon}
+use Rattle.theory_reading.specs.Element.{stepBy, stepOn, step}
+use Rattle.theory_reading.specs.Reading.{children, State, state, Reading, goes, fails, fresh, level, isStart, isBad, withElement, barredColon}
+use Rattle.theory_reading.specs.Reading.{firstDigit, after, advance, next}
+use Rattle.theory_reading.specs.Deciding.{Diagram, missing, leaf, branch, top, below, Drawing, drawing, draw, drawUnless, Trace, traced, nextTrace}
+use Rattle.theory_reading.specs.Deciding.{traceOn}
+use Rattle.theory_reading.specs.Prefix.{traceOn-add}
+use Rattle.theory_writing.specs.Texts.{decimal}
+use Rattle.claims.specs.Numerals.{digit-not, Stops, drop-one, drop-byte, drop-lookup, Scanned, scanned}
 
 -- ---- Where a reading stands ------------------------------------------------------------------
 
 -- z at another place
-abbrev pub here : ℕ → Mark → List Open → State → State
+abbrev pub here : ℕ → Context → List Open → State → State
 here a m u z = state (place a m u (z .place .last)) (z .size) (z .covered) (z .complement) (z .table) (z .pair)
 
-abbrev pub standing : ℕ → Mark → List Open → State → Drawing → Trace
+abbrev pub standing : ℕ → Context → List Open → State → Drawing → Trace
 standing a m u z d = traced (goes (here a m u z)) d
 
 -- z with one thing changed
 abbrev pub withLast : Ref → State → State
-withLast r z = state (place (z .place .at) (z .place .mark) (z .place .opens) r) (z .size) (z .covered) (z .complement) (z .table) (z .pair)
+withLast r z = state (place (z .place .at) (z .place .context) (z .place .opens) r) (z .size) (z .covered) (z .complement) (z .table) (z .pair)
 
 abbrev pub counting : ℕ → State → State
 counting k z = state (z .place) (z .size) (z .covered + k) (z .complement) (z .table) (z .pair)
@@ -58,7 +62,7 @@ unfolding traceOn
 reach-next n bytes t t′ h e = (h .0 + 1, traceOn-add (h .0) 1 n bytes first ∙ ap (nextTrace n bytes) (h .1) ∙ e)
 
 -- where a node may begin
-pub data Starts : Mark → List Open → Type 0 where
+pub data Starts : Context → List Open → Type 0 where
   atLead : {u : List Open} → Starts lead u
   atBegins : {u : List Open} → Starts begins u
   onDigit : {o : List Open} → Starts afterDigit (inFirst ∷ o)
@@ -66,7 +70,7 @@ pub data Starts : Mark → List Open → Type 0 where
   onOne : {o : List Open} → Starts afterOne (inFirst ∷ o)
 
 -- where a node has ended
-pub data Ends : Mark → Type 0 where
+pub data Ends : Context → Type 0 where
   endDigit : Ends afterDigit
   endTwo : Ends afterTwo
   endOne : Ends afterOne
@@ -77,7 +81,7 @@ second r [] = []
 second r (x ∷ o) = inSecond r false ∷ o
 
 -- the open nodes around a node that begins
-abbrev pub aroundOf : Mark → Ref → List Open → List Open
+abbrev pub aroundOf : Context → Ref → List Open → List Open
 aroundOf start r u = u
 aroundOf lead r u = u
 aroundOf begins r u = u
@@ -86,7 +90,7 @@ aroundOf afterTwo r u = second r u
 aroundOf afterOne r u = second r u
 aroundOf over r u = u
 
-pub starts-length : (m : Mark) (u : List Open) (r : Ref) → Starts m u → length (aroundOf m r u) ≡ length u
+pub starts-length : (m : Context) (u : List Open) (r : Ref) → Starts m u → length (aroundOf m r u) ≡ length u
 starts-length lead u r atLead = refl
 starts-length begins u r atBegins = refl
 starts-length afterDigit (inFirst ∷ o) r onDigit = refl
@@ -102,64 +106,80 @@ brings n s d b t x =
     traced r (drawUnless (r .fault) s (x .outcome) d)
 
 next-at : (n : ℕ) (bytes : List ℕ) (s : State) (d : Drawing) (b : ℕ) (bs : List ℕ) → drop (s .place .at) bytes ≡ b ∷ bs → barredColon s b ≡ false
-    → nextTrace n bytes (traced (goes s) d) ≡ brings n s d b false (stepBy bytes (s .place) b (s .place .mark))
+    → nextTrace n bytes (traced (goes s) d) ≡ brings n s d b false (stepBy bytes (s .place) b (s .place .context))
 unfolding nextTrace next advance step
 next-at n bytes s d b bs e nb =
     ap (λ (c : ℕ). brings n s d c (barredColon s c) (stepOn bytes (s .place) (getElem? bytes (s .place .at)))) (drop-byte (s .place .at) bytes b bs e)
-    ∙ ap (λ (o : Option ℕ). brings n s d b (barredColon s b) (stepOn bytes (s .place) o)) (drop-look (s .place .at) bytes b bs e)
-    ∙ ap (λ (t : Bool). brings n s d b t (stepBy bytes (s .place) b (s .place .mark))) nb
+    ∙ ap (λ (o : Option ℕ). brings n s d b (barredColon s b) (stepOn bytes (s .place) o)) (drop-lookup (s .place .at) bytes b bs e)
+    ∙ ap (λ (t : Bool). brings n s d b t (stepBy bytes (s .place) b (s .place .context))) nb
 
 module _ (n a : ℕ) (z : State) (d : Drawing) (bytes : List ℕ) where
   -- `(`
   open-node : (s : State) (o : List Open) → ltb (length o) openLimit ≡ true → ltb n (level (s .place)) ≡ false
-      → brings n s d opener false (nodeBegins bytes (s .place) o opener) ≡ traced (goes (state (moved (s .place) (s .place .at + 1) begins (inFirst ∷ o)) (s .size) (s .covered) (s .complement) (s .table) (s .pair))) d
+      → brings n s d opener false (nodeBegins bytes (s .place) o opener)
+      ≡ traced (goes (state (moved (s .place) (s .place .at + 1) begins (inFirst ∷ o)) (s .size) (s .covered) (s .complement) (s .table)
+      (s .pair))) d
   unfolding after withElement draw
   open-node s o p q = rw (p, q) refl
 
-  pub open-step : (m : Mark) (u : List Open) (bs : List ℕ) → Starts m u → n ≤ optionLimit → length u < n → drop a bytes ≡ opener ∷ bs
+  pub open-step : (m : Context) (u : List Open) (bs : List ℕ) → Starts m u → n ≤ optionLimit → length u < n → drop a bytes ≡ opener ∷ bs
       → nextTrace n bytes (standing a m u z d) ≡ standing (a + 1) begins (inFirst ∷ aroundOf m (z .place .last) u) z d
   unfolding isDigit
-  open-step lead u bs atLead h l e = next-at n bytes (here a lead u z) d opener bs e refl ∙ open-node (here a lead u z) u (lt-ltb (length u) openLimit (omega (arith, open-options))) (le-ltb n (length u + 1) (omega arith))
-  open-step begins u bs atBegins h l e = next-at n bytes (here a begins u z) d opener bs e refl ∙ open-node (here a begins u z) u (lt-ltb (length u) openLimit (omega (arith, open-options))) (le-ltb n (length u + 1) (omega arith))
-  open-step afterDigit (inFirst ∷ o) bs onDigit h l e = next-at n bytes (here a afterDigit (inFirst ∷ o) z) d opener bs e refl ∙ open-node (here a afterDigit (inFirst ∷ o) z) (second (z .place .last) (inFirst ∷ o)) (lt-ltb (suc (length o)) openLimit (omega (arith, open-options))) (le-ltb n (suc (length o) + 1) (omega arith))
-  open-step afterTwo (inFirst ∷ o) bs onTwo h l e = next-at n bytes (here a afterTwo (inFirst ∷ o) z) d opener bs e refl ∙ open-node (here a afterTwo (inFirst ∷ o) z) (second (z .place .last) (inFirst ∷ o)) (lt-ltb (suc (length o)) openLimit (omega (arith, open-options))) (le-ltb n (suc (length o) + 1) (omega arith))
-  open-step afterOne (inFirst ∷ o) bs onOne h l e = next-at n bytes (here a afterOne (inFirst ∷ o) z) d opener bs e refl ∙ open-node (here a afterOne (inFirst ∷ o) z) (second (z .place .last) (inFirst ∷ o)) (lt-ltb (suc (length o)) openLimit (omega (arith, open-options))) (le-ltb n (suc (length o) + 1) (omega arith))
+  open-step lead u bs atLead h l e = next-at n bytes (here a lead u z) d opener bs e refl
+      ∙ open-node (here a lead u z) u (lt-ltb (length u) openLimit (omega (arith, open-options))) (le-ltb n (length u + 1) (omega arith))
+  open-step begins u bs atBegins h l e = next-at n bytes (here a begins u z) d opener bs e refl
+      ∙ open-node (here a begins u z) u (lt-ltb (length u) openLimit (omega (arith, open-options))) (le-ltb n (length u + 1) (omega arith))
+  open-step afterDigit (inFirst ∷ o) bs onDigit h l e = next-at n bytes (here a afterDigit (inFirst ∷ o) z) d opener bs e refl
+      ∙ open-node (here a afterDigit (inFirst ∷ o) z) (second (z .place .last) (inFirst ∷ o))
+      (lt-ltb (suc (length o)) openLimit (omega (arith, open-options))) (le-ltb n (suc (length o) + 1) (omega arith))
+  open-step afterTwo (inFirst ∷ o) bs onTwo h l e = next-at n bytes (here a afterTwo (inFirst ∷ o) z) d opener bs e refl
+      ∙ open-node (here a afterTwo (inFirst ∷ o) z) (second (z .place .last) (inFirst ∷ o))
+      (lt-ltb (suc (length o)) openLimit (omega (arith, open-options))) (le-ltb n (suc (length o) + 1) (omega arith))
+  open-step afterOne (inFirst ∷ o) bs onOne h l e = next-at n bytes (here a afterOne (inFirst ∷ o) z) d opener bs e refl
+      ∙ open-node (here a afterOne (inFirst ∷ o) z) (second (z .place .last) (inFirst ∷ o))
+      (lt-ltb (suc (length o)) openLimit (omega (arith, open-options))) (le-ltb n (suc (length o) + 1) (omega arith))
 
   -- `~`
-  pub turn-step : (m : Mark) (o : List Open) (bs : List ℕ) → Ends m → drop a bytes ≡ tilde ∷ bs → nextTrace n bytes (standing a m (inFirst ∷ o) z d) ≡ standing (a + 1) begins (inSecond (z .place .last) true ∷ o) z d
+  pub turn-step : (m : Context) (o : List Open) (bs : List ℕ) → Ends m → drop a bytes ≡ tilde ∷ bs
+      → nextTrace n bytes (standing a m (inFirst ∷ o) z d) ≡ standing (a + 1) begins (inSecond (z .place .last) true ∷ o) z d
   unfolding after withElement draw
   turn-step afterDigit o bs endDigit e = next-at n bytes (here a afterDigit (inFirst ∷ o) z) d tilde bs e refl
   turn-step afterTwo o bs endTwo e = next-at n bytes (here a afterTwo (inFirst ∷ o) z) d tilde bs e refl
   turn-step afterOne o bs endOne e = next-at n bytes (here a afterOne (inFirst ∷ o) z) d tilde bs e refl
 
-  pub lead-step : (bs : List ℕ) → drop a bytes ≡ tilde ∷ bs → nextTrace n bytes (standing a lead [] z d) ≡ standing (a + 1) begins [] (complementing z) d
+  pub lead-step : (bs : List ℕ) → drop a bytes ≡ tilde ∷ bs → nextTrace n bytes (standing a lead [] z d)
+      ≡ standing (a + 1) begins [] (complementing z) d
   unfolding after withElement draw
   lead-step bs e = next-at n bytes (here a lead [] z) d tilde bs e refl
 
   -- `)`
-  one-kept : (m : Mark) (o : List Open) → isKept (z .place .last) ≡ true
+  one-kept : (m : Context) (o : List Open) → isKept (z .place .last) ≡ true
       → brings n (here a m (inFirst ∷ o) z) d closer false (gives closing (place (a + 1) afterOne o (z .place .last)))
-      ≡ standing (a + 1) afterOne o (counting (2 ^ (n - length (inFirst ∷ o))) z) (drawing (d .rows) (branch (top (d .stack)) false (top (d .stack)) ∷ below (d .stack)))
+      ≡ standing (a + 1) afterOne o (counting (2 ^ (n - length (inFirst ∷ o))) z)
+      (drawing (d .rows) (branch (top (d .stack)) false (top (d .stack)) ∷ below (d .stack)))
   unfolding after withElement draw
   one-kept m o k = rw k refl
 
-  pub one-step : (m : Mark) (o : List Open) (bs : List ℕ) → Ends m → isKept (z .place .last) ≡ true → drop a bytes ≡ closer ∷ bs
+  pub one-step : (m : Context) (o : List Open) (bs : List ℕ) → Ends m → isKept (z .place .last) ≡ true → drop a bytes ≡ closer ∷ bs
       → nextTrace n bytes (standing a m (inFirst ∷ o) z d)
-      ≡ standing (a + 1) afterOne o (counting (2 ^ (n - length (inFirst ∷ o))) z) (drawing (d .rows) (branch (top (d .stack)) false (top (d .stack)) ∷ below (d .stack)))
+      ≡ standing (a + 1) afterOne o (counting (2 ^ (n - length (inFirst ∷ o))) z)
+      (drawing (d .rows) (branch (top (d .stack)) false (top (d .stack)) ∷ below (d .stack)))
   one-step afterDigit o bs endDigit k e = next-at n bytes (here a afterDigit (inFirst ∷ o) z) d closer bs e refl ∙ one-kept afterDigit o k
   one-step afterTwo o bs endTwo k e = next-at n bytes (here a afterTwo (inFirst ∷ o) z) d closer bs e refl ∙ one-kept afterTwo o k
   one-step afterOne o bs endOne k e = next-at n bytes (here a afterOne (inFirst ∷ o) z) d closer bs e refl ∙ one-kept afterOne o k
 
-  pub two-step : (m : Mark) (r : Ref) (t : Bool) (o : List Open) (bs : List ℕ) → Ends m → drop a bytes ≡ closer ∷ bs
+  pub two-step : (m : Context) (r : Ref) (t : Bool) (o : List Open) (bs : List ℕ) → Ends m → drop a bytes ≡ closer ∷ bs
       → nextTrace n bytes (standing a m (inSecond r t ∷ o) z d)
-      ≡ standing (a + 1) afterTwo o (withLast temporary (paired r t (z .place .last) z)) (drawing (d .rows) (branch (top (below (d .stack))) t (top (d .stack)) ∷ below (below (d .stack))))
+      ≡ standing (a + 1) afterTwo o (withLast temporary (paired r t (z .place .last) z))
+      (drawing (d .rows) (branch (top (below (d .stack))) t (top (d .stack)) ∷ below (below (d .stack))))
   unfolding after withElement draw
   two-step afterDigit r t o bs endDigit e = next-at n bytes (here a afterDigit (inSecond r t ∷ o) z) d closer bs e refl
   two-step afterTwo r t o bs endTwo e = next-at n bytes (here a afterTwo (inSecond r t ∷ o) z) d closer bs e refl
   two-step afterOne r t o bs endOne e = next-at n bytes (here a afterOne (inSecond r t ∷ o) z) d closer bs e refl
 
   -- `.`
-  pub end-step : (m : Mark) (bs : List ℕ) → Ends m → drop a bytes ≡ dot ∷ bs → nextTrace n bytes (standing a m [] z d) ≡ standing (a + 1) over [] z d
+  pub end-step : (m : Context) (bs : List ℕ) → Ends m → drop a bytes ≡ dot ∷ bs → nextTrace n bytes (standing a m [] z d)
+      ≡ standing (a + 1) over [] z d
   unfolding after withElement draw
   end-step afterDigit bs endDigit e = next-at n bytes (here a afterDigit [] z) d dot bs e refl
   end-step afterTwo bs endTwo e = next-at n bytes (here a afterTwo [] z) d dot bs e refl
@@ -183,9 +203,11 @@ Known t i (suc k) = node t (suc k) .level ≡ i
 
 -- the number k is read at the state s, and the reading goes on at the place b inside the open nodes o
 abbrev afterNumber : ℕ → State → Drawing → ℕ → ℕ → List Open → Trace
-afterNumber n s d k b o = standing b afterDigit o (withLast (numbered (s .table) k) (counting (2 ^ (n - length (s .place .opens))) s)) (drawing (d .rows) (diagramOf (d .rows) k ∷ d .stack))
+afterNumber n s d k b o = standing b afterDigit o (withLast (numbered (s .table) k) (counting (2 ^ (n - length (s .place .opens))) s))
+    (drawing (d .rows) (diagramOf (d .rows) k ∷ d .stack))
 
-number-node : (n : ℕ) (s : State) (d : Drawing) (c b k : ℕ) (o : List Open) → isStart (s .place .mark) ≡ false → Known (s .table) (level (s .place)) k
+number-node : (n : ℕ) (s : State) (d : Drawing) (c b k : ℕ) (o : List Open) → isStart (s .place .context) ≡ false
+    → Known (s .table) (level (s .place)) k
     → brings n s d c false (numberRead (s .place) o (read k b)) ≡ afterNumber n s d k b o
 unfolding after withElement draw
 number-node n s d c b zero o e h = refl
@@ -196,7 +218,7 @@ number-node n s d c b (suc k) o e h =
     ap (λ (t : Bool). brings n s d c false (gives (cond t constant (number (suc k))) (moved (s .place) b afterDigit o))) r ∙ rw (e, p, q) (rw e refl)
 
 -- the space before a number
-abbrev pub spaced : Mark → List ℕ
+abbrev pub spaced : Context → List ℕ
 spaced start = []
 spaced lead = []
 spaced begins = []
@@ -206,11 +228,13 @@ spaced afterOne = []
 spaced over = []
 
 module _ (n a : ℕ) (z : State) (d : Drawing) (bytes : List ℕ) (k : ℕ) (post : List ℕ) where
-  abbrev numberDone : ℕ → Mark → List Open → Trace
-  numberDone b m u = standing b afterDigit (aroundOf m (z .place .last) u) (withLast (numbered (z .table) k) (counting (2 ^ (n - length u)) z)) (drawing (d .rows) (diagramOf (d .rows) k ∷ d .stack))
+  abbrev numberDone : ℕ → Context → List Open → Trace
+  numberDone b m u = standing b afterDigit (aroundOf m (z .place .last) u) (withLast (numbered (z .table) k) (counting (2 ^ (n - length u)) z))
+      (drawing (d .rows) (diagramOf (d .rows) k ∷ d .stack))
 
   -- a number after what is no digit
-  begin-number : (c : Scanned bytes a k post) (s : State) (o : List Open) → s .place .at ≡ a → isStart (s .place .mark) ≡ false → Known (s .table) (level (s .place)) k
+  begin-number : (c : Scanned bytes a k post) (s : State) (o : List Open) → s .place .at ≡ a → isStart (s .place .context) ≡ false
+      → Known (s .table) (level (s .place)) k
       → brings n s d (c .d) false (nodeBegins bytes (s .place) o (c .d)) ≡ afterNumber n s d k (a + length (decimal k)) o
   begin-number c s o i e h =
       let p : eqb (c .d) opener ≡ false = digit-not (c .d) opener (c .digit) (inl (omega arith)) in
@@ -227,33 +251,51 @@ module _ (n a : ℕ) (z : State) (d : Drawing) (bytes : List ℕ) (k : ℕ) (pos
   space-number st o h e =
       let s = here a afterDigit (inFirst ∷ o) z in
       let c = scanned bytes (a + 1) k post st (drop-one a bytes blank (decimal k ++ post) e) in
-      let l : getElem? bytes (a + 1) ≡ some (c .d) = drop-look (a + 1) bytes (c .d) (c .ds ++ post) (c .place) in (
+      let l : getElem? bytes (a + 1) ≡ some (c .d) = drop-lookup (a + 1) bytes (c .d) (c .ds ++ post) (c .place) in (
         a + 1 + length (decimal k),
         c .past,
-        next-at n bytes s d blank (decimal k ++ post) e refl ∙ rw (l, c .digit, c .scan) (number-node n s d blank (a + 1 + length (decimal k)) k (second (z .place .last) (inFirst ∷ o)) refl h),
+        next-at n bytes s d blank (decimal k ++ post) e refl ∙ rw (l, c .digit, c .scan)
+            (number-node n s d blank (a + 1 + length (decimal k)) k (second (z .place .last) (inFirst ∷ o)) refl h),
       )
 
-  pub number-step : Stops post → (m : Mark) (u : List Open) → Starts m u → Known (z .table) (length u + 1) k → drop a bytes ≡ spaced m ++ (decimal k ++ post)
+  pub number-step : Stops post → (m : Context) (u : List Open) → Starts m u → Known (z .table) (length u + 1) k → drop a bytes
+      ≡ spaced m ++ (decimal k ++ post)
       → (b : ℕ) × (drop b bytes ≡ post) × (nextTrace n bytes (standing a m u z d) ≡ numberDone b m u)
   number-step st lead u atLead h e =
       let c = scanned bytes a k post st e in
-      let p : eqb (c .d) tilde ≡ false = digit-not (c .d) tilde (c .digit) (inr (omega arith)) in
-      (a + length (decimal k), c .past, next-at n bytes (here a lead u z) d (c .d) (c .ds ++ post) (c .place) refl ∙ rw p (begin-number c (here a lead u z) u refl refl h))
+      let p : eqb (c .d) tilde ≡ false = digit-not (c .d) tilde (c .digit) (inr (omega arith)) in (
+        a + length (decimal k),
+        c .past,
+        next-at n bytes (here a lead u z) d (c .d) (c .ds ++ post) (c .place) refl
+            ∙ rw p (begin-number c (here a lead u z) u refl refl h),
+      )
   number-step st begins u atBegins h e =
-      let c = scanned bytes a k post st e in
-      (a + length (decimal k), c .past, next-at n bytes (here a begins u z) d (c .d) (c .ds ++ post) (c .place) refl ∙ begin-number c (here a begins u z) u refl refl h)
+      let c = scanned bytes a k post st e in (
+        a + length (decimal k),
+        c .past,
+        next-at n bytes (here a begins u z) d (c .d) (c .ds ++ post) (c .place) refl
+            ∙ begin-number c (here a begins u z) u refl refl h,
+      )
   number-step st afterDigit (inFirst ∷ o) onDigit h e = space-number st o h e
   number-step st afterTwo (inFirst ∷ o) onTwo h e =
       let c = scanned bytes a k post st e in
       let p : eqb (c .d) tilde ≡ false = digit-not (c .d) tilde (c .digit) (inr (omega arith)) in
       let q : eqb (c .d) closer ≡ false = digit-not (c .d) closer (c .digit) (inl (omega arith)) in
-      let r : eqb (c .d) colon ≡ false = digit-not (c .d) colon (c .digit) (inr (omega arith)) in
-      (a + length (decimal k), c .past, next-at n bytes (here a afterTwo (inFirst ∷ o) z) d (c .d) (c .ds ++ post) (c .place) (no-colon c true _) ∙ rw (r, p, q) (begin-number c (here a afterTwo (inFirst ∷ o) z) (second (z .place .last) (inFirst ∷ o)) refl refl h))
+      let r : eqb (c .d) colon ≡ false = digit-not (c .d) colon (c .digit) (inr (omega arith)) in (
+        a + length (decimal k),
+        c .past,
+        next-at n bytes (here a afterTwo (inFirst ∷ o) z) d (c .d) (c .ds ++ post) (c .place) (no-colon c true _)
+            ∙ rw (r, p, q) (begin-number c (here a afterTwo (inFirst ∷ o) z) (second (z .place .last) (inFirst ∷ o)) refl refl h),
+      )
   number-step st afterOne (inFirst ∷ o) onOne h e =
       let c = scanned bytes a k post st e in
       let p : eqb (c .d) tilde ≡ false = digit-not (c .d) tilde (c .digit) (inr (omega arith)) in
-      let q : eqb (c .d) closer ≡ false = digit-not (c .d) closer (c .digit) (inl (omega arith)) in
-      (a + length (decimal k), c .past, next-at n bytes (here a afterOne (inFirst ∷ o) z) d (c .d) (c .ds ++ post) (c .place) refl ∙ rw (p, q) (begin-number c (here a afterOne (inFirst ∷ o) z) (second (z .place .last) (inFirst ∷ o)) refl refl h))
+      let q : eqb (c .d) closer ≡ false = digit-not (c .d) closer (c .digit) (inl (omega arith)) in (
+        a + length (decimal k),
+        c .past,
+        next-at n bytes (here a afterOne (inFirst ∷ o) z) d (c .d) (c .ds ++ post) (c .place) refl
+            ∙ rw (p, q) (begin-number c (here a afterOne (inFirst ∷ o) z) (second (z .place .last) (inFirst ∷ o)) refl refl h),
+      )
 
   -- `:` and a number
   abbrev pub storedRow : List Open → Node
@@ -261,20 +303,24 @@ module _ (n a : ℕ) (z : State) (d : Drawing) (bytes : List ℕ) (k : ℕ) (pos
 
   store-number : (u : List Open) (c : Scanned bytes (a + 1) k post) → isBad (here a afterTwo u z) k ≡ false
       → brings n (here a afterTwo u z) d colon false (afterColon bytes (here a afterTwo u z .place) (some (c .d)))
-      ≡ standing (a + 1 + length (decimal k)) afterDigit u (withLast (entry k (suc (stamp (z .table) k))) (tabled (set (z .table) k (storedRow u)) z)) (drawing (set (d .rows) k (top (d .stack))) (d .stack))
+      ≡ standing (a + 1 + length (decimal k)) afterDigit u (withLast (entry k (suc (stamp (z .table) k))) (tabled (set (z .table) k (storedRow u)) z))
+      (drawing (set (d .rows) k (top (d .stack))) (d .stack))
   unfolding after withElement draw
   store-number u c h = rw (c .digit, c .scan, h) refl
 
-  pub store-step : Stops post → (u : List Open) → bars (z .table) (z .pair .first) ≡ false → bars (z .table) (z .pair .second) ≡ false → isBad (here a afterTwo u z) k ≡ false → drop a bytes ≡ colon ∷ (decimal k ++ post)
+  pub store-step : Stops post → (u : List Open) → bars (z .table) (z .pair .first) ≡ false → bars (z .table) (z .pair .second) ≡ false
+      → isBad (here a afterTwo u z) k ≡ false → drop a bytes ≡ colon ∷ (decimal k ++ post)
       → (b : ℕ) × (drop b bytes ≡ post) × (nextTrace n bytes (standing a afterTwo u z d)
-      ≡ standing b afterDigit u (withLast (entry k (suc (stamp (z .table) k))) (tabled (set (z .table) k (storedRow u)) z)) (drawing (set (d .rows) k (top (d .stack))) (d .stack)))
+      ≡ standing b afterDigit u (withLast (entry k (suc (stamp (z .table) k))) (tabled (set (z .table) k (storedRow u)) z))
+      (drawing (set (d .rows) k (top (d .stack))) (d .stack)))
   store-step st u b₁ b₂ h e =
       let c = scanned bytes (a + 1) k post st (drop-one a bytes colon (decimal k ++ post) e) in
-      let l : getElem? bytes (a + 1) ≡ some (c .d) = drop-look (a + 1) bytes (c .d) (c .ds ++ post) (c .place) in (
+      let l : getElem? bytes (a + 1) ≡ some (c .d) = drop-lookup (a + 1) bytes (c .d) (c .ds ++ post) (c .place) in (
         a + 1 + length (decimal k),
         c .past,
         next-at n bytes (here a afterTwo u z) d colon (decimal k ++ post) e (rw (b₁, b₂) refl)
-            ∙ ap (λ (o : Option ℕ). brings n (here a afterTwo u z) d colon false (afterColon bytes (here a afterTwo u z .place) o)) l ∙ store-number u c h,
+            ∙ ap (λ (o : Option ℕ). brings n (here a afterTwo u z) d colon false (afterColon bytes (here a afterTwo u z .place) o)) l
+            ∙ store-number u c h,
       )
 
 -- ---- The size --------------------------------------------------------------------------------
@@ -290,11 +336,13 @@ unfolding isDigit
 line-stops bs = refl
 
 pub size-step : (n : ℕ) (bytes : List ℕ) (k : ℕ) (bs : List ℕ) → k ≤ tableLimit → bytes ≡ decimal k ++ (lineFeed ∷ bs)
-    → (b : ℕ) × (drop b bytes ≡ bs) × (nextTrace n bytes first ≡ standing b lead [] (state (fresh .place) k 0 false (replicate (suc k) noNode) (fresh .pair)) (drawing (replicate (suc k) missing) []))
+    → (b : ℕ) × (drop b bytes ≡ bs) × (nextTrace n bytes first ≡ standing b lead []
+    (state (fresh .place) k 0 false (replicate (suc k) noNode) (fresh .pair)) (drawing (replicate (suc k) missing) []))
 size-step n bytes k bs h e =
     let c = scanned bytes 0 k (lineFeed ∷ bs) (line-stops bs) e in
     let b = 0 + length (decimal k) in (
       b + 1,
       drop-one b bytes lineFeed bs (c .past),
-      next-at n bytes fresh (drawing [] []) (c .d) (c .ds ++ (lineFeed ∷ bs)) (c .place) refl ∙ rw (c .digit, c .scan) (size-node n bytes (c .d) b k h (drop-look b bytes lineFeed bs (c .past))),
+      next-at n bytes fresh (drawing [] []) (c .d) (c .ds ++ (lineFeed ∷ bs)) (c .place) refl
+          ∙ rw (c .digit, c .scan) (size-node n bytes (c .d) b k h (drop-lookup b bytes lineFeed bs (c .past))),
     )

@@ -11,19 +11,20 @@ use native.Mathlib.Omega.{arith}
 use lib.Dec.{ltb, leb}
 use lib.ListN.{length, getD}
 use borrow.Author.Tests.{ltb-true, ltb-false, leb-true, leb-false, eqb-true, eqb-false, not-true, not-false}
-use Rattle.lists.specs.Lists.{decide-eq, decide-le}
-use Rattle.reading.specs.Limits.{optionLimit, tableLimit, truthTableLeast, truthTableMost}
-use Rattle.reading.specs.Causes.{optionCount, operatorCode, sizeToWrite, workTable, wordRange, truthTable}
-use Rattle.reading.specs.Causes.{causeRow, Refusal, refusal, Result, refused, done, Test, test, atCall, firstMet}
-use Rattle.reading.specs.Reading.{Fault, Reading, reading}
-use Rattle.reading.specs.Settled.{never-some, fault-inside, fault-place, fault-leaves}
-use Rattle.reading.specs.Calls.{manyOptions, shortTable, notTruthTable, wrongLength, unlessFault}
-use Rattle.reading.specs.Calls.{checkedOf, checkAnswer, Verdict, verdictOf, verdict, decideAnswer, decide, fillAnswer}
-use Rattle.reading.specs.Deciding.{decision, trace}
-use Rattle.reading.specs.CallLaws.{decide-decision}
-use Rattle.reading.specs.Prefix.{trace-reading}
-use Rattle.writing.specs.Run.{Input, runCovered, answerOf}
-use Rattle.writing.specs.Calls.{largeSize, writeText, writeAnswer, largeOperator, unlessFaults, inputOf, combineText, shortTables, combineAnswer}
+use Rattle.theory_lists.specs.Lists.{decide-eq, decide-le}
+use Rattle.theory_reading.specs.Limits.{optionLimit, tableLimit, truthTableLeast, truthTableMost}
+use Rattle.theory_reading.specs.Causes.{optionCount, operatorCode, sizeToWrite, workTable, wordRange, truthTable}
+use Rattle.theory_reading.specs.Causes.{causeRow, Refusal, refusal, Result, refused, done, Test, test, atCall, firstMet}
+use Rattle.theory_reading.specs.Reading.{Fault, Reading, reading}
+use Rattle.theory_reading.specs.Settled.{never-some, fault-inside, fault-place, fault-leaves}
+use Rattle.theory_reading.specs.Calls.{manyOptions, shortTable, notTruthTable, wrongLength, unlessFault}
+use Rattle.theory_reading.specs.Calls.{checkedOf, checkAnswer, Verdict, verdictOf, verdict, decideAnswer, decide, fillAnswer}
+use Rattle.theory_reading.specs.Deciding.{decision, trace}
+use Rattle.theory_reading.specs.CallLaws.{decide-decision}
+use Rattle.theory_reading.specs.Prefix.{trace-reading}
+use Rattle.theory_writing.specs.Run.{Input, runCovered, answerOf}
+use Rattle.theory_writing.specs.Calls.{largeSize, writeText, writeAnswer, largeOperator, unlessFaults, inputOf, combineText, shortTables}
+use Rattle.theory_writing.specs.Calls.{combineAnswer}
 use Rattle.claims.specs.Terms.{Line, meets, faults, Met, First, AllUnmet, Lowest, NamesCall, NamesPlace, TurnedDown}
 use Rattle.claims.specs.Terms.{checkLines, decideLines, notThreeToSixteen, fillLines, writeLines, combineLines}
 
@@ -52,10 +53,15 @@ pub record By {A : Type 0} (ls : List Line) (v : A) (a : Result A) : Type 0 wher
 
 -- no line: not refused
 by-none : {A : Type 0} (v : A) → By [] v (done v)
-by-none v = record { exactly = λ f. (λ e. clash f v (sym e), λ h. absurd h); unless = λ r. (λ e. (tt, sym (same-done v r e)), λ h. ap done (sym (h .1))) }
+by-none v = record {
+  exactly = λ f. (λ e. clash f v (sym e), λ h. absurd h);
+  unless = λ r.
+      (λ e. (tt, sym (same-done v r e)), λ h. ap done (sym (h .1)));
+}
 
 -- a test that is met if P
-test-line : {A : Type 0} (P : Type 0) (t : Test) (ts : List Test) (ls : List Line) (v : A) (x : Result A) → (t .met ≡ true → P) → (t .met ≡ false → P → ⊥)
+test-line : {A : Type 0} (P : Type 0) (t : Test) (ts : List Test) (ls : List Line) (v : A) (x : Result A) → (t .met ≡ true → P)
+    → (t .met ≡ false → P → ⊥)
     → By ls v (firstMet ts x) → By (meets (t .gives) P ∷ ls) v (firstMet (t ∷ ts) x)
 unfolding firstMet
 test-line {A} P t ts ls v x p q h = go (t .met) p q
@@ -95,7 +101,8 @@ unfolding firstMet
 tests-lines [] ls v x h = h
 tests-lines (t ∷ ts) [] v x h = absurd h
 tests-lines (t ∷ ts) (meets g P ∷ ls) v x h =
-    subst (λ (f : Refusal). By (meets f P ∷ ls) v (firstMet (t ∷ ts) x)) (h .0 .0) (test-line P t ts ls v x (h .0 .1) (h .0 .2) (tests-lines ts ls v x (h .1)))
+    subst (λ (f : Refusal). By (meets f P ∷ ls) v (firstMet (t ∷ ts) x)) (h .0 .0)
+    (test-line P t ts ls v x (h .0 .1) (h .0 .2) (tests-lines ts ls v x (h .1)))
 tests-lines (t ∷ ts) (faults n k y ∷ ls) v x h = absurd (h .0)
 
 -- the fault of a stream
@@ -138,7 +145,8 @@ met-named xs (faults n k x) h f m =
       fault-leaves n x _ (m .0),
       omega (arith, m .1, h .0),
       omega (arith, m .1, h .1),
-      subst⁻¹ (λ (j : ℕ). f .byte < length (getD xs (j - 1) [])) (m .1) (subst⁻¹ (λ (y : List ℕ). f .byte < length y) (h .2) (fault-inside n x _ (m .0))),
+      subst⁻¹ (λ (j : ℕ). f .byte < length (getD xs (j - 1) [])) (m .1)
+          (subst⁻¹ (λ (y : List ℕ). f .byte < length y) (h .2) (fault-inside n x _ (m .0))),
     )
 
 first-named : (xs : List (List ℕ)) (ls : List Line) → AllFit xs ls → (f : Refusal) → First ls f → NamesCall f ⊎ NamesPlace xs f
@@ -223,7 +231,8 @@ check-by n x records = tests-lines (manyOptions n ∷ shortTable records ∷ [])
     (above (atCall optionCount) optionLimit n, (above (atCall workTable) records tableLimit, fault-line n 1 x [] _ _ (by-none _)))
 
 pub check-lines : (n : ℕ) (x : List ℕ) (records : ℕ) → TurnedDown (x ∷ []) (checkLines n x records) (checkAnswer n x records)
-check-lines n x records = turned-down (x ∷ []) _ _ _ ((refl, refl, refl, refl), ((refl, refl, refl, refl), one-stream n x)) (omega arith, (omega arith, tt)) (check-by n x records)
+check-lines n x records = turned-down (x ∷ []) _ _ _ ((refl, refl, refl, refl), ((refl, refl, refl, refl), one-stream n x))
+    (omega arith, (omega arith, tt)) (check-by n x records)
 
 pub decide-lines : (n : ℕ) (x : List ℕ) (w records : ℕ) → TurnedDown (x ∷ []) (decideLines n x w records) (decideAnswer n x w records)
 unfolding decideAnswer
@@ -231,7 +240,8 @@ decide-lines n x w records =
     let v = verdict n (trace n x) w in
     let f : trace n x .reading .fault ≡ reading n x .fault = ap (λ (r : Reading). r .fault) (trace-reading n x) in
     let rest = subst⁻¹ (λ (o : Option Fault). By (faults n 1 x ∷ []) v (unlessFault 1 o (done v))) f (fault-line n 1 x [] v (done v) (by-none v)) in
-    turned-down (x ∷ []) _ v _ ((refl, refl, refl, refl), ((refl, refl, refl, refl), ((refl, refl, refl, refl), one-stream n x))) (omega arith, (omega arith, (omega arith, tt)))
+    turned-down (x ∷ []) _ v _ ((refl, refl, refl, refl), ((refl, refl, refl, refl), ((refl, refl, refl, refl), one-stream n x)))
+    (omega arith, (omega arith, (omega arith, tt)))
     (tests-lines (manyOptions n ∷ shortTable records ∷ test (atCall wordRange) (leb (2 ^ n) w) ∷ []) _ v _
     (above (atCall optionCount) optionLimit n, (above (atCall workTable) records tableLimit, (from (atCall wordRange) (2 ^ n) w, rest))))
 
@@ -241,30 +251,40 @@ pub decide-decided : {R : Type 0} (z : R) (n : ℕ) (x : List ℕ) (w : ℕ) (t 
 unfolding decide
 decide-decided z n x w t r e =
     let m = decide-lines n x w (length t) .unless .0 (r, e) in
-    let h = decide-decision z n x w t (not-above n optionLimit (m .0)) (not-above tableLimit (length t) (m .1 .0)) (below (m .1 .1 .0)) (m .1 .1 .1 .0) in
+    let h = decide-decision z n x w t (not-above n optionLimit (m .0)) (not-above tableLimit (length t) (m .1 .0)) (below (m .1 .1 .0))
+    (m .1 .1 .1 .0) in
     same-done r (verdictOf (decision n x w)) (sym e ∙ h)
   where
     below : (2 ^ n ≤ w → ⊥) → w < 2 ^ n
     below h = not-above (suc w) (2 ^ n) (λ l. h (omega (arith, l)))
 
-pub fill-by : (n : ℕ) (x truths : List ℕ) (records : ℕ) → By (fillLines n x truths records) (reading n x .state .covered) (fillAnswer n x truths records)
+pub fill-by : (n : ℕ) (x truths : List ℕ) (records : ℕ) → By (fillLines n x truths records) (reading n x .state .covered)
+    (fillAnswer n x truths records)
 unfolding fillAnswer
 fill-by n x truths records = tests-lines (notTruthTable n ∷ shortTable records ∷ wrongLength n truths ∷ []) _ _ _
     (not-three-to-sixteen n, (above (atCall workTable) records tableLimit, (wrong-length n truths, fault-line n 1 x [] _ _ (by-none _))))
 
 pub fill-lines : (n : ℕ) (x truths : List ℕ) (records : ℕ) → TurnedDown (x ∷ []) (fillLines n x truths records) (fillAnswer n x truths records)
 fill-lines n x truths records =
-    turned-down (x ∷ []) _ _ _ ((refl, refl, refl, refl), ((refl, refl, refl, refl), ((refl, refl, refl, refl), one-stream n x))) (omega arith, (omega arith, (omega arith, tt))) (fill-by n x truths records)
+    turned-down (x ∷ []) _ _ _ ((refl, refl, refl, refl), ((refl, refl, refl, refl), ((refl, refl, refl, refl), one-stream n x)))
+    (omega arith, (omega arith, (omega arith, tt))) (fill-by n x truths records)
 
 pub write-by : (n size : ℕ) (truths out : List ℕ) (records : ℕ)
     → By (writeLines n size truths records) (answerOf n (2 ^ n) (writeText n size truths) out) (writeAnswer n size truths out records)
 unfolding writeAnswer
-write-by n size truths out records = tests-lines (notTruthTable n ∷ largeSize size ∷ shortTable records ∷ wrongLength n truths ∷ []) _ _ _
-    (not-three-to-sixteen n, (above (atCall sizeToWrite) tableLimit size, (above (atCall workTable) records tableLimit, (wrong-length n truths, by-none _))))
+write-by n size truths out records = tests-lines (notTruthTable n ∷ largeSize size ∷ shortTable records ∷ wrongLength n truths ∷ []) _ _ _ (
+  not-three-to-sixteen n,
+  (
+    above (atCall sizeToWrite) tableLimit size,
+    (above (atCall workTable) records tableLimit, (wrong-length n truths, by-none _)),
+  ),
+)
 
-pub write-lines : (n size : ℕ) (truths out : List ℕ) (records : ℕ) → TurnedDown [] (writeLines n size truths records) (writeAnswer n size truths out records)
+pub write-lines : (n size : ℕ) (truths out : List ℕ) (records : ℕ) → TurnedDown [] (writeLines n size truths records)
+    (writeAnswer n size truths out records)
 write-lines n size truths out records =
-    turned-down [] _ _ _ ((refl, refl, refl, refl), ((refl, refl, refl, refl), ((refl, refl, refl, refl), ((refl, refl, refl, refl), tt)))) (omega arith, (omega arith, (omega arith, (omega arith, tt)))) (write-by n size truths out records)
+    turned-down [] _ _ _ ((refl, refl, refl, refl), ((refl, refl, refl, refl), ((refl, refl, refl, refl), ((refl, refl, refl, refl), tt))))
+    (omega arith, (omega arith, (omega arith, (omega arith, tt)))) (write-by n size truths out records)
 
 -- the streams of a run, and what they are as its inputs
 abbrev pub Streams : List ℕ → List ℕ → List (List ℕ)
@@ -281,11 +301,33 @@ combine-by n op size x y out a b c =
     let short : (k : ℕ) → Stands (shortTable k) (meets (atCall workTable) (k < tableLimit)) = λ k. above (atCall workTable) k tableLimit in
     let v = answerOf n (runCovered n (inputs n x y)) (combineText n op size (Streams x y)) out in
     let rest = fault-line n 1 x (faults n 2 y ∷ []) v _ (fault-line n 2 y [] v (done v) (by-none v)) in
-    tests-lines (manyOptions n ∷ largeOperator 2 op ∷ largeSize size ∷ shortTables (a ∷ b ∷ c ∷ [])) _ v _
-    (above (atCall optionCount) optionLimit n, (from (atCall operatorCode) 16 op, (above (atCall sizeToWrite) tableLimit size, (short a, (short b, (short c, rest))))))
+    tests-lines (manyOptions n ∷ largeOperator 2 op ∷ largeSize size ∷ shortTables (a ∷ b ∷ c ∷ [])) _ v _ (
+      above (atCall optionCount) optionLimit n,
+      (
+        from (atCall operatorCode) 16 op,
+        (above (atCall sizeToWrite) tableLimit size, (short a, (short b, (short c, rest)))),
+      ),
+    )
 
 pub combine-lines : (n op size : ℕ) (x y out : List ℕ) (a b c : ℕ)
     → TurnedDown (x ∷ y ∷ []) (combineLines n op size x y a b c) (combineAnswer n op size (x ∷ y ∷ []) out (a ∷ b ∷ c ∷ []))
-combine-lines n op size x y out a b c = turned-down (x ∷ y ∷ []) _ _ _
-    ((refl, refl, refl, refl), ((refl, refl, refl, refl), ((refl, refl, refl, refl), ((refl, refl, refl, refl), ((refl, refl, refl, refl), ((refl, refl, refl, refl), ((omega arith, omega arith, refl), ((omega arith, omega arith, refl), tt))))))))
+combine-lines n op size x y out a b c = turned-down (x ∷ y ∷ []) _ _ _ (
+  (refl, refl, refl, refl),
+  (
+    (refl, refl, refl, refl),
+    (
+      (refl, refl, refl, refl),
+      (
+        (refl, refl, refl, refl),
+        (
+          (refl, refl, refl, refl),
+          (
+            (refl, refl, refl, refl),
+            ((omega arith, omega arith, refl), ((omega arith, omega arith, refl), tt)),
+          ),
+        ),
+      ),
+    ),
+  ),
+)
     (omega arith, (omega arith, (omega arith, (omega arith, (omega arith, (omega arith, tt)))))) (combine-by n op size x y out a b c)

@@ -11,20 +11,21 @@ use native.Mathlib.Omega.{arith}
 use lib.Dec.{ltb, eqb}
 use lib.ListN.{length, take}
 use borrow.Author.Tests.{ltb-false, eqb-true}
-use Rattle.lists.specs.Prefixes.{Begins}
-use Rattle.reading.specs.Limits.{optionLimit, tableLimit, truthTableMost}
-use Rattle.reading.specs.LimitLaws.{truth-options}
-use Rattle.reading.specs.Causes.{Result, done, unlessRefused}
-use Rattle.reading.specs.Reading.{reading}
-use Rattle.reading.specs.Deciding.{Decision, decided, decision}
-use Rattle.reading.specs.Calls.{verdictOf, decide}
-use Rattle.reading.specs.CallLaws.{decide-decision}
-use Rattle.reading.specs.Covered.{covered, covered-decided, covered-most, covered-grows, decision-stands}
-use Rattle.writing.specs.Run.{operate, runCovered, joint, runText, runOf, writtenBytes, outputAfter, whole, inputEnded, outputFull, Answer, answerOf}
-use Rattle.writing.specs.Grows.{run-stable}
-use Rattle.writing.specs.Inputs.{runCovered-most, runCovered-two, runCovered-each, Extends, Extend, runCovered-grows, runOf-written}
-use Rattle.writing.specs.Output.{written-length, output-written, written-all}
-use Rattle.writing.specs.Calls.{orNo, inputOf, combineText, combineAnswer, combine, writeText, truthAt, writeAnswer, write}
+use Rattle.theory_lists.specs.Prefixes.{Begins}
+use Rattle.theory_reading.specs.Limits.{optionLimit, tableLimit, truthTableMost}
+use Rattle.theory_reading.specs.LimitLaws.{truth-options}
+use Rattle.theory_reading.specs.Causes.{Result, done, unlessRefused}
+use Rattle.theory_reading.specs.Reading.{reading}
+use Rattle.theory_reading.specs.Deciding.{Decision, decided, decision}
+use Rattle.theory_reading.specs.Calls.{verdictOf, decide}
+use Rattle.theory_reading.specs.CallLaws.{decide-decision}
+use Rattle.theory_reading.specs.Covered.{covered, covered-decided, covered-most, covered-grows, decision-stands}
+use Rattle.theory_writing.specs.Run.{operate, runCovered, joint, runText, runOf, writtenBytes, outputAfter, whole, inputEnded, outputFull, Answer}
+use Rattle.theory_writing.specs.Run.{answerOf}
+use Rattle.theory_writing.specs.Grows.{run-stable}
+use Rattle.theory_writing.specs.Inputs.{runCovered-most, runCovered-two, runCovered-each, Extends, Extend, runCovered-grows, runOf-written}
+use Rattle.theory_writing.specs.Output.{written-length, output-written, written-all}
+use Rattle.theory_writing.specs.Calls.{orNo, inputOf, combineText, combineAnswer, combine, writeText, truthAt, writeAnswer, write}
 use Rattle.claims.specs.Terms.{notThreeToSixteen, Gets, Operated, ReadAs, Complete}
 use Rattle.claims.specs.Refused.{not-above, inputs, Streams, combine-by, write-by}
 use Rattle.claims.specs.ReadBack.{read-back}
@@ -46,12 +47,14 @@ answer-whole : (n c : ℕ) (text out : List ℕ) → answerOf n c text out .endi
 unfolding answerOf
 answer-whole n c text out e = go (ltb (length out) (length text)) refl (eqb c (2 ^ n)) refl e
   where
-    go : (p : Bool) → ltb (length out) (length text) ≡ p → (q : Bool) → eqb c (2 ^ n) ≡ q → cond p outputFull (cond q whole inputEnded) ≡ whole → (c ≡ 2 ^ n) × (writtenBytes text out ≡ text)
+    go : (p : Bool) → ltb (length out) (length text) ≡ p → (q : Bool) → eqb c (2 ^ n) ≡ q → cond p outputFull (cond q whole inputEnded) ≡ whole
+        → (c ≡ 2 ^ n) × (writtenBytes text out ≡ text)
     go true a q b h = absurd (let z : _≡_ {A = ℕ} 0 1 = cc in omega arith)
     go false a true b h = (eqb-true c (2 ^ n) b, written-all text out (ltb-false (length out) (length text) a))
     go false a false b h = absurd (let z : _≡_ {A = ℕ} 0 1 = cc in omega arith)
 
-gets : (n c : ℕ) (text out : List ℕ) (r : Answer) (t : List ℕ) → r ≡ answerOf n c text out → take (r .written) t ≡ writtenBytes text out → Gets n c text out r t
+gets : (n c : ℕ) (text out : List ℕ) (r : Answer) (t : List ℕ) → r ≡ answerOf n c text out → take (r .written) t ≡ writtenBytes text out
+    → Gets n c text out r t
 unfolding answerOf writtenBytes
 gets n c text out r t e b = record {
   bytes = b;
@@ -62,10 +65,15 @@ gets n c text out r t e b = record {
 
 -- deciding a word of bytes that are read so answers what is right there
 pub read-decided : {R : Type 0} (z : R) (n c : ℕ) (Right : ℕ → Bool → Type 0) (bytes : List ℕ) → n ≤ optionLimit → ReadAs n c Right bytes
-    → (w : ℕ) (t : List R) → w < covered n bytes → tableLimit ≤ length t → (d : Bool) × Right w d × (decide z n bytes w t .answer ≡ done (verdictOf (decided d)))
+    → (w : ℕ) (t : List R) → w < covered n bytes → tableLimit ≤ length t → (d : Bool) × Right w d
+    × (decide z n bytes w t .answer ≡ done (verdictOf (decided d)))
 read-decided z n c Right bytes small h w t l k =
-    let d = h .decides w l in
-    (d .0, d .2, decide-decision z n bytes w t small k (omega (arith, l, covered-most n bytes)) (h .accepted) ∙ ap (λ (x : Decision). done (verdictOf x)) (d .1))
+    let d = h .decides w l in (
+      d .0,
+      d .2,
+      decide-decision z n bytes w t small k (omega (arith, l, covered-most n bytes)) (h .accepted)
+          ∙ ap (λ (x : Decision). done (verdictOf x)) (d .1),
+    )
 
 -- the run over the streams x and y with the answer r, and the output t after it
 pub record Ran (n op size : ℕ) (x y out : List ℕ) (r : Answer) (t : List ℕ) : Type 0 where
@@ -76,7 +84,8 @@ pub record Ran (n op size : ℕ) (x y out : List ℕ) (r : Answer) (t : List ℕ
   pub answer : r ≡ answerOf n (runCovered n (inputs n x y)) (combineText n op size (Streams x y)) out
   pub bytes : take (r .written) t ≡ writtenBytes (combineText n op size (Streams x y)) out
 
-pub ran : {R S : Type 0} (z : R) (o : S) (n op size : ℕ) (x y out : List ℕ) (t u : List R) (v : List S) (r : Answer) → combine z o n op size x y out t u v .answer ≡ done r
+pub ran : {R S : Type 0} (z : R) (o : S) (n op size : ℕ) (x y out : List ℕ) (t u : List R) (v : List S) (r : Answer)
+    → combine z o n op size x y out t u v .answer ≡ done r
     → Ran n op size x y out r (combine z o n op size x y out t u v .output)
 unfolding combine combineAnswer unlessRefused
 ran z o n op size x y out t u v r e =
@@ -145,7 +154,8 @@ module _ (n op size : ℕ) (x y out : List ℕ) (r : Answer) (t : List ℕ) (h :
   unfolding combineText runOf
   run-read = subst⁻¹ (λ (c : ℕ). Written n c (joint (operate op) (inputs n x y)) (take (r .written) t)) run-covered
       (subst⁻¹ (Written n (runCovered n (inputs n x y)) (joint (operate op) (inputs n x y))) (h .bytes)
-      (run-written n size (runCovered n (inputs n x y)) (joint (operate op) (inputs n x y)) out (h .options) (h .fit) (runCovered-most n (inputs n x y))))
+      (run-written n size (runCovered n (inputs n x y)) (joint (operate op) (inputs n x y)) out (h .options) (h .fit)
+      (runCovered-most n (inputs n x y))))
 
   -- a word that they cover they decide as the operator does
   run-operated : (w : ℕ) → w < covered n (take (r .written) t) → (d : Bool) × (decision n (take (r .written) t) w ≡ decided d) × Operated n op x y w d
@@ -180,12 +190,19 @@ module _ (n op size : ℕ) (x y out : List ℕ) (r : Answer) (t : List ℕ) (h :
 -- ---- Two runs --------------------------------------------------------------------------------
 
 -- The second run's streams are the first's with bytes behind, its output is no shorter.
-module _ (n op size : ℕ) (x y u v out out′ : List ℕ) (r r′ : Answer) (t t′ : List ℕ) (h : Ran n op size x y out r t) (h′ : Ran n op size (x ++ u) (y ++ v) out′ r′ t′) (l : length out ≤ length out′) where
+module _ (n op size : ℕ) (x y u v out out′ : List ℕ) (r r′ : Answer) (t t′ : List ℕ) (h : Ran n op size x y out r t)
+    (h′ : Ran n op size (x ++ u) (y ++ v) out′ r′ t′) (l : length out ≤ length out′) where
   extend : Extend (inputs n x y) (inputs n (x ++ u) (y ++ v))
   extend = (input-extends n x u, (input-extends n y v, tt))
 
   pub runs-covered : r .covered ≤ r′ .covered
-  runs-covered = omega (arith, run-covered n op size x y out r t h, run-covered n op size (x ++ u) (y ++ v) out′ r′ t′ h′, runCovered-grows n (inputs n x y) (inputs n (x ++ u) (y ++ v)) extend)
+  runs-covered = omega (
+    arith,
+    run-covered n op size x y out r t h,
+    run-covered n op size (x ++ u) (y ++ v) out′ r′ t′ h′,
+    runCovered-grows n
+        (inputs n x y) (inputs n (x ++ u) (y ++ v)) extend,
+  )
 
   pub runs-begin : Begins (take (r .written) t) (take (r′ .written) t′)
   unfolding combineText
@@ -194,15 +211,29 @@ module _ (n op size : ℕ) (x y u v out out′ : List ℕ) (r r′ : Answer) (t 
       (runOf-written (operate op) n size (inputs n x y) (inputs n (x ++ u) (y ++ v)) out out′ extend l))
 
   operated-longer : (w : ℕ) (d : Bool) → w < 2 ^ n → Operated n op x y w d → Operated n op (x ++ u) (y ++ v) w d
-  operated-longer w d k o = record { a = o .a; b = o .b; first = decision-stands n x u w (o .a) k (o .first); second = decision-stands n y v w (o .b) k (o .second); digit = o .digit }
+  operated-longer w d k o = record {
+    a = o .a;
+    b = o .b;
+    first = decision-stands n x u w (o .a) k (o .first);
+    second = decision-stands n y v w (o .b)
+        k (o .second);
+    digit = o .digit;
+  }
 
   pub runs-decide : (w : ℕ) → w < covered n (take (r .written) t)
-      → (d : Bool) × (decision n (take (r .written) t) w ≡ decided d) × (decision n (take (r′ .written) t′) w ≡ decided d) × Operated n op x y w d × Operated n op (x ++ u) (y ++ v) w d
+      → (d : Bool) × (decision n (take (r .written) t) w ≡ decided d) × (decision n (take (r′ .written) t′) w ≡ decided d) × Operated n op x y w d
+      × Operated n op (x ++ u) (y ++ v) w d
   runs-decide w q =
       let o = run-operated n op size x y out r t h w q in
       let k : w < 2 ^ n = omega (arith, q, covered-most n (take (r .written) t)) in
-      let b = runs-begin in
-      (o .0, o .1, subst⁻¹ (λ (l : List ℕ). decision n l w ≡ decided (o .0)) (b .1) (decision-stands n (take (r .written) t) (b .0) w (o .0) k (o .1)), o .2, operated-longer w (o .0) k (o .2))
+      let b = runs-begin in (
+        o .0,
+        o .1,
+        subst⁻¹ (λ (l : List ℕ). decision n l w ≡ decided (o .0)) (b .1)
+            (decision-stands n (take (r .written) t) (b .0) w (o .0) k (o .1)),
+        o .2,
+        operated-longer w (o .0) k (o .2),
+      )
 
 -- ---- A call of writing -----------------------------------------------------------------------
 
@@ -238,8 +269,14 @@ module _ (n size : ℕ) (truths out : List ℕ) (r : Answer) (t : List ℕ) (h :
   pub wrote-read-as : ReadAs n (r .covered) (λ w d. d ≡ truthAt truths w) (take (r .written) t)
   unfolding writeText
   wrote-read-as =
-      let b = subst⁻¹ (Written n (2 ^ n) (truthAt truths)) (h .bytes) (run-written n size (2 ^ n) (truthAt truths) out (h .options) (h .fit) (omega arith)) in
-      record { accepted = b .accepted; within = omega (arith, b .within, wrote-gets .covers); decides = λ w l. (truthAt truths w, b .decides w l, refl) }
+      let b = subst⁻¹ (Written n (2 ^ n) (truthAt truths)) (h .bytes)
+      (run-written n size (2 ^ n) (truthAt truths) out (h .options) (h .fit) (omega arith)) in
+      record {
+        accepted = b .accepted;
+        within = omega (arith, b .within, wrote-gets .covers);
+        decides = λ w l.
+            (truthAt truths w, b .decides w l, refl);
+      }
 
   pub wrote-complete : r .ending ≡ whole → Complete n (take (r .written) t)
   unfolding writeText

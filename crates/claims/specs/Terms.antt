@@ -7,14 +7,14 @@ use mathlib.Core.List.{List, [], _∷_}
 use mathlib.Core.Option.{none, some}
 use Prim.Native.Nat.{ℕ, _-_, _/_, _≤_, _<_, _^_, min}
 use lib.ListN.{length, take, drop, getD}
-use Rattle.reading.specs.Limits.{optionLimit, tableLimit, truthTableLeast, truthTableMost}
-use Rattle.reading.specs.Causes.{optionCount, operatorCode, sizeToWrite, workTable, wordRange, truthTable}
-use Rattle.reading.specs.Causes.{call, place, keepsAll, keepsOutput, causeRow, Refusal, atCall, Result, refused, done, cleared}
-use Rattle.reading.specs.Element.{over}
-use Rattle.reading.specs.Reading.{reading}
-use Rattle.reading.specs.Deciding.{decided, decision}
-use Rattle.reading.specs.Covered.{covered}
-use Rattle.writing.specs.Run.{operate, Answer, endingOf}
+use Rattle.theory_reading.specs.Limits.{optionLimit, tableLimit, truthTableLeast, truthTableMost}
+use Rattle.theory_reading.specs.Causes.{optionCount, operatorCode, sizeToWrite, workTable, wordRange, truthTable}
+use Rattle.theory_reading.specs.Causes.{call, place, keepsAll, keepsOutput, causeRow, Refusal, atCall, Result, refused, done, cleared}
+use Rattle.theory_reading.specs.Element.{over}
+use Rattle.theory_reading.specs.Reading.{reading}
+use Rattle.theory_reading.specs.Deciding.{decided, decision}
+use Rattle.theory_reading.specs.Covered.{covered}
+use Rattle.theory_writing.specs.Run.{operate, Answer, endingOf}
 
 -- ---- Turned down -----------------------------------------------------------------------------
 
@@ -166,4 +166,4 @@ pub record ReadAs (n c : ℕ) (Right : ℕ → Bool → Type 0) (bytes : List �
 
 -- The bytes have come to the point, and cover every word.
 abbrev pub Complete : ℕ → List ℕ → Type 0
-Complete n bytes = (reading n bytes .state .place .mark ≡ over) × (covered n bytes ≡ 2 ^ n)
+Complete n bytes = (reading n bytes .state .place .context ≡ over) × (covered n bytes ≡ 2 ^ n)

@@ -8,15 +8,16 @@ use native.Mathlib.Omega.{arith}
 use lib.Dec.{eqb}
 use lib.ListN.{length, set, length-append, length-set}
 use borrow.Author.Tests.{eqb-true}
-use Rattle.lists.specs.Lists.{and-l, or-l, or-r}
-use Rattle.reading.specs.Nodes.{isKept, child, Node, node, stamp, bars}
-use Rattle.writing.specs.UniqueTable.{State, start, placed, stored}
-use Rattle.writing.specs.Rules.{Text, number, one, two, Part, Done, edge, sameNumber, bothTerminal, sameEntry, halfBarred, found, newNumber, byRule, meet, part}
-use Rattle.writing.specs.Storing.{Sound, Parentless, next-small}
-use Rattle.writing.specs.Steps.{Halves, find-matches, next-able, a-known, b-known, part-good, part-halves, firstHalf, secondHalf, start-sound}
-use Rattle.writing.specs.Normal.{Normal, part-deep, start-normal}
-use Rattle.writing.specs.Meaning.{bars-kept, stamp-held, same-facts}
-use Rattle.writing.specs.Faithful.{readChild, readTable, Read, part-faithful}
+use Rattle.theory_lists.specs.Lists.{and-l, or-l, or-r}
+use Rattle.theory_reading.specs.Nodes.{isKept, child, Node, node, stamp, bars}
+use Rattle.theory_writing.specs.UniqueTable.{State, start, placed, stored}
+use Rattle.theory_writing.specs.Rules.{Text, number, one, two, Part, Done, edge, sameNumber, bothTerminal, sameEntry, halfBarred, found, newNumber}
+use Rattle.theory_writing.specs.Rules.{byRule, meet, part}
+use Rattle.theory_writing.specs.Storing.{Sound, Parentless, next-small}
+use Rattle.theory_writing.specs.Steps.{Halves, find-matches, next-able, a-known, b-known, part-good, part-halves, firstHalf, secondHalf, start-sound}
+use Rattle.theory_writing.specs.Normal.{Normal, part-deep, start-normal}
+use Rattle.theory_writing.specs.Meaning.{bars-kept, stamp-held, same-facts}
+use Rattle.theory_writing.specs.Faithful.{readChild, readTable, Read, part-faithful}
 
 -- kept, as a reader sees it
 abbrev pub keptText : Text → Bool
@@ -103,9 +104,15 @@ module _ (n size i : ℕ) (s₀ s₁ s : State) (a b : Part) (h : Halves i s₀ 
   byRule-fine false true r₃ r₄ r₅ e₂ e₃ e₄ e₅ rd =
       let same = same-facts s (a .ref) (b .ref) (and-l (sameNumber s (a .ref) (b .ref)) _ e₂) in
       record { valid = (l, fa .kept (bars-kept s (a .ref) (same .0)), fa .valid); kept = λ z. refl; short = fb .short }
-  byRule-fine false false true r₄ r₅ e₂ e₃ e₄ e₅ rd = record { valid = (l, fa .valid, valid-b, tt); kept = λ z. absurd (false≢true z); short = fb .short }
+  byRule-fine false false true r₄ r₅ e₂ e₃ e₄ e₅ rd = record {
+    valid = (l, fa .valid, valid-b, tt);
+    kept = λ z. absurd (false≢true z);
+    short = fb
+        .short;
+  }
   byRule-fine false false false (suc k) r₅ e₂ e₃ e₄ e₅ rd = record {
-    valid = subst⁻¹ (λ (ns : List Node). node ns (suc k) .level ≡ i) (rd .table) (find-matches s i (child (a .ref)) (child (b .ref)) (edge a b) k e₄ .level);
+    valid = subst⁻¹ (λ (ns : List Node). node ns (suc k) .level ≡ i) (rd .table)
+        (find-matches s i (child (a .ref)) (child (b .ref)) (edge a b) k e₄ .level);
     kept = λ z. refl;
     short = fb .short;
   }
@@ -122,13 +129,19 @@ module _ (n size i : ℕ) (s₀ s₁ s : State) (a b : Part) (h : Halves i s₀ 
         kept = λ z. refl;
         short = placed-length (s .table) (suc k) _ size (fb .short) (g .small);
       }
-  byRule-fine false false false zero zero e₂ e₃ e₄ e₅ rd = record { valid = (l, fa .valid, valid-b, tt); kept = λ z. absurd (false≢true z); short = fb .short }
+  byRule-fine false false false zero zero e₂ e₃ e₄ e₅ rd = record {
+    valid = (l, fa .valid, valid-b, tt);
+    kept = λ z. absurd (false≢true z);
+    short = fb
+        .short;
+  }
 
   meet-fine : Read i s₀ (meet size i a b s) → Fine n size i s₀ (meet size i a b s)
   unfolding meet
   meet-fine rd = byRule-fine (bothTerminal a b) (sameEntry s a b) (halfBarred s a b) (found s i a b) (newNumber size s a b) refl refl refl refl rd
 
-part-fine : (n size m i at : ℕ) (f : ℕ → Bool) (s : State) → Sound s → Normal n s → 0 < i → i + m ≡ suc n → length (s .table) ≤ suc size → Fine n size i s (part size m i at f s)
+part-fine : (n size m i at : ℕ) (f : ℕ → Bool) (s : State) → Sound s → Normal n s → 0 < i → i + m ≡ suc n → length (s .table) ≤ suc size
+    → Fine n size i s (part size m i at f s)
 unfolding part readTable Valid
 part-fine n size zero i at f s h nm r e z = record { valid = tt; kept = λ _. refl; short = z }
 part-fine n size (suc m) i at f s h nm r e z =
@@ -139,7 +152,8 @@ part-fine n size (suc m) i at f s h nm r e z =
     let fa = part-fine n size m (suc i) at f s h nm (omega arith) (omega arith) z in
     let fb = part-fine n size m (suc i) (at + 2 ^ m) f (a .state) (g .sound) (p .normal) (omega arith) (omega arith) (fa .short) in
     meet-fine n size i s (a .state) (b .state) (a .part) (b .part) (part-halves size m i at f s h) (omega arith)
-    (part-faithful n size m (suc i) at f s h nm (omega arith) (omega arith) .read) (part-faithful n size m (suc i) (at + 2 ^ m) f (a .state) (g .sound) (p .normal) (omega arith) (omega arith) .read)
+    (part-faithful n size m (suc i) at f s h nm (omega arith) (omega arith) .read)
+    (part-faithful n size m (suc i) (at + 2 ^ m) f (a .state) (g .sound) (p .normal) (omega arith) (omega arith) .read)
     fa fb (part-faithful n size (suc m) i at f s h nm r e .read)
 
 -- THE WRITTEN TEXT IS VALID

@@ -9,16 +9,16 @@ use Prim.Native.Nat.{ℕ, zero, suc, _≤_, _<_, _^_}
 use native.Mathlib.Omega.{arith}
 use lib.Dec.{eqb}
 use borrow.Author.Tests.{eq-eqb, ne-eqb}
-use Rattle.lists.specs.Lists.{decide-le}
-use Rattle.lists.specs.Prefixes.{Begins, begins-trans}
-use Rattle.reading.specs.Limits.{optionLimit, tableLimit}
-use Rattle.reading.specs.Reading.{reading}
-use Rattle.reading.specs.Deciding.{Decision, decided, decision}
-use Rattle.reading.specs.Prefix.{accepted-before}
-use Rattle.reading.specs.Covered.{covered, covered-decided, covered-most, decision-stands}
-use Rattle.writing.specs.Run.{runText, writtenBytes}
-use Rattle.writing.specs.Grows.{run-stable, run-grows}
-use Rattle.writing.specs.Output.{written-begins}
+use Rattle.theory_lists.specs.Lists.{decide-le}
+use Rattle.theory_lists.specs.Prefixes.{Begins, begins-trans}
+use Rattle.theory_reading.specs.Limits.{optionLimit, tableLimit}
+use Rattle.theory_reading.specs.Reading.{reading}
+use Rattle.theory_reading.specs.Deciding.{Decision, decided, decision}
+use Rattle.theory_reading.specs.Prefix.{accepted-before}
+use Rattle.theory_reading.specs.Covered.{covered, covered-decided, covered-most, decision-stands}
+use Rattle.theory_writing.specs.Run.{runText, writtenBytes}
+use Rattle.theory_writing.specs.Grows.{run-stable, run-grows}
+use Rattle.theory_writing.specs.Output.{written-begins}
 use Rattle.claims.specs.ReadBack.{read-back}
 
 -- t is what a run over n options wrote that covers c words and decides them by f
@@ -71,7 +71,8 @@ module _ (n size c : ℕ) (f : ℕ → Bool) (out : List ℕ) (small : n ≤ opt
   inside : (w : ℕ) → w < 2 ^ n → (d : Bool) → decision n text w ≡ decided d → w < c
   inside w l d e = ⊎-elim
       (λ (k : c ≤ w). absurd (not-same (f w) (sym (as-f w l d e)
-      ∙ begin-decides n size (flipped w f) small fit text (begun (flipped w f) (run-stable n size c f (flipped w f) (λ v o. flipped-off w f v (λ z. omega (arith, z))))) w l d e ∙ flipped-at w f)))
+      ∙ begin-decides n size (flipped w f) small fit text (begun (flipped w f)
+      (run-stable n size c f (flipped w f) (λ v o. flipped-off w f v (λ z. omega (arith, z))))) w l d e ∙ flipped-at w f)))
       (λ (k : w < c). k) (decide-le c w)
 
   decided-inside : (w : ℕ) → w < covered n text → (w < c) × (decision n text w ≡ decided (f w))

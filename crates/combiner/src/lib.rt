@@ -4,32 +4,32 @@ ghost use mathlib.Core.Bool.{cond};
 ghost use lib.Dec.{eqb};
 ghost use lib.ListN.{length, replicate};
 ghost use Prim.Native.Nat.{_≤_, _^_};
-ghost use Rattle.reading.specs.Limits.{optionLimit};
-ghost use Rattle.reading.specs.Causes.{refusal, refused, done};
-ghost use Rattle.scanner.specs.Cite.{causeOf};
+ghost use Rattle.theory_reading.specs.Limits.{optionLimit};
+ghost use Rattle.theory_reading.specs.Causes.{refusal, refused, done};
+ghost use Rattle.scanner.specs.Abstraction.{causeOf};
 ghost use Rattle.checker.specs.Answers.{refusalOf, checkingOf};
-ghost use Rattle.writing.specs.Run.{whole, inputEnded, outputFull};
-ghost use Rattle.writing.specs.Calls.{Combines};
-ghost use Rattle.combining.specs.CombineMade.{afterFirst, bothIn};
-ghost use Rattle.combining.specs.Entering.{ignoresFirst, ignoresSecond, entered};
+ghost use Rattle.theory_writing.specs.Run.{whole, inputEnded, outputFull};
+ghost use Rattle.theory_writing.specs.Calls.{Combines};
+ghost use Rattle.theory_combining.specs.CombineCorrect.{afterFirst, bothIn};
+ghost use Rattle.theory_combining.specs.Entering.{ignoresFirst, ignoresSecond, entered};
 ghost use Rattle.blocks.specs.Blocks.{blockIn};
 ghost use Rattle.blocks.specs.Load.{loadIn};
-ghost use Rattle.feeds.specs.Cite.{begunIn, begunFrom};
-ghost use Rattle.meeting.specs.Cite.{writtenOf, writingOf};
-ghost use Rattle.combiner.specs.Cite.{bothOf};
+ghost use Rattle.operands.specs.Abstraction.{begunIn, begunFrom};
+ghost use Rattle.meeting.specs.Abstraction.{writtenOf, writingOf};
+ghost use Rattle.combiner.specs.Abstraction.{bothOf};
 use blocks::Loaded;
 use blocks::load;
 use checker::Checking;
 use checker::Refusal;
 use checker::early;
 use edges::operate;
-use feeds::Begun;
-use feeds::Feed;
-use feeds::begin;
 use meeting::Writing;
 use meeting::Written;
 use meeting::ending_of;
-use operation_cache::CACHE_ROWS;
+use operands::Begun;
+use operands::Operand;
+use operands::begin;
+use operation_cache::CACHE_ENTRIES;
 use pending_text::Sent;
 use pending_text::WAITING_LIMIT;
 use scanner::Cause;
@@ -45,7 +45,12 @@ use work_table::least;
 
 fn answer(n: u32, covered: u64, x: Sent) -> Written
     requires { ⌜ n ≤ optionLimit ⌝ }
-    ensures { λ r. ⌜ writtenOf r ≡ record { written = x .written; covered = covered; ending = cond (x .full) outputFull (cond (eqb covered (2 ^ n)) whole inputEnded) } ⌝ }
+    ensures { λ r. ⌜ writtenOf r ≡ record {
+      written = x .written;
+      covered = covered;
+      ending = cond (x .full) outputFull
+          (cond (eqb covered (2 ^ n)) whole inputEnded);
+    } ⌝ }
 {
     Written {
         bytes: x.written,
@@ -156,7 +161,9 @@ fn enter(
     l: Loaded,
     v: bool,
 ) -> Begun
-    ensures { λ r. ⌜ begunIn r (now (o .exit)) (now (s .entry)) (now (t .exit)) ≡ entered v (now (s .entry)) (blockIn (l .block) (now (o .entry))) (loadIn l (now (t .entry))) (begunFrom n (now (s .entry)) (now (o .entry)) (now (t .entry))) ⌝ }
+    ensures { λ r. ⌜ begunIn r (now (o .exit)) (now (s .entry)) (now (t .exit))
+        ≡ entered v (now (s .entry)) (blockIn (l .block) (now (o .entry))) (loadIn l (now (t .entry)))
+        (begunFrom n (now (s .entry)) (now (o .entry)) (now (t .entry))) ⌝ }
 {
     let whole = l.whole;
     if !whole {
@@ -164,23 +171,29 @@ fn enter(
     }
     let b = l.block;
     if v {
-        let f = Feed {
+        let f = Operand {
             inside: false,
             number: 0,
-            turned: false,
+            complement: false,
         };
-        return Begun { feed: f, block: b };
+        return Begun {
+            operand: f,
+            block: b,
+        };
     }
-    let f = Feed {
+    let f = Operand {
         inside: false,
         number: b.number,
-        turned: b.turned,
+        complement: b.complement,
     };
-    Begun { feed: f, block: b }
+    Begun {
+        operand: f,
+        block: b,
+    }
 }
 
 // Every record of a table for reading becomes zero.
-fn clear_rows(t: &mut [[u32; 6]])
+fn clear_records(t: &mut [[u32; 6]])
     ensures { λ _. ⌜ now (t .exit) ≡ replicate (length (now (t .entry))) (replicate 6 0) ⌝ }
 {
     let z = t.len();
@@ -199,7 +212,14 @@ pub fn combine(
     t2: &mut [[u32; 6]],
     t: &mut [[u32; 12]],
 ) -> Writing
-    ensures { λ r. ⌜ Combines (replicate 6 0) (replicate 12 0) n op size (now (x .entry)) (now (y .entry)) (now (out .entry)) (now (t1 .entry)) (now (t2 .entry)) (now (t .entry)) (record { answer = writingOf r; first = now (t1 .exit); second = now (t2 .exit); third = now (t .exit); output = now (out .exit) }) ⌝ }
+    ensures { λ r. ⌜ Combines (replicate 6 0) (replicate 12 0) n op size (now (x .entry)) (now (y .entry)) (now (out .entry)) (now (t1 .entry))
+        (now (t2 .entry)) (now (t .entry)) (record {
+          answer = writingOf r;
+          first = now (t1 .exit);
+          second = now (t2 .exit);
+          third = now (t .exit);
+          output = now (out .exit);
+        }) ⌝ }
 {
     if OPTION_LIMIT < n {
         return Writing::Refused(early(Cause::OptionCount));
@@ -225,8 +245,8 @@ pub fn combine(
     let z = both_loaded(a, b);
     let refused = z.faulty;
     if refused {
-        clear_rows(t1);
-        clear_rows(t2);
+        clear_records(t1);
+        clear_records(t2);
         return Writing::Refused(refusal_of(z));
     }
     let c = z.covered;
@@ -241,7 +261,7 @@ pub fn combine(
     let f = enter(n, x, t1, &mut o1, a, ignores_first(op));
     let g = enter(n, y, t2, &mut o2, b, ignores_second(op));
     let mut w = [0u8; WAITING_LIMIT];
-    let mut m = [[0u32; 9]; CACHE_ROWS];
+    let mut m = [[0u32; 9]; CACHE_ENTRIES];
     let r = stream(
         k,
         x,
@@ -257,8 +277,8 @@ pub fn combine(
         &mut w,
         &mut m,
     );
-    clear_rows(t1);
-    clear_rows(t2);
+    clear_records(t1);
+    clear_records(t2);
     clear(t);
     Writing::Done(answer(n, c, r))
 }

@@ -1,6 +1,6 @@
 -- What deciding answers, as the paper has it. Assumes nothing.
-use Rattle.reading.specs.Causes as C
-use Rattle.reading.specs.Calls as R
+use Rattle.theory_reading.specs.Causes as C
+use Rattle.theory_reading.specs.Calls as R
 use Rattle.checker.specs.Answers.{refusalOf}
 use Rattle.decider.specs.declared.Verdict.{Verdict}
 use Rattle.decider.specs.declared.Verdict.the-variants.{No, Yes, NotYet}

@@ -1,3 +1,3 @@
 pub mod Answers
 pub mod WalkLaws
-pub mod DecideMade
+pub mod DecideCorrect

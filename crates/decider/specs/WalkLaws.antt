@@ -6,26 +6,27 @@ use mathlib.Core.List.{List, _∷_}
 use Prim.Native.Nat.{ℕ, suc, _+_, _-_, _*_, _%_, _^_, _<_, _≤_}
 use native.Mathlib.Omega.{arith}
 use borrow.Author.Tests.{ne-eqb, lt-ltb, le-ltb}
-use Rattle.lists.specs.Lists.{decide-le}
-use Rattle.reading.specs.Limits.{optionLimit}
-use Rattle.reading.specs.Nodes.{Node, node}
-use Rattle.reading.specs.Deciding.{options, Decision, undecided, decided, complemented}
-use Rattle.reading.specs.Words.{options-low, options-high, complemented-twice}
-use Rattle.reading.specs.TableWalk.{rowWalk, rowWalk-zero, rowWalk-skip, rowWalk-go}
+use Rattle.theory_lists.specs.Lists.{decide-le}
+use Rattle.theory_reading.specs.Limits.{optionLimit}
+use Rattle.theory_reading.specs.Nodes.{Node, node}
+use Rattle.theory_reading.specs.Deciding.{options, Decision, undecided, decided, complemented}
+use Rattle.theory_reading.specs.Words.{options-low, options-high, complemented-twice}
+use Rattle.theory_reading.specs.TableWalk.{tableWalk, tableWalk-zero, tableWalk-skip, tableWalk-go}
 use Rattle.work_table.specs.Table.{getIn}
-use Rattle.work_table.specs.TableLaws.{rowNode, tableOf, table-node}
-use Rattle.lists.specs.Powers.{few-words}
+use Rattle.work_table.specs.TableLaws.{recordNode, tableOf, table-node}
+use Rattle.theory_lists.specs.Powers.{few-words}
 use Rattle.work_table.specs.Edges.{firstEdge, secondEdge}
 use Rattle.work_table.specs.declared.Edge.{Edge}
-use Rattle.work_table.specs.declared.Row.{Row}
+use Rattle.work_table.specs.declared.NodeRecord.{NodeRecord}
 
 -- the node of level i that e stands for, under the options from level i on
 abbrev pub edgeWalk : List Node → ℕ → Edge → List Bool → Decision
-edgeWalk t i e os = complemented (e .turned) (rowWalk t i (e .number) os)
+edgeWalk t i e os = complemented (e .complement) (tableWalk t i (e .number) os)
 
 -- The terminal decides no, turned about or not.
-pub walk-terminal : (t : List Node) (i : ℕ) (e : Edge) (os : List Bool) → e .number ≡ 0 → decided (e .turned) ≡ edgeWalk t i e os
-walk-terminal t i e os z = sym (ap (λ (c : ℕ). complemented (e .turned) (rowWalk t i c os)) z ∙ ap (complemented (e .turned)) (rowWalk-zero t i os) ∙ no (e .turned))
+pub walk-terminal : (t : List Node) (i : ℕ) (e : Edge) (os : List Bool) → e .number ≡ 0 → decided (e .complement) ≡ edgeWalk t i e os
+walk-terminal t i e os z = sym (ap (λ (c : ℕ). complemented (e .complement) (tableWalk t i c os)) z
+    ∙ ap (complemented (e .complement)) (tableWalk-zero t i os) ∙ no (e .complement))
   where
     no : (b : Bool) → complemented b (decided false) ≡ decided b
     no true = refl
@@ -33,36 +34,40 @@ walk-terminal t i e os z = sym (ap (λ (c : ℕ). complemented (e .turned) (rowW
 
 -- A number with no option left decides nothing.
 pub walk-over : (t : List Node) (i : ℕ) (e : Edge) (m w : ℕ) → (e .number ≡ 0 → ⊥) → m ≡ 0 → undecided ≡ edgeWalk t i e (options m w)
-unfolding rowWalk options
+unfolding tableWalk options
 walk-over t i e m w some z = sym (ap (λ (k : ℕ). edgeWalk t i e (options k w)) z ∙ rw (ne-eqb (e .number) 0 some) refl)
 
-module _ (t : List (List ℕ)) (z i : ℕ) (e : Edge) (x : Row) (some : e .number ≡ 0 → ⊥) (got : x ≡ getIn t z (e .number)) where
-  here : node (tableOf t z) (e .number) ≡ rowNode x
-  here = table-node t z (e .number) ∙ ap rowNode (sym got)
+module _ (t : List (List ℕ)) (z i : ℕ) (e : Edge) (x : NodeRecord) (some : e .number ≡ 0 → ⊥) (got : x ≡ getIn t z (e .number)) where
+  here : node (tableOf t z) (e .number) ≡ recordNode x
+  here = table-node t z (e .number) ∙ ap recordNode (sym got)
 
   level-here : node (tableOf t z) (e .number) .level ≡ x .level
   level-here = ap (λ (y : Node). y .level) here
 
   -- inside brackets the option is passed over
   skipped : (o : Bool) (os : List Bool) → i < x .level → edgeWalk (tableOf t z) i e (o ∷ os) ≡ edgeWalk (tableOf t z) (i + 1) e os
-  skipped o os h = ap (complemented (e .turned)) (rowWalk-skip (tableOf t z) i (e .number) o os some (omega (arith, level-here, h)))
+  skipped o os h = ap (complemented (e .complement)) (tableWalk-skip (tableOf t z) i (e .number) o os some (omega (arith, level-here, h)))
 
   -- the option picks the child
   gone : (o : Bool) (os : List Bool) → x .level ≤ i
-      → rowWalk (tableOf t z) i (e .number) (o ∷ os) ≡ cond o (complemented (x .complement) (rowWalk (tableOf t z) (i + 1) (x .second) os)) (rowWalk (tableOf t z) (i + 1) (x .first) os)
+      → tableWalk (tableOf t z) i (e .number) (o ∷ os) ≡ cond o (complemented (x .complement) (tableWalk (tableOf t z) (i + 1) (x .second) os))
+      (tableWalk (tableOf t z) (i + 1) (x .first) os)
   gone o os h =
-      rowWalk-go (tableOf t z) i (e .number) o os some (omega (arith, level-here, h))
-      ∙ ap (λ (y : Node). cond o (complemented (y .complement) (rowWalk (tableOf t z) (i + 1) (y .second) os)) (rowWalk (tableOf t z) (i + 1) (y .first) os)) here
+      tableWalk-go (tableOf t z) i (e .number) o os some (omega (arith, level-here, h))
+      ∙ ap (λ (y : Node). cond o (complemented (y .complement) (tableWalk (tableOf t z) (i + 1) (y .second) os))
+      (tableWalk (tableOf t z) (i + 1) (y .first) os)) here
 
   walk-first : (os : List Bool) → edgeWalk (tableOf t z) i e (false ∷ os) ≡ edgeWalk (tableOf t z) (i + 1) (firstEdge x i e) os
   walk-first os = ⊎-elim
-      (λ (h : x .level ≤ i). rw (ne-eqb (e .number) 0 some, le-ltb i (x .level) h) (ap (complemented (e .turned)) (gone false os h)))
+      (λ (h : x .level ≤ i). rw (ne-eqb (e .number) 0 some, le-ltb i (x .level) h) (ap (complemented (e .complement)) (gone false os h)))
       (λ (h : i < x .level). rw (ne-eqb (e .number) 0 some, lt-ltb i (x .level) h) (skipped false os h))
       (decide-le (x .level) i)
 
   walk-second : (os : List Bool) → edgeWalk (tableOf t z) i e (true ∷ os) ≡ edgeWalk (tableOf t z) (i + 1) (secondEdge x i e) os
   walk-second os = ⊎-elim
-      (λ (h : x .level ≤ i). rw (ne-eqb (e .number) 0 some, le-ltb i (x .level) h) (ap (complemented (e .turned)) (gone true os h) ∙ complemented-twice (e .turned) (x .complement) (rowWalk (tableOf t z) (i + 1) (x .second) os)))
+      (λ (h : x .level ≤ i). rw (ne-eqb (e .number) 0 some, le-ltb i (x .level) h)
+      (ap (complemented (e .complement)) (gone true os h) ∙ complemented-twice (e .complement) (x .complement)
+      (tableWalk (tableOf t z) (i + 1) (x .second) os)))
       (λ (h : i < x .level). rw (ne-eqb (e .number) 0 some, lt-ltb i (x .level) h) (skipped true os h))
       (decide-le (x .level) i)
 

@@ -2,16 +2,16 @@
 ghost use mathlib.Core.Path.{_≡_};
 ghost use mathlib.Core.List.{[]};
 ghost use Prim.Native.Nat.{_+_, _≤_};
-ghost use Rattle.reading.specs.Limits.{optionLimit, openLimit};
-ghost use Rattle.reading.specs.Deciding.{decided, complemented, options};
-ghost use Rattle.reading.specs.Calls.{verdictOf, Decides};
-ghost use Rattle.reading.specs.TableWalk.{rowWalk};
+ghost use Rattle.theory_reading.specs.Limits.{optionLimit, openLimit};
+ghost use Rattle.theory_reading.specs.Deciding.{decided, complemented, options};
+ghost use Rattle.theory_reading.specs.Calls.{verdictOf, Decides};
+ghost use Rattle.theory_reading.specs.TableWalk.{tableWalk};
 ghost use Rattle.work_table.specs.Table.{noRecord};
 ghost use Rattle.work_table.specs.TableLaws.{tableOf};
-ghost use Rattle.reader.specs.Lent.{reachedIn};
+ghost use Rattle.reader.specs.OpenCells.{reachedIn};
 ghost use Rattle.blocks.specs.Blocks.{wordAt};
 ghost use Rattle.decider.specs.Answers.{verdictsOf, decidingOf};
-ghost use Rattle.decider.specs.DecideMade.{decidedBy};
+ghost use Rattle.decider.specs.DecideCorrect.{decidedBy};
 use blocks::below;
 use blocks::edge_of;
 use checker::Refusal;
@@ -53,10 +53,10 @@ fn verdict_of(b: bool) -> Verdict
 // The word w of the node of level i, m options below it, that e stands for. z: how many numbers there are
 fn walk_down(t: &[[u32; 6]], z: u32, m: u32, i: u32, e: Edge, w: u64) -> Verdict
     requires { ⌜ (m ≤ optionLimit) × (i + m ≤ openLimit + optionLimit) ⌝ }
-    ensures { λ r. ⌜ verdictsOf r ≡ verdictOf (complemented (e .turned) (rowWalk (tableOf (now (t .entry)) z) i (e .number) (options m w))) ⌝ }
+    ensures { λ r. ⌜ verdictsOf r ≡ verdictOf (complemented (e .complement) (tableWalk (tableOf (now (t .entry)) z) i (e .number) (options m w))) ⌝ }
 {
     if e.number == 0 {
-        return verdict_of(e.turned);
+        return verdict_of(e.complement);
     }
     if m == 0 {
         return Verdict::NotYet;

@@ -3,9 +3,9 @@ use mathlib.Core.Path.{_≡_, ap, _∙_}
 use mathlib.Core.List.{List}
 use Prim.Native.Nat.{ℕ}
 use lib.ListN.{replicate}
-use Rattle.reading.specs.Causes.{Result, refused, done, causeRow}
-use Rattle.writing.specs.Run as R
-use Rattle.writing.specs.Calls as W
+use Rattle.theory_reading.specs.Causes.{Result, refused, done, causeRow}
+use Rattle.theory_writing.specs.Run as R
+use Rattle.theory_writing.specs.Calls as W
 use Rattle.desk.specs.declared.RuleWritten.{RuleWritten}
 
 abbrev pub endingNumber : R.Ending → ℕ

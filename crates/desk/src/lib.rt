@@ -1,6 +1,6 @@
 // Writing and combining for C, as `include/rule.h` declares it.
 ghost use mathlib.Core.Path.{_≡_};
-ghost use Rattle.meeting.specs.Cite.{endingsOf, writingOf};
+ghost use Rattle.meeting.specs.Abstraction.{endingsOf, writingOf};
 ghost use Rattle.desk.specs.Numbers.{endingNumber, writtenNumbers, writeGiven, combineGiven};
 use meeting::Ending;
 use meeting::Writing;
@@ -66,7 +66,8 @@ pub extern "C" fn rule_write(
     output: &mut [u8],
     table: &mut [[u32; 12]],
 ) -> RuleWritten
-    ensures { λ r. ⌜ record { answer = r; table = now (table .exit); output = now (output .exit) } ≡ writeGiven n size (now (truths .entry)) (now (output .entry)) (now (table .entry)) ⌝ }
+    ensures { λ r. ⌜ record { answer = r; table = now (table .exit); output = now (output .exit) }
+        ≡ writeGiven n size (now (truths .entry)) (now (output .entry)) (now (table .entry)) ⌝ }
 {
     written_numbers(writer::write(n, size, truths, output, table))
 }
@@ -84,7 +85,15 @@ pub extern "C" fn rule_combine(
     table2: &mut [[u32; 6]],
     table3: &mut [[u32; 12]],
 ) -> RuleWritten
-    ensures { λ r. ⌜ record { answer = r; first = now (table1 .exit); second = now (table2 .exit); third = now (table3 .exit); output = now (output .exit) } ≡ combineGiven n op size (now (stream1 .entry)) (now (stream2 .entry)) (now (output .entry)) (now (table1 .entry)) (now (table2 .entry)) (now (table3 .entry)) ⌝ }
+    ensures { λ r. ⌜ record {
+      answer = r;
+      first = now (table1 .exit);
+      second = now (table2 .exit);
+      third = now (table3 .exit);
+      output = now
+          (output .exit);
+    } ≡ combineGiven n op size (now (stream1 .entry)) (now (stream2 .entry)) (now (output .entry)) (now (table1 .entry))
+        (now (table2 .entry)) (now (table3 .entry)) ⌝ }
 {
     written_numbers(combiner::combine(
         n,

@@ -4,13 +4,13 @@ ghost use mathlib.Core.Bool.{true, _&&_, _||_};
 ghost use mathlib.Core.List.{List, [], _∷_};
 ghost use lib.Dec.{eqb, ltb};
 ghost use Prim.Native.Nat.{ℕ};
-ghost use Rattle.writing.specs.Run.{digitAt, operate};
+ghost use Rattle.theory_writing.specs.Run.{digitAt, operate};
 ghost use Rattle.work_table.specs.Table.{getIn};
-ghost use Rattle.engine.specs.Applying.{firstSource, secondSource, fixed};
-ghost use Rattle.edges.specs.Cite.{edgeIn};
+ghost use Rattle.theory_engine.specs.Applying.{firstSource, secondSource, fixed};
+ghost use Rattle.edges.specs.Abstraction.{edgeIn};
 use unique_table::either;
 use work_table::Edge as NodeEdge;
-use work_table::Row;
+use work_table::NodeRecord;
 use work_table::differs;
 use work_table::first_edge as first_child;
 use work_table::second_edge as second_child;
@@ -37,45 +37,45 @@ pub fn operate(op: u32, a: bool, b: bool) -> bool
 // An input at an edge of its own table, which has so many numbers: a number (0: the terminal), turned about or not
 pub struct Edge {
     pub number: u32,
-    pub turned: bool,
+    pub complement: bool,
     pub size: u32,
 }
 
 // The edge x without its table, and the edge e in the table of x
 fn bare(x: Edge) -> NodeEdge
-    ensures { λ r. ⌜ r ≡ record { number = x .number; turned = x .turned } ⌝ }
+    ensures { λ r. ⌜ r ≡ record { number = x .number; complement = x .complement } ⌝ }
 {
     NodeEdge {
         number: x.number,
-        turned: x.turned,
+        complement: x.complement,
     }
 }
 
 fn beside(x: Edge, e: NodeEdge) -> Edge
-    ensures { λ r. ⌜ r ≡ record { number = e .number; turned = e .turned; size = x .size } ⌝ }
+    ensures { λ r. ⌜ r ≡ record { number = e .number; complement = e .complement; size = x .size } ⌝ }
 {
     Edge {
         number: e.number,
-        turned: e.turned,
+        complement: e.complement,
         size: x.size,
     }
 }
 
 // The edge at the two halves of a part of level i; r: the record of its number
-pub fn first_edge(i: u32, x: Edge, r: Row) -> Edge
+pub fn first_edge(i: u32, x: Edge, r: NodeRecord) -> Edge
     ensures { λ y. ⌜ ((t : List (List ℕ)) → r ≡ getIn t (x .size) (x .number) → edgeIn y t ≡ firstSource i (edgeIn x t)) ⌝ }
 {
     beside(x, first_child(r, i, bare(x)))
 }
 
-pub fn second_edge(i: u32, x: Edge, r: Row) -> Edge
+pub fn second_edge(i: u32, x: Edge, r: NodeRecord) -> Edge
     ensures { λ y. ⌜ ((t : List (List ℕ)) → r ≡ getIn t (x .size) (x .number) → edgeIn y t ≡ secondSource i (edgeIn x t)) ⌝ }
 {
     beside(x, second_child(r, i, bare(x)))
 }
 
 // Both are the same at the two halves of a part of level i; k and r, j and s: their numbers with the records
-pub fn both_pass(i: u32, k: u32, r: Row, j: u32, s: Row) -> bool
+pub fn both_pass(i: u32, k: u32, r: NodeRecord, j: u32, s: NodeRecord) -> bool
     ensures { λ x. ⌜ x ≡ ((eqb k 0 || ltb i (r .level)) && ((eqb j 0 || ltb i (s .level)) && true)) ⌝ }
 {
     if !skips(k, i, r.level) {
@@ -93,24 +93,24 @@ fn is_settled(op: u32, a: bool, y: Edge) -> bool
     if y.number == 0 {
         return true;
     }
-    !differs(operate(op, a, y.turned), operate(op, a, !y.turned))
+    !differs(operate(op, a, y.complement), operate(op, a, !y.complement))
 }
 
 // The terminals among x and y fix what the operator gives.
 pub fn is_fixed(op: u32, x: Edge, y: Edge) -> bool
     ensures { λ r. ⌜ ((t u : List (List ℕ)) → r ≡ fixed (operate op) (edgeIn x t ∷ edgeIn y u ∷ [])) ⌝ }
 {
-    if !is_settled(op, x.turned, y) {
+    if !is_settled(op, x.complement, y) {
         return false;
     }
     if x.number == 0 {
         return true;
     }
-    if !is_settled(op, !x.turned, y) {
+    if !is_settled(op, !x.complement, y) {
         return false;
     }
     !differs(
-        operate(op, x.turned, y.turned),
-        operate(op, !x.turned, y.turned),
+        operate(op, x.complement, y.complement),
+        operate(op, !x.complement, y.complement),
     )
 }

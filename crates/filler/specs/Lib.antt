@@ -1,4 +1,4 @@
 pub mod Answers
 pub mod Truths
 pub mod TruthLaws
-pub mod FillMade
+pub mod FillCorrect

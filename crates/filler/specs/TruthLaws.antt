@@ -11,17 +11,17 @@ use lib.Pow.{pow-mono}
 use lib.ListN.{length, getD, set, take, replicate, replicate-append-replicate, List·getD-map}
 use lib.Seq.{set-out, take-suc-set}
 use borrow.Author.Tests.{ne-eqb}
-use Rattle.lists.specs.Lists.{differ}
-use Rattle.reading.specs.Limits.{truthTableMost}
-use Rattle.reading.specs.Nodes.{Node, node}
-use Rattle.reading.specs.Deciding.{Trace}
-use Rattle.reading.specs.Calls.{Verdict, isNo, isYes, notYet, digitOf, verdict, wordsFrom, bytesFrom}
-use Rattle.reading.specs.Filling.{withWord, putNode}
+use Rattle.theory_lists.specs.Lists.{differ}
+use Rattle.theory_reading.specs.Limits.{truthTableMost}
+use Rattle.theory_reading.specs.Nodes.{Node, node}
+use Rattle.theory_reading.specs.Deciding.{Trace}
+use Rattle.theory_reading.specs.Calls.{Verdict, isNo, isYes, notYet, digitOf, verdict, wordsFrom, bytesFrom}
+use Rattle.theory_reading.specs.Filling.{withWord, putNode}
 use Rattle.work_table.specs.declared.Edge.{Edge}
-use Rattle.work_table.specs.declared.Row.{Row}
+use Rattle.work_table.specs.declared.NodeRecord.{NodeRecord}
 use Rattle.work_table.specs.Table.{getIn}
 use Rattle.work_table.specs.TableLaws.{tableOf, table-node}
-use Rattle.lists.specs.Powers.{few-words}
+use Rattle.theory_lists.specs.Powers.{few-words}
 use Rattle.work_table.specs.Edges.{firstEdge, secondEdge}
 use Rattle.filler.specs.Truths.{withWordIn, putNodeIn}
 
@@ -51,12 +51,14 @@ cut-cond true xs ys us vs p q = p
 cut-cond false xs ys us vs p q = q
 
 -- Of bytes of 8 bits code makes what the theory makes of bytes without a bound, cut to 8 bits.
-pub put-in : (m : ℕ) (t : List Node) (i c : ℕ) (b : Bool) (w : ℕ) (bs : List ℕ) → putNodeIn m t i c b w (map (λ x. x % 256) bs) ≡ map (λ x. x % 256) (putNode m t i c b w bs)
+pub put-in : (m : ℕ) (t : List Node) (i c : ℕ) (b : Bool) (w : ℕ) (bs : List ℕ) → putNodeIn m t i c b w (map (λ x. x % 256) bs)
+    ≡ map (λ x. x % 256) (putNode m t i c b w bs)
 unfolding putNodeIn putNode
 put-in zero t i c b w bs = cut-cond (eqb c 0 && b) _ _ (withWord bs w) bs (cut-word bs w) refl
 put-in (suc m) t i c b w bs =
     let two : (c₁ : ℕ) (b₁ : Bool) (c₂ : ℕ) (b₂ : Bool)
-    → putNodeIn m t (i + 1) c₂ b₂ (w + 2 ^ m) (putNodeIn m t (i + 1) c₁ b₁ w (cut bs)) ≡ cut (putNode m t (i + 1) c₂ b₂ (w + 2 ^ m) (putNode m t (i + 1) c₁ b₁ w bs))
+    → putNodeIn m t (i + 1) c₂ b₂ (w + 2 ^ m) (putNodeIn m t (i + 1) c₁ b₁ w (cut bs))
+    ≡ cut (putNode m t (i + 1) c₂ b₂ (w + 2 ^ m) (putNode m t (i + 1) c₁ b₁ w bs))
     = λ c₁ b₁ c₂ b₂.
     ap (putNodeIn m t (i + 1) c₂ b₂ (w + 2 ^ m)) (put-in m t (i + 1) c₁ b₁ w bs)
     ∙ put-in m t (i + 1) c₂ b₂ (w + 2 ^ m) (putNode m t (i + 1) c₁ b₁ w bs) in
@@ -108,32 +110,33 @@ bit-fits : (w : ℕ) → 1 * 2 ^ (w % 8) % 256 ≡ 2 ^ (w % 8)
 bit-fits w = ap (λ (x : ℕ). x % 256) (one-mul (2 ^ (w % 8))) ∙ mod-eq-of-lt (omega (arith, pow-mono {i = w % 8} {j = 7} (omega arith)))
 
 -- a word as `put_word` puts it
-pub word-made : (bs : List ℕ) (w x : ℕ) → x ≡ (getD bs (w / 8) 0 + 1 * 2 ^ (w % 8) % 256) % 256 → set bs (w / 8) x ≡ withWordIn bs w
-word-made bs w x e = ap (set bs (w / 8)) (e ∙ ap (λ (y : ℕ). (getD bs (w / 8) 0 + y) % 256) (bit-fits w))
+pub word-correct : (bs : List ℕ) (w x : ℕ) → x ≡ (getD bs (w / 8) 0 + 1 * 2 ^ (w % 8) % 256) % 256 → set bs (w / 8) x ≡ withWordIn bs w
+word-correct bs w x e = ap (set bs (w / 8)) (e ∙ ap (λ (y : ℕ). (getD bs (w / 8) 0 + y) % 256) (bit-fits w))
 
 module _ (bs : List ℕ) (e : Edge) (w : ℕ) where
   -- a number is no word
-  pub edge-number : (e .number ≡ 0 → ⊥) → bs ≡ cond (eqb (e .number) 0 && e .turned) (withWordIn bs w) bs
+  pub edge-number : (e .number ≡ 0 → ⊥) → bs ≡ cond (eqb (e .number) 0 && e .complement) (withWordIn bs w) bs
   edge-number h = rw (ne-eqb (e .number) 0 h) refl
 
   -- the terminal turned about is one, ..
-  pub edge-yes : e .number ≡ 0 → e .turned ≡ true → withWordIn bs w ≡ cond (eqb (e .number) 0 && e .turned) (withWordIn bs w) bs
+  pub edge-yes : e .number ≡ 0 → e .complement ≡ true → withWordIn bs w ≡ cond (eqb (e .number) 0 && e .complement) (withWordIn bs w) bs
   edge-yes h y = rw (h, y) refl
 
   -- .. and as it stands none
-  pub edge-no : e .number ≡ 0 → e .turned ≡ false → bs ≡ cond (eqb (e .number) 0 && e .turned) (withWordIn bs w) bs
+  pub edge-no : e .number ≡ 0 → e .complement ≡ false → bs ≡ cond (eqb (e .number) 0 && e .complement) (withWordIn bs w) bs
   edge-no h y = rw (h, y) refl
 
 -- ---- The children of a node ------------------------------------------------------------------
 
 -- With no option below it a node has one word.
-pub put-one : (m : ℕ) (t : List Node) (i c : ℕ) (b : Bool) (w : ℕ) (bs cs : List ℕ) → m ≡ 0 → cs ≡ cond (eqb c 0 && b) (withWordIn bs w) bs → cs ≡ putNodeIn m t i c b w bs
+pub put-one : (m : ℕ) (t : List Node) (i c : ℕ) (b : Bool) (w : ℕ) (bs cs : List ℕ) → m ≡ 0 → cs ≡ cond (eqb c 0 && b) (withWordIn bs w) bs → cs
+    ≡ putNodeIn m t i c b w bs
 unfolding putNodeIn
 put-one m t i c b w bs cs h e = rw h e
 
 -- the words of two nodes, one after the other
 abbrev twoNodes : ℕ → List Node → ℕ → ℕ → List ℕ → Edge → Edge → List ℕ
-twoNodes m t i w bs f g = putNodeIn m t (i + 1) (g .number) (g .turned) (w + 2 ^ m) (putNodeIn m t (i + 1) (f .number) (f .turned) w bs)
+twoNodes m t i w bs f g = putNodeIn m t (i + 1) (g .number) (g .complement) (w + 2 ^ m) (putNodeIn m t (i + 1) (f .number) (f .complement) w bs)
 
 two-cond : (m : ℕ) (t : List Node) (i w : ℕ) (bs : List ℕ) (s : Bool) (e f g : Edge)
     → cond s (twoNodes m t i w bs e e) (twoNodes m t i w bs f g) ≡ twoNodes m t i w bs (cond s e f) (cond s e g)
@@ -142,31 +145,33 @@ two-cond m t i w bs false e f g = refl
 
 -- Else it has the words of its first child, then those of its second.
 pub put-both : (m : ℕ) (t : List (List ℕ)) (z i : ℕ) (e : Edge) (w : ℕ) (bs : List ℕ)
-    → putNodeIn (suc m) (tableOf t z) i (e .number) (e .turned) w bs
+    → putNodeIn (suc m) (tableOf t z) i (e .number) (e .complement) w bs
     ≡ (let x = getIn t z (e .number) in
     let f = firstEdge x i e in
     let g = secondEdge x i e in
-    putNodeIn m (tableOf t z) (i + 1) (g .number) (g .turned) (w + 2 ^ m) (putNodeIn m (tableOf t z) (i + 1) (f .number) (f .turned) w bs))
+    putNodeIn m (tableOf t z) (i + 1) (g .number) (g .complement) (w + 2 ^ m) (putNodeIn m (tableOf t z) (i + 1) (f .number) (f .complement) w bs))
 unfolding putNodeIn
 put-both m t z i e w bs =
     let two = twoNodes m (tableOf t z) i w bs in
-    let first : Node → Edge = λ y. record { number = y .first; turned = e .turned } in
-    let second : Node → Edge = λ y. record { number = y .second; turned = differ (y .complement) (e .turned) } in
+    let first : Node → Edge = λ y. record { number = y .first; complement = e .complement } in
+    let second : Node → Edge = λ y. record { number = y .second; complement = differ (y .complement) (e .complement) } in
     ap (λ (y : Node). cond (eqb (e .number) 0 || ltb i (y .level)) (two e e) (two (first y) (second y))) (table-node t z (e .number))
     ∙ two-cond m (tableOf t z) i w bs (eqb (e .number) 0 || ltb i (getIn t z (e .number) .level)) e _ _
 
 -- a node as `fill_node` puts it
-pub put-made : (m : ℕ) (t : List (List ℕ)) (z i : ℕ) (x : Row) (e f g : Edge) (w h : ℕ) (bs cs ds : List ℕ) → m ≤ truthTableMost → (m ≡ 0 → ⊥)
+pub put-correct : (m : ℕ) (t : List (List ℕ)) (z i : ℕ) (x : NodeRecord) (e f g : Edge) (w h : ℕ) (bs cs ds : List ℕ) → m ≤ truthTableMost
+    → (m ≡ 0 → ⊥)
     → x ≡ getIn t z (e .number) → f ≡ firstEdge x i e → g ≡ secondEdge x i e → h ≡ 1 * 2 ^ (m - 1) % 18446744073709551616
-    → cs ≡ putNodeIn (m - 1) (tableOf t z) (i + 1) (f .number) (f .turned) w bs
-    → ds ≡ putNodeIn (m - 1) (tableOf t z) (i + 1) (g .number) (g .turned) (w + h) cs
-    → ds ≡ putNodeIn m (tableOf t z) i (e .number) (e .turned) w bs
-put-made zero t z i x e f g w h bs cs ds l n xe fe ge he ce de = absurd (n refl)
-put-made (suc m) t z i x e f g w h bs cs ds l n xe fe ge he ce de =
+    → cs ≡ putNodeIn (m - 1) (tableOf t z) (i + 1) (f .number) (f .complement) w bs
+    → ds ≡ putNodeIn (m - 1) (tableOf t z) (i + 1) (g .number) (g .complement) (w + h) cs
+    → ds ≡ putNodeIn m (tableOf t z) i (e .number) (e .complement) w bs
+put-correct zero t z i x e f g w h bs cs ds l n xe fe ge he ce de = absurd (n refl)
+put-correct (suc m) t z i x e f g w h bs cs ds l n xe fe ge he ce de =
     let d : suc m - 1 ≡ m = omega arith in
-    let first = ce ∙ ap (λ (k : ℕ). putNodeIn k (tableOf t z) (i + 1) (f .number) (f .turned) w bs) d in
-    let second = de ∙ ap (λ (k : ℕ). putNodeIn k (tableOf t z) (i + 1) (g .number) (g .turned) (w + h) cs) d in
+    let first = ce ∙ ap (λ (k : ℕ). putNodeIn k (tableOf t z) (i + 1) (f .number) (f .complement) w bs) d in
+    let second = de ∙ ap (λ (k : ℕ). putNodeIn k (tableOf t z) (i + 1) (g .number) (g .complement) (w + h) cs) d in
     second
-    ∙ ap₂ (λ (a : ℕ) (l : List ℕ). putNodeIn m (tableOf t z) (i + 1) (g .number) (g .turned) (w + a) l) (he ∙ few-words (suc m) 1 (omega (arith, l)) ∙ ap (λ (k : ℕ). 2 ^ k) d) first
-    ∙ ap₂ (twoNodes m (tableOf t z) i w bs) (fe ∙ ap (λ (y : Row). firstEdge y i e) xe) (ge ∙ ap (λ (y : Row). secondEdge y i e) xe)
+    ∙ ap₂ (λ (a : ℕ) (l : List ℕ). putNodeIn m (tableOf t z) (i + 1) (g .number) (g .complement) (w + a) l)
+    (he ∙ few-words (suc m) 1 (omega (arith, l)) ∙ ap (λ (k : ℕ). 2 ^ k) d) first
+    ∙ ap₂ (twoNodes m (tableOf t z) i w bs) (fe ∙ ap (λ (y : NodeRecord). firstEdge y i e) xe) (ge ∙ ap (λ (y : NodeRecord). secondEdge y i e) xe)
     ∙ sym (put-both m t z i e w bs)

@@ -4,8 +4,8 @@ use mathlib.Core.List.{List}
 use Prim.Native.Nat.{ℕ, zero, suc, _+_, _/_, _%_, _^_}
 use lib.Dec.{ltb, eqb}
 use lib.ListN.{getD, set}
-use Rattle.lists.specs.Lists.{differ}
-use Rattle.reading.specs.Nodes.{Node, node}
+use Rattle.theory_lists.specs.Lists.{differ}
+use Rattle.theory_reading.specs.Nodes.{Node, node}
 
 -- word w becomes 1
 abbrev pub withWordIn : List ℕ → ℕ → List ℕ

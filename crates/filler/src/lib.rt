@@ -5,13 +5,13 @@ ghost use mathlib.Core.Option.{none};
 ghost use lib.Dec.{eqb};
 ghost use Prim.Native.Nat.{_+_, _≤_, _/_, _^_};
 ghost use lib.ListN.{length, replicate};
-ghost use Rattle.reading.specs.Limits.{optionLimit, openLimit, tableLimit, truthTableLeast, truthTableMost, truthLimit};
-ghost use Rattle.reading.specs.Reading.{reading};
-ghost use Rattle.reading.specs.Deciding.{trace};
-ghost use Rattle.reading.specs.Calls.{bytesFrom, Fills};
+ghost use Rattle.theory_reading.specs.Limits.{optionLimit, openLimit, tableLimit, truthTableLeast, truthTableMost, truthLimit};
+ghost use Rattle.theory_reading.specs.Reading.{reading};
+ghost use Rattle.theory_reading.specs.Deciding.{trace};
+ghost use Rattle.theory_reading.specs.Calls.{bytesFrom, Fills};
 ghost use Rattle.work_table.specs.Table.{noRecord};
 ghost use Rattle.work_table.specs.TableLaws.{tableOf};
-ghost use Rattle.checker.specs.CheckMade.{AsLong};
+ghost use Rattle.checker.specs.CheckCorrect.{AsLong};
 ghost use Rattle.filler.specs.Answers.{fillingOf};
 ghost use Rattle.filler.specs.Truths.{withWordIn, putNodeIn};
 use blocks::below;
@@ -67,12 +67,12 @@ fn put_word(v: &mut [u8], w: usize)
 
 // One word: yes for the terminal turned about.
 fn put_edge(v: &mut [u8], e: Edge, w: usize)
-    ensures { λ _. ⌜ now (v .exit) ≡ cond (eqb (e .number) 0 && e .turned) (withWordIn (now (v .entry)) w) (now (v .entry)) ⌝ }
+    ensures { λ _. ⌜ now (v .exit) ≡ cond (eqb (e .number) 0 && e .complement) (withWordIn (now (v .entry)) w) (now (v .entry)) ⌝ }
 {
     if e.number != 0 {
         return;
     }
-    let t = e.turned;
+    let t = e.complement;
     if t {
         put_word(v, w);
     }
@@ -81,7 +81,7 @@ fn put_edge(v: &mut [u8], e: Edge, w: usize)
 // The words from w on of the node of level i, m options below it, that e stands for. z: how many numbers there are
 fn fill_node(t: &[[u32; 6]], z: u32, v: &mut [u8], m: u32, i: u32, e: Edge, w: usize)
     requires { ⌜ (m ≤ truthTableMost) × ((i + m ≤ openLimit + optionLimit) × (w + 2 ^ m ≤ truthLimit)) ⌝ }
-    ensures { λ _. ⌜ now (v .exit) ≡ putNodeIn m (tableOf (now (t .entry)) z) i (e .number) (e .turned) w (now (v .entry)) ⌝ }
+    ensures { λ _. ⌜ now (v .exit) ≡ putNodeIn m (tableOf (now (t .entry)) z) i (e .number) (e .complement) w (now (v .entry)) ⌝ }
 {
     if m == 0 {
         put_edge(v, e, w);
@@ -97,7 +97,8 @@ fn fill_node(t: &[[u32; 6]], z: u32, v: &mut [u8], m: u32, i: u32, e: Edge, w: u
 
 // Node by node, the words that the stream covers.
 fn fill_words(n: u32, s: &[u8], v: &mut [u8], t: &mut [[u32; 6]])
-    requires { ⌜ (truthTableLeast ≤ n) × ((n ≤ truthTableMost) × ((tableLimit ≤ length (now t)) × ((reading n (now s) .fault ≡ none) × (now v ≡ replicate (2 ^ n / 8) 0)))) ⌝ }
+    requires { ⌜ (truthTableLeast ≤ n) × ((n ≤ truthTableMost) × ((tableLimit ≤ length (now t))
+        × ((reading n (now s) .fault ≡ none) × (now v ≡ replicate (2 ^ n / 8) 0)))) ⌝ }
     ensures { λ _. ⌜ (now (v .exit) ≡ bytesFrom (2 ^ n / 8) n (trace n (now (s .entry))) 0) × AsLong (now (t .exit)) (now (t .entry)) ⌝ }
 {
     let mut o = [[0u32; 4]; OPEN_LIMIT];
@@ -130,7 +131,8 @@ fn fill_words(n: u32, s: &[u8], v: &mut [u8], t: &mut [[u32; 6]])
 
 // FILLING a truth table: causes 1, 4 and 6, then those of the stream, which is read once more to fill.
 pub fn fill(n: u32, s: &[u8], v: &mut [u8], t: &mut [[u32; 6]]) -> Filling
-    ensures { λ r. ⌜ Fills noRecord n (now (s .entry)) (now (v .entry)) (now (t .entry)) (record { answer = fillingOf r; table = now (t .exit); truths = now (v .exit) }) ⌝ }
+    ensures { λ r. ⌜ Fills noRecord n (now (s .entry)) (now (v .entry)) (now (t .entry))
+        (record { answer = fillingOf r; table = now (t .exit); truths = now (v .exit) }) ⌝ }
 {
     if n < TRUTH_TABLE_LEAST {
         return Filling::Refused(early(Cause::OptionCount));

@@ -3,9 +3,9 @@ use mathlib.Core.Path.{_≡_, refl, ap, _∙_}
 use mathlib.Core.Bool.{Bool, true, false, cond}
 use mathlib.Core.List.{List}
 use Prim.Native.Nat.{ℕ}
-use Rattle.lists.specs.Lists.{bit}
-use Rattle.reading.specs.Causes.{Result, refused, done, causeRow}
-use Rattle.reading.specs.Calls as R
+use Rattle.theory_lists.specs.Lists.{bit}
+use Rattle.theory_reading.specs.Causes.{Result, refused, done, causeRow}
+use Rattle.theory_reading.specs.Calls as R
 use Rattle.work_table.specs.Table.{noRecord}
 use Rattle.firmware.specs.declared.RuleChecked.{RuleChecked}
 use Rattle.firmware.specs.declared.RuleDecided.{RuleDecided}
@@ -49,13 +49,17 @@ abbrev pub decideGiven : ℕ → List ℕ → ℕ → List (List ℕ) → Given 
 decideGiven n bytes w t = let c = R.decide noRecord n bytes w t in record { answer = decidedNumbers (c .answer); table = c .table }
 
 -- The numbers of what a call answers.
-pub check-numbers : (r : RuleChecked) (a : Result R.Checked) (z : List (List ℕ)) (n : ℕ) (bytes : List ℕ) (t : List (List ℕ)) → r ≡ checkedNumbers a → record { answer = a; table = z } ≡ R.check noRecord n bytes t
+pub check-numbers : (r : RuleChecked) (a : Result R.Checked) (z : List (List ℕ)) (n : ℕ) (bytes : List ℕ) (t : List (List ℕ)) → r ≡ checkedNumbers a
+    → record { answer = a; table = z } ≡ R.check noRecord n bytes t
     → record { answer = r; table = z } ≡ checkGiven n bytes t
-check-numbers r a z n bytes t e h = ap (λ (x : RuleChecked). record { answer = x; table = z }) e ∙ ap (λ (x : R.Read R.Checked (List ℕ)). record { answer = checkedNumbers (x .answer); table = x .table }) h
+check-numbers r a z n bytes t e h = ap (λ (x : RuleChecked). record { answer = x; table = z }) e
+    ∙ ap (λ (x : R.Read R.Checked (List ℕ)). record { answer = checkedNumbers (x .answer); table = x .table }) h
 
-pub decide-numbers : (r : RuleDecided) (a : Result R.Verdict) (z : List (List ℕ)) (n : ℕ) (bytes : List ℕ) (w : ℕ) (t : List (List ℕ)) → r ≡ decidedNumbers a → record { answer = a; table = z } ≡ R.decide noRecord n bytes w t
+pub decide-numbers : (r : RuleDecided) (a : Result R.Verdict) (z : List (List ℕ)) (n : ℕ) (bytes : List ℕ) (w : ℕ) (t : List (List ℕ)) → r
+    ≡ decidedNumbers a → record { answer = a; table = z } ≡ R.decide noRecord n bytes w t
     → record { answer = r; table = z } ≡ decideGiven n bytes w t
-decide-numbers r a z n bytes w t e h = ap (λ (x : RuleDecided). record { answer = x; table = z }) e ∙ ap (λ (x : R.Read R.Verdict (List ℕ)). record { answer = decidedNumbers (x .answer); table = x .table }) h
+decide-numbers r a z n bytes w t e h = ap (λ (x : RuleDecided). record { answer = x; table = z }) e
+    ∙ ap (λ (x : R.Read R.Verdict (List ℕ)). record { answer = decidedNumbers (x .answer); table = x .table }) h
 
 -- likewise with the truth table
 pub record GivenWords : Type 0 where
@@ -66,6 +70,8 @@ pub record GivenWords : Type 0 where
 abbrev pub fillGiven : ℕ → List ℕ → List ℕ → List (List ℕ) → GivenWords
 fillGiven n bytes old t = let c = R.fill noRecord n bytes old t in record { answer = filledNumbers (c .answer); table = c .table; truths = c .truths }
 
-pub fill-numbers : (r : RuleFilled) (a : Result ℕ) (z : List (List ℕ)) (v : List ℕ) (n : ℕ) (bytes old : List ℕ) (t : List (List ℕ)) → r ≡ filledNumbers a → record { answer = a; table = z; truths = v } ≡ R.fill noRecord n bytes old t
+pub fill-numbers : (r : RuleFilled) (a : Result ℕ) (z : List (List ℕ)) (v : List ℕ) (n : ℕ) (bytes old : List ℕ) (t : List (List ℕ)) → r
+    ≡ filledNumbers a → record { answer = a; table = z; truths = v } ≡ R.fill noRecord n bytes old t
     → record { answer = r; table = z; truths = v } ≡ fillGiven n bytes old t
-fill-numbers r a z v n bytes old t e h = ap (λ (x : RuleFilled). record { answer = x; table = z; truths = v }) e ∙ ap (λ (x : R.Fill (List ℕ)). record { answer = filledNumbers (x .answer); table = x .table; truths = x .truths }) h
+fill-numbers r a z v n bytes old t e h = ap (λ (x : RuleFilled). record { answer = x; table = z; truths = v }) e
+    ∙ ap (λ (x : R.Fill (List ℕ)). record { answer = filledNumbers (x .answer); table = x .table; truths = x .truths }) h

@@ -1,8 +1,8 @@
 // Checking, deciding and filling for C, as `include/rule.h` declares them.
 ghost use mathlib.Core.Path.{_≡_};
-ghost use Rattle.lists.specs.Lists.{bit};
-ghost use Rattle.reading.specs.Causes.{causeRow};
-ghost use Rattle.scanner.specs.Cite.{causeOf};
+ghost use Rattle.theory_lists.specs.Lists.{bit};
+ghost use Rattle.theory_reading.specs.Causes.{causeRow};
+ghost use Rattle.scanner.specs.Abstraction.{causeOf};
 ghost use Rattle.checker.specs.Answers.{checkingOf};
 ghost use Rattle.decider.specs.Answers.{verdictsOf, decidingOf};
 ghost use Rattle.filler.specs.Answers.{fillingOf};
@@ -178,7 +178,8 @@ pub extern "C" fn rule_fill(
     truths: &mut [u8],
     table: &mut [[u32; 6]],
 ) -> RuleFilled
-    ensures { λ r. ⌜ record { answer = r; table = now (table .exit); truths = now (truths .exit) } ≡ fillGiven n (now (stream .entry)) (now (truths .entry)) (now (table .entry)) ⌝ }
+    ensures { λ r. ⌜ record { answer = r; table = now (table .exit); truths = now (truths .exit) }
+        ≡ fillGiven n (now (stream .entry)) (now (truths .entry)) (now (table .entry)) ⌝ }
 {
     filled_numbers(filler::fill(n, stream, truths, table))
 }

@@ -9,8 +9,8 @@ use lib.Dec.{eqb}
 use lib.ListN.{length, getD, take, drop, length-drop, drop-of-length-le}
 use lib.Seq.{drop-cons, drop-drop, getD-drop}
 use borrow.Author.Tests.{eq-eqb, ne-eqb, eqb-true}
-use Rattle.reading.specs.Bytes.{lineFeed}
-use Rattle.writing.specs.Join.{onto, pieces}
+use Rattle.theory_reading.specs.Bytes.{lineFeed}
+use Rattle.theory_writing.specs.Join.{onto, pieces}
 use Rattle.job.specs.Between.{between}
 
 -- how many bytes stand before the first c

@@ -12,12 +12,12 @@ use lib.ListN.{length, getD, drop, drop-of-length-le}
 use lib.Pow.{pow-add}
 use lib.Seq.{drop-cons}
 use borrow.Author.Tests.{lt-ltb, le-ltb, eq-eqb, ne-eqb, leb-true, leb-false}
-use Rattle.lists.specs.Lists.{All, is-false, and-r}
-use Rattle.lists.specs.Maps.{getD-pad}
-use Rattle.reading.specs.Bytes.{digitZero, digitNine, isDigit, text}
+use Rattle.theory_lists.specs.Lists.{All, is-false, and-r}
+use Rattle.theory_lists.specs.Maps.{getD-pad}
+use Rattle.theory_reading.specs.Bytes.{digitZero, digitNine, isDigit, text}
 use Rattle.claims.specs.Numerals.{digit-true, digit-range}
-use Rattle.writing.specs.Join.{sameBytes, Named, named, operatorNames, operatorOf, valueOn, numberOf}
-use Rattle.job.specs.Cite.{rowOf, operatorRows, namedAt, nameAt}
+use Rattle.theory_writing.specs.Join.{sameBytes, Named, named, operatorNames, operatorOf, valueOn, numberOf}
+use Rattle.job.specs.Abstraction.{rowOf, operatorRows, namedAt, nameAt}
 use Rattle.job.specs.declared.NamedOperator.{NamedOperator}
 
 -- ---- Numbers ---------------------------------------------------------------------------------
@@ -175,7 +175,16 @@ short-at (o ∷ os) (suc k) h = short-at os k (h .1)
 pub name-short : (k : ℕ) → length (nameAt k) ≤ 4
 unfolding text
 name-short k =
-    short-at operatorNames k (omega arith, (omega arith, (omega arith, (omega arith, (omega arith, (omega arith, (omega arith, (omega arith, tt))))))))
+    short-at operatorNames k (
+      omega arith,
+      (
+        omega arith,
+        (
+          omega arith,
+          (omega arith, (omega arith, (omega arith, (omega arith, (omega arith, tt))))),
+        ),
+      ),
+    )
 
 module _ (x : List ℕ) where
   abbrev namedOr : Named → List Named → Bool → Option ℕ
@@ -191,7 +200,8 @@ module _ (x : List ℕ) where
   pub operator-hit : (k : ℕ) → k < 8 → sameBytes (nameAt k) x ≡ true → operatorOf (drop k operatorNames) x ≡ some (namedAt k .op)
   operator-hit k h e = operator-cons k h ∙ ap (namedOr (namedAt k) (drop (k + 1) operatorNames)) e
 
-  pub operator-miss : (k : ℕ) → k < 8 → sameBytes (nameAt k) x ≡ false → operatorOf (drop k operatorNames) x ≡ operatorOf (drop (k + 1) operatorNames) x
+  pub operator-miss : (k : ℕ) → k < 8 → sameBytes (nameAt k) x ≡ false → operatorOf (drop k operatorNames) x
+      ≡ operatorOf (drop (k + 1) operatorNames) x
   operator-miss k h e = operator-cons k h ∙ ap (namedOr (namedAt k) (drop (k + 1) operatorNames)) e
 
   pub operator-end : (k : ℕ) → 8 ≤ k → operatorOf (drop k operatorNames) x ≡ none

@@ -1,8 +1,8 @@
 pub mod Between
 pub mod Cuts
-pub mod Cite
+pub mod Abstraction
 pub mod Lining
 pub mod Fields
 pub mod Parsing
-pub mod ParsingMade
+pub mod ParsingCorrect
 pub mod Streams

@@ -6,11 +6,12 @@ use mathlib.Core.Option.{none}
 use Prim.Native.Nat.{ℕ, _+_, _-_, _≤_, _<_}
 use native.Mathlib.Omega.{arith}
 use lib.ListN.{length, getD, take, drop, length-drop, drop-of-length-le}
-use Rattle.lists.specs.Lists.{decide-le}
-use Rattle.reading.specs.Bytes.{blank, lineFeed}
-use Rattle.writing.specs.Join.{pieces, firstLine, jobOf, fiveLines}
+use Rattle.theory_lists.specs.Lists.{decide-le}
+use Rattle.theory_reading.specs.Bytes.{blank, lineFeed}
+use Rattle.theory_writing.specs.Join.{pieces, firstLine, jobOf, fiveLines}
 use Rattle.job.specs.Between.{between, between-end, between-join}
-use Rattle.job.specs.Cuts.{cutAt, firstEnd, thirdEnd, fifthEnd, cut-from, cut-to, cut-at, pieces-some, pieces-none, pieces-full, piece-more, piece-last}
+use Rattle.job.specs.Cuts.{cutAt, firstEnd, thirdEnd, fifthEnd, cut-from, cut-to, cut-at, pieces-some, pieces-none, pieces-full, piece-more}
+use Rattle.job.specs.Cuts.{piece-last}
 
 -- ---- Lines -----------------------------------------------------------------------------------
 
@@ -73,12 +74,14 @@ module _ (s : List ℕ) where
       pub more-lines : (e : ℕ) → e ≡ end (d + 1) → e + 1 < length s → fiveLines (pieces lineFeed s) ≡ none
       more-lines e u h =
           ap fiveLines (four ∙ ap (λ (l : List (List ℕ)). after (between s (c + 1) d ∷ l)) (more (d + 1) e (u, omega (arith, h))))
-          ∙ past (between s 0 a) (between s (a + 1) b) (between s (b + 1) c) (between s (c + 1) d) (between s (d + 1) e) (rest (e + 1)) (pieces-some lineFeed (drop (e + 1) s))
+          ∙ past (between s 0 a) (between s (a + 1) b) (between s (b + 1) c) (between s (c + 1) d) (between s (d + 1) e) (rest (e + 1))
+          (pieces-some lineFeed (drop (e + 1) s))
           (pieces-full lineFeed (drop (e + 1) s) (omega (arith, h, length-drop (e + 1) s)))
 
       -- the job of the five
       five : (e : ℕ) → e ≡ end (d + 1) → length s ≤ e + 1
-          → fiveLines (pieces lineFeed s) ≡ jobOf (between s 0 a) (between s (a + 1) b) (between s (b + 1) c) (between s (c + 1) d) (between s (d + 1) e)
+          → fiveLines (pieces lineFeed s) ≡ jobOf (between s 0 a) (between s (a + 1) b) (between s (b + 1) c) (between s (c + 1) d)
+          (between s (d + 1) e)
       five e u h = ap fiveLines four ∙ ⊎-elim
           (λ (l : length s ≤ e).
           ap (λ (l : List (List ℕ)). fiveLines (after (between s (c + 1) d ∷ l)))

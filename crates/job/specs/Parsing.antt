@@ -5,8 +5,8 @@ use mathlib.Core.Option.{Option, none, some}
 use Prim.Native.Nat.{ℕ}
 use lib.Dec.{ltb}
 use lib.ListN.{length}
-use Rattle.reading.specs.Bytes.{lineFeed}
-use Rattle.writing.specs.Join as J
+use Rattle.theory_reading.specs.Bytes.{lineFeed}
+use Rattle.theory_writing.specs.Join as J
 use Rattle.job.specs.Cuts.{firstEnd, thirdEnd, fifthEnd}
 use Rattle.job.specs.declared.Job.{Job}
 use Rattle.job.specs.declared.Parsing.{Parsing}

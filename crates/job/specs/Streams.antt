@@ -8,9 +8,9 @@ use Prim.Native.Nat.{ℕ, _+_, _≤_, _<_}
 use native.Mathlib.Omega.{arith}
 use lib.Dec.{ltb}
 use lib.ListN.{length, take}
-use Rattle.lists.specs.Lists.{decide-le}
-use Rattle.reading.specs.Bytes.{blank, lineFeed}
-use Rattle.writing.specs.Join as J
+use Rattle.theory_lists.specs.Lists.{decide-le}
+use Rattle.theory_reading.specs.Bytes.{blank, lineFeed}
+use Rattle.theory_writing.specs.Join as J
 use Rattle.job.specs.Between.{between}
 use Rattle.job.specs.Cuts.{cutAt, firstEnd, thirdEnd, fifthEnd}
 use Rattle.job.specs.Lining.{one-line, two-lines, three-lines, four-lines, more-lines, five-lines, lines-ordered}
@@ -102,7 +102,7 @@ module _ (s : List ℕ) where
       go (some j) p q = let z : _≡_ {A = ℕ} 0 1 = cc in absurd (omega arith)
 
 -- what the code knows of a job: the lines are in this order, and the report on what stands between them is the program's output
-pub record Joins (s : List ℕ) (t : Job) : Type 0 where
+pub record Operates (s : List ℕ) (t : Job) : Type 0 where
   pub first-third : t .first < t .third
   pub third-fifth : t .third < t .fifth
   pub fifth-end : t .fifth ≤ length s
@@ -117,7 +117,7 @@ pub record Joins (s : List ℕ) (t : Job) : Type 0 where
       ≡ J.join s
 
 module _ (s : List ℕ) where
-  joins-placed : (j : J.Job) → jobIn s ≡ some j → Streams s j → Joins s (placedJob s j)
+  joins-placed : (j : J.Job) → jobIn s ≡ some j → Streams s j → Operates s (placedJob s j)
   joins-placed j p o =
       record {
         first-third = o .first-third;
@@ -133,11 +133,11 @@ module _ (s : List ℕ) where
   in-lines j true e = never j e
   in-lines j false e = e
 
-  pub join-good : (t : Job) → Good t ≡ parsed s → Joins s t
+  pub join-good : (t : Job) → Good t ≡ parsed s → Operates s t
   unfolding parsed
   join-good t e = go (jobIn s) refl e
     where
-      go : (o : Option J.Job) → jobIn s ≡ o → Good t ≡ placed s o → Joins s t
+      go : (o : Option J.Job) → jobIn s ≡ o → Good t ≡ placed s o → Operates s t
       go none p q = let z : _≡_ {A = ℕ} 0 1 = cc in absurd (omega arith)
       go (some j) p q =
           let d : t ≡ placedJob s j = cc in

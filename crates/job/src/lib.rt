@@ -3,9 +3,9 @@ ghost use mathlib.Core.Path.{_≡_};
 ghost use mathlib.Core.List.{[], _∷_};
 ghost use lib.ListN.{length};
 ghost use Prim.Native.Nat.{_<_, _≤_};
-ghost use Rattle.reading.specs.Bytes.{isDigit, lineFeed, blank};
-ghost use Rattle.writing.specs.Join.{pieces, sameBytes, operatorNames, operatorOf, valueOn, numberOf, fiveLines};
-ghost use Rattle.job.specs.Cite.{fieldOf, Heads, unknownHeading, linesJob, Placed, otherLines, operatorRows, rowOf, namedAt, nameAt};
+ghost use Rattle.theory_reading.specs.Bytes.{isDigit, lineFeed, blank};
+ghost use Rattle.theory_writing.specs.Join.{pieces, sameBytes, operatorNames, operatorOf, valueOn, numberOf, fiveLines};
+ghost use Rattle.job.specs.Abstraction.{fieldOf, Heads, unknownHeading, linesJob, Placed, otherLines, operatorRows, rowOf, namedAt, nameAt};
 ghost use Rattle.job.specs.Cuts.{cutAt};
 ghost use Rattle.job.specs.Parsing.{parsed};
 

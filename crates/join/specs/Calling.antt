@@ -6,14 +6,14 @@ use Prim.{Unit, tt}
 use Prim.Native.Nat.{ℕ, _+_, _≤_, min}
 use native.Mathlib.Omega.{arith}
 use lib.ListN.{length, take, replicate, length-replicate}
-use Rattle.reading.specs.Limits.{optionLimit, tableLimit}
-use Rattle.reading.specs.Causes.{Result, refused, done, unlessRefused}
-use Rattle.writing.specs.Run.{Answer, outputAfter}
-use Rattle.writing.specs.Output.{output-length}
-use Rattle.writing.specs.Calls.{Combine, combine, combineAnswer, combineText}
-use Rattle.writing.specs.Join.{Job, jobLimit, report, called, answered}
+use Rattle.theory_reading.specs.Limits.{optionLimit, tableLimit}
+use Rattle.theory_reading.specs.Causes.{Result, refused, done, unlessRefused}
+use Rattle.theory_writing.specs.Run.{Answer, outputAfter}
+use Rattle.theory_writing.specs.Output.{output-length}
+use Rattle.theory_writing.specs.Calls.{Combine, combine, combineAnswer, combineText}
+use Rattle.theory_writing.specs.Join.{Job, jobLimit, report, called, answered}
 use Rattle.claims.specs.Runs.{ran}
-use Rattle.engine.specs.Pending.{waiting}
+use Rattle.theory_engine.specs.Pending.{waiting}
 use Rattle.report.specs.Printing.{lineLimit, reportText, reportIn, text-there}
 use Rattle.join.specs.Joining.{reportLimit}
 
@@ -46,7 +46,8 @@ module _ {R S : Type 0} (z : R) (o : S) (n op size : ℕ) (x y out : List ℕ) (
   call-length = after-length (call .answer) (combineText n op size (x ∷ y ∷ []))
 
   -- what the call answers and leaves: a and w
-  module _ (a : Result Answer) (f g : List R) (h : List S) (w : List ℕ) (e : record { answer = a; first = f; second = g; third = h; output = w } ≡ call) where
+  module _ (a : Result Answer) (f g : List R) (h : List S) (w : List ℕ)
+      (e : record { answer = a; first = f; second = g; third = h; output = w } ≡ call) where
     answers : a ≡ call .answer
     answers = ap (λ (m : Combine R S). m .answer) e
 
@@ -77,7 +78,8 @@ module _ {R S : Type 0} (z : R) (o : S) (n op size : ℕ) (x y out : List ℕ) (
       same-output : call .output ≡ called job .output
       unfolding combine called
       same-output =
-          ap₂ (λ (w : List ℕ) (b : Result Answer). unlessRefused b w (λ (i : Answer). outputAfter (combineText n op size (x ∷ y ∷ [])) w)) p same-answer
+          ap₂ (λ (w : List ℕ) (b : Result Answer). unlessRefused b w (λ (i : Answer). outputAfter (combineText n op size (x ∷ y ∷ [])) w)) p
+          same-answer
 
       call-report : report n a w ≡ answered (some job)
       unfolding answered

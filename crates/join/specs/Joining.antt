@@ -4,8 +4,8 @@ use mathlib.Core.List.{List}
 use Prim.Native.Nat.{ℕ, _+_, _≤_}
 use native.Mathlib.Omega.{arith}
 use lib.ListN.{length, take}
-use Rattle.writing.specs.Join.{jobLimit, badJob, join}
-use Rattle.engine.specs.Pending.{waiting, pushAll}
+use Rattle.theory_writing.specs.Join.{jobLimit, badJob, join}
+use Rattle.theory_engine.specs.Pending.{waiting, pushAll}
 use Rattle.job.specs.Parsing.{parsed}
 use Rattle.job.specs.Streams.{join-bad}
 use Rattle.job.specs.declared.Parsing.{Parsing}

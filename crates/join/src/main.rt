@@ -3,7 +3,7 @@ ghost use mathlib.Core.Path.{_≡_};
 ghost use mathlib.Core.Option.{some};
 ghost use lib.ListN.{length, take};
 ghost use Prim.Native.Nat.{_≤_};
-ghost use Rattle.writing.specs.Join.{answered, join};
+ghost use Rattle.theory_writing.specs.Join.{answered, join};
 ghost use Rattle.join.specs.Joining.{reportLimit};
 ghost use Rattle.join.specs.Got.{Within};
 use job::JOB_LIMIT;
@@ -22,7 +22,8 @@ const REPORT_LIMIT: usize = JOB_LIMIT + LINE_LIMIT;
 // The report on a job of these numbers and streams
 fn run(n: u32, op: u32, size: u32, x: &[u8], y: &[u8], w: &mut [u8; REPORT_LIMIT]) -> usize
     requires { ⌜ reportLimit ≤ length (now w) ⌝ }
-    ensures { λ r. ⌜ take r (now (w .exit)) ≡ answered (some (record { n = n; op = op; size = size; stream₁ = now (x .entry); stream₂ = now (y .entry) })) ⌝ }
+    ensures { λ r. ⌜ take r (now (w .exit)) ≡ answered (some (record
+        { n = n; op = op; size = size; stream₁ = now (x .entry); stream₂ = now (y .entry) })) ⌝ }
     ensures { λ r. ⌜ r ≤ length (now (w .exit)) ⌝ }
 {
     let mut out = [0u8; JOB_LIMIT];

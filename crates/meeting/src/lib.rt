@@ -2,9 +2,10 @@
 ghost use mathlib.Core.Path.{_≡_};
 ghost use mathlib.Core.Bool.{cond, true, false};
 ghost use mathlib.Core.List.{[]};
-ghost use Rattle.writing.specs.Run.{whole, inputEnded, outputFull};
-ghost use Rattle.engine.specs.Engine.{isStale, alikeConstant, alikeNumber, barredHalf, spaced, sendNode, writeTemporary, giveIn, knownIn, meetIn, secondIn, doneIn};
-ghost use Rattle.meeting.specs.Cite.{halfOf, penOf, walkedOf, endingsOf};
+ghost use Rattle.theory_writing.specs.Run.{whole, inputEnded, outputFull};
+ghost use Rattle.theory_engine.specs.Engine.{isStale, alikeConstant, alikeNumber, barredHalf, spaced, sendNode, writeTemporary, giveIn, knownIn};
+ghost use Rattle.theory_engine.specs.Engine.{meetIn, secondIn, doneIn};
+ghost use Rattle.meeting.specs.Abstraction.{halfOf, progressOf, walkedOf, endingsOf};
 use checker::Refusal;
 use pending_text::Sent;
 use pending_text::close;
@@ -32,7 +33,7 @@ pub struct Half {
 }
 
 // How far the writer is: the numbers given out, the ends of the queue, the bytes written; more was sent than the output holds
-pub struct Pen {
+pub struct Progress {
     pub written: usize,
     pub given: u32,
     pub first: u32,
@@ -41,7 +42,7 @@ pub struct Pen {
 }
 
 pub struct Walked {
-    pub pen: Pen,
+    pub progress: Progress,
     pub half: Half,
 }
 
@@ -175,7 +176,8 @@ fn send_node(
     w: &mut [u8],
     at: usize,
 ) -> Sent
-    ensures { λ r. ⌜ record { written = r .written; full = r .full; output = now (out .exit); waits = now (w .exit) } ≡ sendNode m v (halfOf a) (halfOf b) k (now (out .entry)) (now (w .entry)) at ⌝ }
+    ensures { λ r. ⌜ record { written = r .written; full = r .full; output = now (out .exit); waits = now (w .exit) }
+        ≡ sendNode m v (halfOf a) (halfOf b) k (now (out .entry)) (now (w .entry)) at ⌝ }
 {
     let space = is_spaced(v, a, b);
     let x = close(w, m, space, b.wrote, b.skipped, b.number, k);
@@ -183,11 +185,12 @@ fn send_node(
 }
 
 fn sent_as(h: Half, z: u32, e: Ends, x: Sent) -> Walked
-    ensures { λ r. ⌜ r ≡ record { half = h; pen = record { written = x .written; given = z; first = e .first; last = e .last; full = x .full } } ⌝ }
+    ensures { λ r. ⌜ r ≡ record { half = h; progress = record { written = x .written; given = z; first = e .first; last = e .last; full = x .full } }
+        ⌝ }
 {
     Walked {
         half: h,
-        pen: Pen {
+        progress: Progress {
             written: x.written,
             given: z,
             first: e.first,
@@ -197,10 +200,13 @@ fn sent_as(h: Half, z: u32, e: Ends, x: Sent) -> Walked
     }
 }
 
-pub fn kept(h: Half, pen: Pen) -> Walked
-    ensures { λ r. ⌜ r ≡ record { half = h; pen = pen } ⌝ }
+pub fn kept(h: Half, progress: Progress) -> Walked
+    ensures { λ r. ⌜ r ≡ record { half = h; progress = progress } ⌝ }
 {
-    Walked { half: h, pen: pen }
+    Walked {
+        half: h,
+        progress: progress,
+    }
 }
 
 pub fn half_of(r: Walked) -> Half
@@ -209,10 +215,10 @@ pub fn half_of(r: Walked) -> Half
     r.half
 }
 
-pub fn pen_of(r: Walked) -> Pen
-    ensures { λ x. ⌜ x ≡ r .pen ⌝ }
+pub fn progress_of(r: Walked) -> Progress
+    ensures { λ x. ⌜ x ≡ r .progress ⌝ }
 {
-    r.pen
+    r.progress
 }
 
 // A node without a number
@@ -224,17 +230,18 @@ fn write_temporary(
     t: &mut [[u32; 12]],
     out: &mut [u8],
     w: &mut [u8],
-    pen: Pen,
+    progress: Progress,
 ) -> Walked
-    ensures { λ r. ⌜ walkedOf r (now (t .exit)) (now (out .exit)) (now (w .exit)) ≡ writeTemporary m v (halfOf a) (halfOf b) (now (t .entry)) (now (out .entry)) (now (w .entry)) (penOf pen) ⌝ }
+    ensures { λ r. ⌜ walkedOf r (now (t .exit)) (now (out .exit)) (now (w .exit))
+        ≡ writeTemporary m v (halfOf a) (halfOf b) (now (t .entry)) (now (out .entry)) (now (w .entry)) (progressOf progress) ⌝ }
 {
     let c = a.complement;
-    let x = send_node(m, v, a, b, 0, out, w, pen.written);
+    let x = send_node(m, v, a, b, 0, out, w, progress.written);
     let e = Ends {
-        first: pen.first,
-        last: pen.last,
+        first: progress.first,
+        last: progress.last,
     };
-    sent_as(temporary(c), pen.given, e, x)
+    sent_as(temporary(c), progress.given, e, x)
 }
 
 // Rule 5: the node gets the number k, or none if that is 0.
@@ -248,22 +255,23 @@ fn give(
     t: &mut [[u32; 12]],
     out: &mut [u8],
     w: &mut [u8],
-    pen: Pen,
+    progress: Progress,
 ) -> Walked
-    ensures { λ r. ⌜ walkedOf r (now (t .exit)) (now (out .exit)) (now (w .exit)) ≡ giveIn k i m v (halfOf a) (halfOf b) (now (t .entry)) (now (out .entry)) (now (w .entry)) (penOf pen) ⌝ }
+    ensures { λ r. ⌜ walkedOf r (now (t .exit)) (now (out .exit)) (now (w .exit))
+        ≡ giveIn k i m v (halfOf a) (halfOf b) (now (t .entry)) (now (out .entry)) (now (w .entry)) (progressOf progress) ⌝ }
 {
     if k == 0 {
-        return write_temporary(m, v, a, b, t, out, w, pen);
+        return write_temporary(m, v, a, b, t, out, w, progress);
     }
-    let z = pen.given;
+    let z = progress.given;
     let q = Ends {
-        first: pen.first,
-        last: pen.last,
+        first: progress.first,
+        last: progress.last,
     };
     let e = store(t, z, q, k, i, a.number, b.number, either(v, 1, 0));
     let g = stamp_of(t, k);
     let h = numbered(k, g, 0, a.complement, true);
-    let x = send_node(m, v, a, b, k, out, w, pen.written);
+    let x = send_node(m, v, a, b, k, out, w, progress.written);
     sent_as(h, either(z < k, k, z), e, x)
 }
 
@@ -279,16 +287,17 @@ fn known(
     t: &mut [[u32; 12]],
     out: &mut [u8],
     w: &mut [u8],
-    pen: Pen,
+    progress: Progress,
 ) -> Walked
-    ensures { λ r. ⌜ walkedOf r (now (t .exit)) (now (out .exit)) (now (w .exit)) ≡ knownIn k size i m v (halfOf a) (halfOf b) (now (t .entry)) (now (out .entry)) (now (w .entry)) (penOf pen) ⌝ }
+    ensures { λ r. ⌜ walkedOf r (now (t .exit)) (now (out .exit)) (now (w .exit))
+        ≡ knownIn k size i m v (halfOf a) (halfOf b) (now (t .entry)) (now (out .entry)) (now (w .entry)) (progressOf progress) ⌝ }
 {
     if k == 0 {
-        let x = next_number(t, pen.given, pen.first, size, a.number, b.number);
-        return give(x, i, m, v, a, b, t, out, w, pen);
+        let x = next_number(t, progress.given, progress.first, size, a.number, b.number);
+        return give(x, i, m, v, a, b, t, out, w, progress);
     }
     let g = stamp_of(t, k);
-    kept(numbered(k, g, 0, a.complement, false), pen)
+    kept(numbered(k, g, 0, a.complement, false), progress)
 }
 
 // Two halves meet at level i; v: the `~` between them, m: how much waits.
@@ -302,12 +311,13 @@ fn meet(
     t: &mut [[u32; 12]],
     out: &mut [u8],
     w: &mut [u8],
-    pen: Pen,
+    progress: Progress,
 ) -> Walked
-    ensures { λ r. ⌜ walkedOf r (now (t .exit)) (now (out .exit)) (now (w .exit)) ≡ meetIn size i m v (halfOf a) (halfOf b) (now (t .entry)) (now (out .entry)) (now (w .entry)) (penOf pen) ⌝ }
+    ensures { λ r. ⌜ walkedOf r (now (t .exit)) (now (out .exit)) (now (w .exit))
+        ≡ meetIn size i m v (halfOf a) (halfOf b) (now (t .entry)) (now (out .entry)) (now (w .entry)) (progressOf progress) ⌝ }
 {
     if alike_constant(v, a, b) {
-        return kept(constant(a.complement), pen);
+        return kept(constant(a.complement), progress);
     }
     if alike_number(t, v, a, b) {
         return kept(
@@ -318,17 +328,17 @@ fn meet(
                 a.complement,
                 a.wrote,
             ),
-            pen,
+            progress,
         );
     }
     if is_barred(t, a) {
-        return write_temporary(m, v, a, b, t, out, w, pen);
+        return write_temporary(m, v, a, b, t, out, w, progress);
     }
     if is_barred(t, b) {
-        return write_temporary(m, v, a, b, t, out, w, pen);
+        return write_temporary(m, v, a, b, t, out, w, progress);
     }
-    let k = find(t, pen.given, i, a.number, b.number, either(v, 1, 0));
-    known(k, size, i, m, v, a, b, t, out, w, pen)
+    let k = find(t, progress.given, i, a.number, b.number, either(v, 1, 0));
+    known(k, size, i, m, v, a, b, t, out, w, progress)
 }
 
 // After the second half: the halves meet, unless more was sent than the output holds.
@@ -343,23 +353,24 @@ pub fn second(
     out: &mut [u8],
     w: &mut [u8],
 ) -> Walked
-    ensures { λ r. ⌜ walkedOf r (now (t .exit)) (now (out .exit)) (now (w .exit)) ≡ secondIn size i m v (halfOf a) (walkedOf b (now (t .entry)) (now (out .entry)) (now (w .entry))) ⌝ }
+    ensures { λ r. ⌜ walkedOf r (now (t .exit)) (now (out .exit)) (now (w .exit))
+        ≡ secondIn size i m v (halfOf a) (walkedOf b (now (t .entry)) (now (out .entry)) (now (w .entry))) ⌝ }
 {
-    let pen = b.pen;
-    let full = pen.full;
+    let progress = b.progress;
+    let full = progress.full;
     if full {
         return b;
     }
     let h = b.half;
-    meet(size, i, m, v, a, h, t, out, w, pen)
+    meet(size, i, m, v, a, h, t, out, w, progress)
 }
 
 // ---- Before and after the walk
 
-pub fn pen_after(x: Sent) -> Pen
+pub fn progress_after(x: Sent) -> Progress
     ensures { λ r. ⌜ r ≡ record { written = x .written; given = 0; first = 0; last = 0; full = x .full } ⌝ }
 {
-    Pen {
+    Progress {
         written: x.written,
         given: 0,
         first: 0,
@@ -370,20 +381,21 @@ pub fn pen_after(x: Sent) -> Pen
 
 // After the walk: what waits, and the point, unless more was sent than the output holds. m: how much waited before it
 pub fn done(m: usize, r: Walked, out: &mut [u8], w: &mut [u8]) -> Sent
-    ensures { λ x. ⌜ record { written = x .written; full = x .full; output = now (out .exit); waits = now (w .exit) } ≡ doneIn m (walkedOf r [] (now (out .entry)) (now (w .entry))) ⌝ }
+    ensures { λ x. ⌜ record { written = x .written; full = x .full; output = now (out .exit); waits = now (w .exit) }
+        ≡ doneIn m (walkedOf r [] (now (out .entry)) (now (w .entry))) ⌝ }
 {
-    let pen = r.pen;
-    let full = pen.full;
+    let progress = r.progress;
+    let full = progress.full;
     if full {
         return Sent {
-            written: pen.written,
+            written: progress.written,
             full: full,
         };
     }
     let h = r.half;
     let q = wait(w, m, h.wrote, h.skipped, h.number);
     let e = push(w, q, b'.');
-    send(out, w, pen.written, e)
+    send(out, w, progress.written, e)
 }
 
 // ---- What a call answers

@@ -1,2 +1,2 @@
-pub mod Cite
-pub mod KeyMade
+pub mod Abstraction
+pub mod KeyCorrect

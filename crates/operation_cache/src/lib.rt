@@ -4,17 +4,17 @@ ghost use mathlib.Core.Bool.{false, true, _||_};
 ghost use mathlib.Core.List.{[], _∷_};
 ghost use lib.ListN.{getD, set};
 ghost use Prim.Native.Nat.{_-_};
-ghost use Rattle.lists.specs.Lists.{bit};
-ghost use Rattle.engine.specs.Memo.{slotOf};
-ghost use Rattle.meeting.specs.Cite.{halfOf};
-ghost use Rattle.operation_cache.specs.Cite.{keyCells, holds, tellsBy, toldBy, notedRow, notedBy};
+ghost use Rattle.theory_lists.specs.Lists.{bit};
+ghost use Rattle.theory_engine.specs.Memo.{slotOf};
+ghost use Rattle.meeting.specs.Abstraction.{halfOf};
+ghost use Rattle.operation_cache.specs.Abstraction.{keyCells, holds, tellsBy, toldBy, notedEntry, notedBy};
 use edges::Edge;
 use meeting::Half;
 use meeting::Walked;
 use meeting::constant;
 use meeting::half_of;
 use meeting::numbered;
-use meeting::pen_of;
+use meeting::progress_of;
 use unique_table::NUMBER_SPAN;
 use unique_table::either;
 use unique_table::level_of;
@@ -22,9 +22,9 @@ use unique_table::stamp_of;
 use unique_table::stir;
 
 // How many rows there are.
-pub const CACHE_ROWS: usize = 2048;
+pub const CACHE_ENTRIES: usize = 2048;
 
-const ROWS: u64 = CACHE_ROWS as u64;
+const ROWS: u64 = CACHE_ENTRIES as u64;
 
 // An edge beside another cell: its number, turned about or not
 const EDGE_SPAN: u64 = 2 * NUMBER_SPAN;
@@ -36,23 +36,23 @@ const EDGE_SPAN: u64 = 2 * NUMBER_SPAN;
 pub struct Key {
     pub number1: u32,
     pub stamp1: u32,
-    pub turned1: u32,
+    pub complement1: u32,
     pub number2: u32,
     pub stamp2: u32,
-    pub turned2: u32,
+    pub complement2: u32,
 }
 
 // g and h: the stamps of the edges' numbers
 pub fn key_of(x: Edge, g: u32, y: Edge, h: u32) -> Key
-    ensures { λ k. ⌜ keyCells k ≡ x .number ∷ g ∷ bit (x .turned) ∷ y .number ∷ h ∷ bit (y .turned) ∷ [] ⌝ }
+    ensures { λ k. ⌜ keyCells k ≡ x .number ∷ g ∷ bit (x .complement) ∷ y .number ∷ h ∷ bit (y .complement) ∷ [] ⌝ }
 {
     Key {
         number1: x.number,
         stamp1: g,
-        turned1: either(x.turned, 1, 0),
+        complement1: either(x.complement, 1, 0),
         number2: y.number,
         stamp2: h,
-        turned2: either(y.turned, 1, 0),
+        complement2: either(y.complement, 1, 0),
     }
 }
 
@@ -60,8 +60,8 @@ pub fn key_of(x: Edge, g: u32, y: Edge, h: u32) -> Key
 pub fn slot(k: Key) -> usize
     ensures { λ p. ⌜ p ≡ slotOf (keyCells k) ⌝ }
 {
-    let a = k.stamp1 as u64 * EDGE_SPAN + k.number1 as u64 * 2 + k.turned1 as u64;
-    let b = k.stamp2 as u64 * EDGE_SPAN + k.number2 as u64 * 2 + k.turned2 as u64;
+    let a = k.stamp1 as u64 * EDGE_SPAN + k.number1 as u64 * 2 + k.complement1 as u64;
+    let b = k.stamp2 as u64 * EDGE_SPAN + k.number2 as u64 * 2 + k.complement2 as u64;
     let v = stir(2654435769, a);
     (stir(2654435769, v % 4294967296 + b) % ROWS) as usize
 }
@@ -79,7 +79,7 @@ fn is_held(r: [u32; 9], k: Key) -> bool
     if r[4] != k.stamp1 {
         return false;
     }
-    if r[5] != k.turned1 {
+    if r[5] != k.complement1 {
         return false;
     }
     if r[6] != k.number2 {
@@ -88,7 +88,7 @@ fn is_held(r: [u32; 9], k: Key) -> bool
     if r[7] != k.stamp2 {
         return false;
     }
-    r[8] == k.turned2
+    r[8] == k.complement2
 }
 
 // What is known of a part, if anything
@@ -122,7 +122,7 @@ fn above(l: u32, i: u32) -> u32
 }
 
 // A row that has the key of a part of level i: known while its number has not been given out again, a constant always.
-fn recall_row(t: &[[u32; 12]], i: u32, row: [u32; 9]) -> Told
+fn recall_entry(t: &[[u32; 12]], i: u32, row: [u32; 9]) -> Told
     ensures { λ x. ⌜ toldBy x row i (now (t .entry)) ⌝ }
 {
     let k = row[1];
@@ -149,12 +149,12 @@ pub fn recall(c: &[[u32; 9]], t: &[[u32; 12]], p: usize, i: u32, k: Key) -> Told
     if !is_held(r, k) {
         return unknown();
     }
-    recall_row(t, i, r)
+    recall_entry(t, i, r)
 }
 
-// Row p gets what the part with the key k came to.
+// Entry p gets what the part with the key k came to.
 fn remember(c: &mut [[u32; 9]], p: usize, k: Key, h: Half)
-    ensures { λ _. ⌜ now (c .exit) ≡ set (now (c .entry)) p (notedRow k (halfOf h)) ⌝ }
+    ensures { λ _. ⌜ now (c .exit) ≡ set (now (c .entry)) p (notedEntry k (halfOf h)) ⌝ }
 {
     if c.len() <= p {
         return;
@@ -165,19 +165,19 @@ fn remember(c: &mut [[u32; 9]], p: usize, k: Key, h: Half)
         h.stamp,
         k.number1,
         k.stamp1,
-        k.turned1,
+        k.complement1,
         k.number2,
         k.stamp2,
-        k.turned2,
+        k.complement2,
     ];
 }
 
 // It is remembered unless it is a temporary node, more was sent than the output holds, or both inputs pass over its level: it is remembered
 // then from a deeper one.
 pub fn note(c: &mut [[u32; 9]], p: usize, k: Key, pass: bool, r: Walked)
-    ensures { λ _. ⌜ now (c .exit) ≡ notedBy (now (c .entry)) p k (r .pen .full || pass) (halfOf (r .half)) ⌝ }
+    ensures { λ _. ⌜ now (c .exit) ≡ notedBy (now (c .entry)) p k (r .progress .full || pass) (halfOf (r .half)) ⌝ }
 {
-    let x = pen_of(r);
+    let x = progress_of(r);
     if x.full {
         return;
     }

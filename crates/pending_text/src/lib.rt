@@ -4,10 +4,10 @@ ghost use mathlib.Core.Bool.{cond};
 ghost use mathlib.Core.List.{[], _∷_};
 ghost use lib.ListN.{replicate};
 ghost use Prim.Native.Nat.{_-_};
-ghost use Rattle.reading.specs.Bytes.{blank};
-ghost use Rattle.writing.specs.Texts.{decimal, tildeIf, storing};
-ghost use Rattle.engine.specs.Pending.{pushAll, waitIn, closeIn};
-ghost use Rattle.engine.specs.Engine.{sendText};
+ghost use Rattle.theory_reading.specs.Bytes.{blank};
+ghost use Rattle.theory_writing.specs.Texts.{decimal, tildeIf, storing};
+ghost use Rattle.theory_engine.specs.Pending.{pushAll, waitIn, closeIn};
+ghost use Rattle.theory_engine.specs.Engine.{sendText};
 use work_table::least;
 
 // So many bytes wait at most, in round numbers: `waiting-room`.
@@ -47,7 +47,7 @@ pub fn push_number(w: &mut [u8], m: usize, k: u32) -> usize
 }
 
 // `~` or nothing
-pub fn push_turn(w: &mut [u8], m: usize, t: bool) -> usize
+pub fn push_tilde(w: &mut [u8], m: usize, t: bool) -> usize
     ensures { λ r. ⌜ record { bytes = now (w .exit); count = r } ≡ pushAll (now (w .entry)) m (tildeIf t) ⌝ }
 {
     if t { push(w, m, b'~') } else { m }
@@ -108,7 +108,8 @@ pub struct Sent {
 
 // The first m bytes of w go to the output, after `at` that are written.
 pub fn send(out: &mut [u8], w: &mut [u8], at: usize, m: usize) -> Sent
-    ensures { λ r. ⌜ record { written = r .written; full = r .full; output = now (out .exit); waits = now (w .exit) } ≡ sendText (now (out .entry)) (now (w .entry)) at m ⌝ }
+    ensures { λ r. ⌜ record { written = r .written; full = r .full; output = now (out .exit); waits = now (w .exit) }
+        ≡ sendText (now (out .entry)) (now (w .entry)) at m ⌝ }
 {
     let c = least(m, w.len());
     let room = less(out.len(), at);

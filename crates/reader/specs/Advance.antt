@@ -1,4 +1,4 @@
--- One turn of the code's loop is one element more of the theory's reading. Assumes nothing.
+-- One iteration of the code's loop is one element more of the theory's reading. Assumes nothing.
 use mathlib.Core.Path.{_≡_, refl, sym, ap, ap₂, _∙_, subst}
 use mathlib.Core.Bool.{Bool, true, false, cond, not, _&&_, _||_, true≢false, false≢true}
 use mathlib.Core.List.{List, [], _∷_}
@@ -9,29 +9,30 @@ use native.Mathlib.Omega.{arith}
 use lib.Dec.{ltb, eqb}
 use lib.ListN.{length, getD, set, replicate, length-set, length-replicate}
 use borrow.Author.Tests.{eqb-true, eqb-false, eq-eqb, ne-eqb, ltb-false}
-use Rattle.reading.specs.Limits.{openLimit, tableLimit}
-use Rattle.reading.specs.Bytes.{colon}
-use Rattle.reading.specs.Nodes.{Node, noNode, node, stamp, terminal, entry, temporary, bars}
-use Rattle.reading.specs.Causes.{notStorable}
-use Rattle.reading.specs.Element as T
+use Rattle.theory_reading.specs.Limits.{openLimit, tableLimit}
+use Rattle.theory_reading.specs.Bytes.{colon}
+use Rattle.theory_reading.specs.Nodes.{Node, noNode, node, stamp, terminal, entry, temporary, bars}
+use Rattle.theory_reading.specs.Causes.{notStorable}
+use Rattle.theory_reading.specs.Element as T
 use Rattle.scanner.specs.Kinds.{kindTable}
-use Rattle.scanner.specs.Glance as G
-use Rattle.reading.specs.Reading.{State, Reading, goes, fails, isStart, isTwo, barredColon, firstDigit, withElement, after, advance}
-use Rattle.reading.specs.Deciding.{drawing, Trace}
-use Rattle.reading.specs.Prefix.{chosen, byteAt, advance-chosen, trace-past}
-use Rattle.lists.specs.Looks.{look-inside}
-use Rattle.reading.specs.StepLaws.{AheadBy, digitPlace, step-ahead}
-use Rattle.reading.specs.ParentCounts.{parents}
+use Rattle.scanner.specs.ScannedToken as G
+use Rattle.theory_reading.specs.Reading.{State, Reading, goes, fails, isStart, isTwo, barredColon, firstDigit, withElement, after, advance}
+use Rattle.theory_reading.specs.Deciding.{drawing, Trace}
+use Rattle.theory_reading.specs.Prefix.{chosen, byteAt, advance-chosen, trace-past}
+use Rattle.theory_lists.specs.Lookups.{lookup-inside}
+use Rattle.theory_reading.specs.StepLaws.{AheadBy, digitPlace, step-ahead}
+use Rattle.theory_reading.specs.ParentCounts.{parents}
 use Rattle.scanner.specs.Capped.{capOutcome, capStep}
-use Rattle.scanner.specs.Cite.{markOf, refOf, elementOf, causeOf, outcomeOf, outcomeIn, numberOf, openOf, insideOpen, opensOf, deepOf, openList, sideOf, lowAt, highAt, lookAt, lookOf, Looked}
-use Rattle.scanner.specs.OpenLaws.{open-length, low-suc, Begun, Firm, glance-firm}
-use Rattle.scanner.specs.PlaceLaws.{deep-self, look-depth, place-step}
+use Rattle.scanner.specs.Abstraction.{contextOf, refOf, elementOf, causeOf, outcomeOf, outcomeIn, numberOf, openOf, insideOpen, opensOf, deepOf}
+use Rattle.scanner.specs.Abstraction.{openList, sideOf, lowAt, highAt, nextToken, nextTokenView, NextTokenView}
+use Rattle.scanner.specs.OpenLaws.{open-length, low-suc, Begun, Firm, scan-firm}
+use Rattle.scanner.specs.PlaceLaws.{deep-self, token-depth, place-step}
 use Rattle.scanner.specs.declared.Cause.{Cause}
 use Rattle.scanner.specs.declared.Cause.the-variants.{WrongByte, NotStorable, BadNumber}
 use Rattle.scanner.specs.declared.Element.{Element}
 use Rattle.scanner.specs.declared.Element.the-variants as E
-use Rattle.scanner.specs.declared.Look.{Look}
-use Rattle.scanner.specs.declared.Mark.{Mark}
+use Rattle.scanner.specs.declared.NextToken.{NextToken}
+use Rattle.scanner.specs.declared.Context.{Context}
 use Rattle.scanner.specs.declared.Open.{Open}
 use Rattle.scanner.specs.declared.Opens.{Opens}
 use Rattle.scanner.specs.declared.Outcome.{Outcome}
@@ -39,12 +40,13 @@ use Rattle.scanner.specs.declared.Outcome.the-variants.{Got, Fault, RanOut}
 use Rattle.scanner.specs.declared.Place.{Place}
 use Rattle.scanner.specs.declared.Ref.{Ref}
 use Rattle.reader.specs.declared.Run.{Run}
-use Rattle.work_table.specs.declared.Row.{Row}
+use Rattle.work_table.specs.declared.NodeRecord.{NodeRecord}
 use Rattle.reader.specs.declared.Taken.{Taken}
-use Rattle.reader.specs.declared.Turn.{Turn}
+use Rattle.reader.specs.declared.Iteration.{Iteration}
 use Rattle.reader.specs.Taking.{failsOf, isKeptOf, isBadOf, nextStamp, storedRun, takenOf}
-use Rattle.work_table.specs.Table.{noRow, getIn, storeAt, clearTo, get-none, get-above}
-use Rattle.work_table.specs.TableLaws.{rowNode, tableOf, table-length, table-node, Held, length-store, store-table, held-store, length-clear, clear-table, held-clear}
+use Rattle.work_table.specs.Table.{noNodeRecord, getIn, storeAt, clearTo, get-none, get-above}
+use Rattle.work_table.specs.TableLaws.{recordNode, tableOf, table-length, table-node, Held, length-store, store-table, held-store, length-clear}
+use Rattle.work_table.specs.TableLaws.{clear-table, held-clear}
 use Rattle.reader.specs.Simulation.{stateOf, readingOf, nodeTo, tableTo, Innermost, Wanted, take-with}
 use Rattle.reader.specs.CappedElement.{advance-seen}
 
@@ -52,7 +54,7 @@ use Rattle.reader.specs.CappedElement.{advance-seen}
 
 -- the theory's table: none before the size is read
 abbrev pub tableAt : Run → List (List ℕ) → List Node
-tableAt r t = cond (isStart (markOf (r .mark))) [] (tableOf t (r .size))
+tableAt r t = cond (isStart (contextOf (r .context))) [] (tableOf t (r .size))
 
 -- the theory's state of what code holds
 abbrev pub stateAt : Run → Opens → List (List ℕ) → State
@@ -65,11 +67,11 @@ pub record Kept (r : Run) (o : Opens) (t : List (List ℕ)) : Type 0 where
   pub held : Held t (r .size)
   pub nodes : length (o .nodes) ≡ openLimit
   pub deep : o .depth ≤ openLimit
-  pub begin : isStart (markOf (r .mark)) ≡ true → r .size ≡ 0
+  pub begin : isStart (contextOf (r .context)) ≡ true → r .size ≡ 0
 
 -- a number's stamp can grow where a node may be stored
 abbrev pub Young : Run → List (List ℕ) → Type 0
-Young r t = markOf (r .mark) ≡ T.afterTwo → (k : ℕ) → stamp (tableAt r t) k + 2 ≤ 4294967296
+Young r t = contextOf (r .context) ≡ T.afterTwo → (k : ℕ) → stamp (tableAt r t) k + 2 ≤ 4294967296
 
 -- the number of an element, 0 if it has none
 abbrev pub numberIn : Element → ℕ
@@ -82,42 +84,50 @@ numberIn (E.Storing k) = k
 numberIn E.End = 0
 
 -- The record that a storing puts, d nodes being open. x: the row of the number before
-abbrev pub rowTo : Run → ℕ → Row → Row
-rowTo r d x = record { level = d + 1; first = r .pair .first .number; second = r .pair .second .number; complement = r .pair .turned; stamp = nextStamp (x .stamp); parents = x .parents }
+abbrev pub recordTo : Run → ℕ → NodeRecord → NodeRecord
+recordTo r d x = record {
+  level = d + 1;
+  first = r .pair .first .number;
+  second = r .pair .second .number;
+  complement = r .pair .complement;
+  stamp =
+      nextStamp (x .stamp);
+  parents = x .parents;
+}
 
 -- The lent table after an element of the number k: a storing puts a record, a size clears its records. r: the run before; y: what was taken
-abbrev pub lentTo : Run → ℕ → ℕ → Row → Taken → List (List ℕ) → List (List ℕ)
-lentTo r d k x y t = cond (y .stores) (storeAt t (r .size) k (rowTo r d x)) (cond (y .sizes) (clearTo t k) t)
+abbrev pub updatedTo : Run → ℕ → ℕ → NodeRecord → Taken → List (List ℕ) → List (List ℕ)
+updatedTo r d k x y t = cond (y .stores) (storeAt t (r .size) k (recordTo r d x)) (cond (y .sizes) (clearTo t k) t)
 
 -- likewise by the element
-abbrev lentBy : Run → ℕ → Element → Row → Taken → List (List ℕ) → List (List ℕ)
-lentBy r d E.Opening x y t = t
-lentBy r d (E.Number v) x y t = cond (isStart (markOf (r .mark))) (cond (y .faulty) t (clearTo t v)) t
-lentBy r d E.Constant x y t = t
-lentBy r d E.Turn x y t = t
-lentBy r d E.Closing x y t = t
-lentBy r d (E.Storing k) x y t = cond (y .stores) (storeAt t (r .size) k (rowTo r d x)) t
-lentBy r d E.End x y t = t
+abbrev updatedBy : Run → ℕ → Element → NodeRecord → Taken → List (List ℕ) → List (List ℕ)
+updatedBy r d E.Opening x y t = t
+updatedBy r d (E.Number v) x y t = cond (isStart (contextOf (r .context))) (cond (y .faulty) t (clearTo t v)) t
+updatedBy r d E.Constant x y t = t
+updatedBy r d E.Turn x y t = t
+updatedBy r d E.Closing x y t = t
+updatedBy r d (E.Storing k) x y t = cond (y .stores) (storeAt t (r .size) k (recordTo r d x)) t
+updatedBy r d E.End x y t = t
 
--- the entries of d open nodes after a turn: the innermost, and the one after it, stored
+-- the entries of d open nodes after an iteration: the innermost, and the one after it, stored
 abbrev pub nodesTo : List Open → ℕ → Open → List Open
 nodesTo ns d low = set (set ns (highAt d) insideOpen) (lowAt d) low
 
--- the open nodes after a turn
+-- the open nodes after an iteration
 abbrev pub opensTo : Opens → ℕ → Open → Opens
 opensTo o d low = record { nodes = nodesTo (o .nodes) (o .depth) low; depth = d }
 
 -- the row of an element's number
-abbrev pub rowIn : Run → List (List ℕ) → Element → Row
-rowIn r t e = getIn t (r .size) (numberIn e)
+abbrev pub recordIn : Run → List (List ℕ) → Element → NodeRecord
+recordIn r t e = getIn t (r .size) (numberIn e)
 
--- what code takes for the element e of the look x; d: how many nodes are open, low: the innermost
-abbrev pub takenAt : ℕ → List ℕ → Run → ℕ → Open → List (List ℕ) → Look → Element → Taken
-takenAt n bytes r d low t x e = takenOf n r d low (digitPlace (r .at) (getD bytes (r .at) 0)) e (getIn t (r .size) (x .number)) (x .at) (x .mark)
+-- what code takes for the element e of the token x; d: how many nodes are open, low: the innermost
+abbrev pub takenAt : ℕ → List ℕ → Run → ℕ → Open → List (List ℕ) → NextToken → Element → Taken
+takenAt n bytes r d low t x e = takenOf n r d low (digitPlace (r .at) (getD bytes (r .at) 0)) e (getIn t (r .size) (x .number)) (x .at) (x .context)
 
 -- the lent table after it
-abbrev pub lentAt : ℕ → List ℕ → Run → ℕ → Open → List (List ℕ) → Look → Element → List (List ℕ)
-lentAt n bytes r d low t x e = lentTo r d (x .number) (getIn t (r .size) (x .number)) (takenAt n bytes r d low t x e) t
+abbrev pub updatedAt : ℕ → List ℕ → Run → ℕ → Open → List (List ℕ) → NextToken → Element → List (List ℕ)
+updatedAt n bytes r d low t x e = updatedTo r d (x .number) (getIn t (r .size) (x .number)) (takenAt n bytes r d low t x e) t
 
 -- the innermost entry
 abbrev pub lowOf : Opens → Open
@@ -129,32 +139,35 @@ lowOf o = getD (o .nodes) (lowAt (o .depth)) insideOpen
 abbrev pub barsBy : List (List ℕ) → ℕ → Ref → Bool
 barsBy t z a = not (eqb (getIn t z (a .number) .stamp) (a .stamp))
 
-pub bars-row : (t : List (List ℕ)) (z : ℕ) (a : Ref) → bars (tableOf t z) (refOf a) ≡ barsBy t z a
-bars-row t z a = go (eqb (a .number) 0) refl (eqb (a .stamp) 0) refl
+pub bars-record : (t : List (List ℕ)) (z : ℕ) (a : Ref) → bars (tableOf t z) (refOf a) ≡ barsBy t z a
+bars-record t z a = go (eqb (a .number) 0) refl (eqb (a .stamp) 0) refl
   where
     none : eqb (a .number) 0 ≡ true → getIn t z (a .number) .stamp ≡ 0
-    none e = ap (λ (x : Row). x .stamp) (sym (get-none t z (a .number) (eqb-true (a .number) 0 e)))
+    none e = ap (λ (x : NodeRecord). x .stamp) (sym (get-none t z (a .number) (eqb-true (a .number) 0 e)))
 
-    go : (p : Bool) → eqb (a .number) 0 ≡ p → (q : Bool) → eqb (a .stamp) 0 ≡ q → bars (tableOf t z) (cond p (cond q terminal temporary) (entry (a .number) (a .stamp))) ≡ barsBy t z a
+    go : (p : Bool) → eqb (a .number) 0 ≡ p → (q : Bool) → eqb (a .stamp) 0 ≡ q
+        → bars (tableOf t z) (cond p (cond q terminal temporary) (entry (a .number) (a .stamp))) ≡ barsBy t z a
     go true e true f = sym (ap not (eq-eqb _ _ (none e ∙ sym (eqb-true (a .stamp) 0 f))))
     go true e false f = sym (ap not (ne-eqb _ _ (λ i. eqb-false (a .stamp) 0 f (sym i ∙ none e))))
     go false e q f = ap (λ (x : Node). not (eqb (x .stamp) (a .stamp))) (table-node t z (a .number))
 
 -- a `:` is barred, by the rows of the two children
 abbrev pub barredBy : List (List ℕ) → Run → ℕ → Bool
-barredBy t r b = (isTwo (markOf (r .mark)) && eqb b colon) && (barsBy t (r .size) (r .pair .first) || barsBy t (r .size) (r .pair .second))
+barredBy t r b = (isTwo (contextOf (r .context)) && eqb b colon) && (barsBy t (r .size) (r .pair .first) || barsBy t (r .size) (r .pair .second))
 
 -- A `:` is barred by the rows of the two children.
-barred-rows : (r : Run) (o : Opens) (t : List (List ℕ)) (b : ℕ) → barredColon (stateAt r o t) b ≡ barredBy t r b
-barred-rows r o t b = go (markOf (r .mark))
+barred-records : (r : Run) (o : Opens) (t : List (List ℕ)) (b : ℕ) → barredColon (stateAt r o t) b ≡ barredBy t r b
+barred-records r o t b = go (contextOf (r .context))
   where
-    go : (m : T.Mark) → let a = r .pair .first in let c = r .pair .second in let u = cond (isStart m) [] (tableOf t (r .size)) in
-        ((isTwo m && eqb b colon) && (bars u (refOf a) || bars u (refOf c))) ≡ ((isTwo m && eqb b colon) && (barsBy t (r .size) a || barsBy t (r .size) c))
+    go : (m : T.Context) → let a = r .pair .first in let c = r .pair .second in let u = cond (isStart m) [] (tableOf t (r .size)) in
+        ((isTwo m && eqb b colon) && (bars u (refOf a) || bars u (refOf c)))
+        ≡ ((isTwo m && eqb b colon) && (barsBy t (r .size) a || barsBy t (r .size) c))
     go T.start = refl
     go T.lead = refl
     go T.begins = refl
     go T.afterDigit = refl
-    go T.afterTwo = ap₂ (λ (p q : Bool). eqb b colon && (p || q)) (bars-row t (r .size) (r .pair .first)) (bars-row t (r .size) (r .pair .second))
+    go T.afterTwo = ap₂ (λ (p q : Bool). eqb b colon && (p || q)) (bars-record t (r .size) (r .pair .first))
+        (bars-record t (r .size) (r .pair .second))
     go T.afterOne = refl
     go T.over = refl
 
@@ -170,7 +183,7 @@ advance-barred n bytes r o t h =
 -- the size after an element that is no fault
 abbrev sizeTo : Run → Element → ℕ
 sizeTo r E.Opening = r .size
-sizeTo r (E.Number v) = cond (isStart (markOf (r .mark))) v (r .size)
+sizeTo r (E.Number v) = cond (isStart (contextOf (r .context))) v (r .size)
 sizeTo r E.Constant = r .size
 sizeTo r E.Turn = r .size
 sizeTo r E.Closing = r .size
@@ -184,7 +197,8 @@ Plain y = (y .stores ≡ false) × (y .sizes ≡ false)
 -- a number that is taken is one of the table, or a size that is not above the limit
 abbrev Legal : Run → Element → Taken → Type 0
 Legal r E.Opening y = Plain y
-Legal r (E.Number v) y = (isStart (markOf (r .mark)) ≡ true → v ≤ tableLimit) × ((y .stores ≡ false) × (y .sizes ≡ isStart (markOf (r .mark))))
+Legal r (E.Number v) y = (isStart (contextOf (r .context)) ≡ true → v ≤ tableLimit)
+    × ((y .stores ≡ false) × (y .sizes ≡ isStart (contextOf (r .context))))
 Legal r E.Constant y = Plain y
 Legal r E.Turn y = Plain y
 Legal r E.Closing y = Plain y
@@ -192,47 +206,52 @@ Legal r (E.Storing k) y = (k ≡ 0 → ⊥) × ((k ≤ r .size) × (y .stores �
 Legal r E.End y = Plain y
 
 -- what is taken: at a fault the run stays and nothing is stored
-abbrev Made : Run → Mark → Element → Taken → Bool → Type 0
-Made r m e y true = (y .run ≡ r) × Plain y
-Made r m e y false = (y .run .mark ≡ m) × ((y .run .size ≡ sizeTo r e) × Legal r e y)
+abbrev Effect : Run → Context → Element → Taken → Bool → Type 0
+Effect r m e y true = (y .run ≡ r) × Plain y
+Effect r m e y false = (y .run .context ≡ m) × ((y .run .size ≡ sizeTo r e) × Legal r e y)
 
--- r: the run before; m: the mark after
-module _ (n : ℕ) (r : Run) (d : ℕ) (o : Open) (g : ℕ) (x : Row) (at : ℕ) (m : Mark) where
-  abbrev MadeBy : Element → Taken → Type 0
-  MadeBy e y = Made r m e y (y .faulty)
+-- r: the run before; m: the context after
+module _ (n : ℕ) (r : Run) (d : ℕ) (o : Open) (g : ℕ) (x : NodeRecord) (at : ℕ) (m : Context) where
+  abbrev EffectBy : Element → Taken → Type 0
+  EffectBy e y = Effect r m e y (y .faulty)
 
-  made-cond : (e : Element) (b : Bool) (y z : Taken) → (b ≡ true → MadeBy e y) → (b ≡ false → MadeBy e z) → MadeBy e (cond b y z)
-  made-cond e true y z h k = h refl
-  made-cond e false y z h k = k refl
+  effect-cond : (e : Element) (b : Bool) (y z : Taken) → (b ≡ true → EffectBy e y) → (b ≡ false → EffectBy e z) → EffectBy e (cond b y z)
+  effect-cond e true y z h k = h refl
+  effect-cond e false y z h k = k refl
 
-  made-number : (v : ℕ) → MadeBy (E.Number v) (takenOf n r d o g (E.Number v) x at m)
-  made-number v =
-      made-cond (E.Number v) (isStart (markOf (r .mark))) _ _
-      (λ s. made-cond (E.Number v) (ltb tableLimit v) _ _ (λ _. (refl, (refl, refl))) (λ l. (refl, (ap (λ (b : Bool). cond b v (r .size)) (sym s), (λ _. ltb-false tableLimit v l, (refl, sym s))))))
-      (λ s. made-cond (E.Number v) (eqb (x .level) 0) _ _ (λ _. (refl, (refl, refl)))
-      (λ _. made-cond (E.Number v) (eqb (x .level) (d + 1)) _ _ (λ _. (refl, (ap (λ (b : Bool). cond b v (r .size)) (sym s), (λ q. absurd (false≢true (sym s ∙ q)), (refl, sym s))))) (λ _. (refl, (refl, refl)))))
+  effect-number : (v : ℕ) → EffectBy (E.Number v) (takenOf n r d o g (E.Number v) x at m)
+  effect-number v =
+      effect-cond (E.Number v) (isStart (contextOf (r .context))) _ _
+      (λ s. effect-cond (E.Number v) (ltb tableLimit v) _ _ (λ _. (refl, (refl, refl)))
+      (λ l. (refl, (ap (λ (b : Bool). cond b v (r .size)) (sym s), (λ _. ltb-false tableLimit v l, (refl, sym s))))))
+      (λ s. effect-cond (E.Number v) (eqb (x .level) 0) _ _ (λ _. (refl, (refl, refl)))
+      (λ _. effect-cond (E.Number v) (eqb (x .level) (d + 1)) _ _ (λ _.
+      (refl, (ap (λ (b : Bool). cond b v (r .size)) (sym s), (λ q. absurd (false≢true (sym s ∙ q)), (refl, sym s)))))
+      (λ _. (refl, (refl, refl)))))
 
-  made-storing : (k : ℕ) → MadeBy (E.Storing k) (takenOf n r d o g (E.Storing k) x at m)
-  made-storing k = go (eqb k 0) (ltb (r .size) k) (not (eqb (x .parents) 0) || (eqb (r .pair .first .number) k || eqb (r .pair .second .number) k)) refl refl
+  effect-storing : (k : ℕ) → EffectBy (E.Storing k) (takenOf n r d o g (E.Storing k) x at m)
+  effect-storing k = go (eqb k 0) (ltb (r .size) k) (not (eqb (x .parents) 0) || (eqb (r .pair .first .number) k || eqb (r .pair .second .number) k))
+      refl refl
     where
       go : (a b c : Bool) → eqb k 0 ≡ a → ltb (r .size) k ≡ b
-          → MadeBy (E.Storing k) (cond ((a || b) || c) (failsOf r BadNumber (r .at + 1)) (record { run = storedRun r k x at m; faulty = false; cause = WrongByte; byte = 0; sizes = false; stores = true }))
+          → EffectBy (E.Storing k) (cond ((a || b) || c) (failsOf r BadNumber (r .at + 1))
+          (record { run = storedRun r k x at m; faulty = false; cause = WrongByte; byte = 0; sizes = false; stores = true }))
       go true b c e f = (refl, (refl, refl))
       go false true c e f = (refl, (refl, refl))
       go false false true e f = (refl, (refl, refl))
       go false false false e f = (refl, (refl, (eqb-false k 0 e, (ltb-false (r .size) k f, refl))))
 
-  made : (e : Element) → MadeBy e (takenOf n r d o g e x at m)
-  made E.Opening = made-cond E.Opening (ltb n (d + 1)) _ _ (λ _. (refl, (refl, refl))) (λ _. (refl, (refl, (refl, refl))))
-  made (E.Number v) = made-number v
-  made E.Constant = (refl, (refl, (refl, refl)))
-  made E.Turn = (refl, (refl, (refl, refl)))
-  made E.Closing =
-      made-cond E.Closing (eqb d 0) _ _ (λ _. (refl, (refl, (refl, refl))))
-      (λ _. made-cond E.Closing (o .second) _ _ (λ _. (refl, (refl, (refl, refl))))
-      (λ _. made-cond E.Closing (isKeptOf (r .last)) _ _ (λ _. (refl, (refl, (refl, refl)))) (λ _. (refl, (refl, refl)))))
-  made (E.Storing k) = made-storing k
-  made E.End = (refl, (refl, (refl, refl)))
+  effect : (e : Element) → EffectBy e (takenOf n r d o g e x at m)
+  effect E.Opening = effect-cond E.Opening (ltb n (d + 1)) _ _ (λ _. (refl, (refl, refl))) (λ _. (refl, (refl, (refl, refl))))
+  effect (E.Number v) = effect-number v
+  effect E.Constant = (refl, (refl, (refl, refl)))
+  effect E.Turn = (refl, (refl, (refl, refl)))
+  effect E.Closing =
+      effect-cond E.Closing (eqb d 0) _ _ (λ _. (refl, (refl, (refl, refl))))
+      (λ _. effect-cond E.Closing (o .second) _ _ (λ _. (refl, (refl, (refl, refl))))
+      (λ _. effect-cond E.Closing (isKeptOf (r .last)) _ _ (λ _. (refl, (refl, (refl, refl)))) (λ _. (refl, (refl, refl)))))
+  effect (E.Storing k) = effect-storing k
+  effect E.End = (refl, (refl, (refl, refl)))
 
   -- the place after what is taken
   abbrev Onto : Taken → Type 0
@@ -248,34 +267,37 @@ module _ (n : ℕ) (r : Run) (d : ℕ) (o : Open) (g : ℕ) (x : Row) (at : ℕ)
   pub taken-at : (e : Element) → Onto (takenOf n r d o g e x at m)
   taken-at E.Opening = onto-cond (ltb n (d + 1)) _ _ refused (λ _. refl)
   taken-at (E.Number v) =
-      onto-cond (isStart (markOf (r .mark))) _ _ (onto-cond (ltb tableLimit v) _ _ refused (λ _. refl))
+      onto-cond (isStart (contextOf (r .context))) _ _ (onto-cond (ltb tableLimit v) _ _ refused (λ _. refl))
       (onto-cond (eqb (x .level) 0) _ _ refused (onto-cond (eqb (x .level) (d + 1)) _ _ (λ _. refl) refused))
   taken-at E.Constant = λ _. refl
   taken-at E.Turn = λ _. refl
-  taken-at E.Closing = onto-cond (eqb d 0) _ _ (λ _. refl) (onto-cond (o .second) _ _ (λ _. refl) (onto-cond (isKeptOf (r .last)) _ _ (λ _. refl) refused))
+  taken-at E.Closing = onto-cond (eqb d 0) _ _ (λ _. refl) (onto-cond (o .second) _ _ (λ _. refl)
+      (onto-cond (isKeptOf (r .last)) _ _ (λ _. refl) refused))
   taken-at (E.Storing k) = onto-cond (isBadOf r k x) _ _ refused (λ _. refl)
   taken-at E.End = λ _. refl
 
 -- ---- The table after -------------------------------------------------------------------------
 
 -- the lent table after an element that is no fault, by the element
-lent-well : (r : Run) (d : ℕ) (e : Element) (x : Row) (y : Taken) (t : List (List ℕ)) → y .faulty ≡ false → Legal r e y → lentTo r d (numberIn e) x y t ≡ lentBy r d e x y t
-lent-well r d E.Opening x y t f l = rw (l .0, l .1) refl
-lent-well r d (E.Number v) x y t f l = rw (f, l .1 .0, l .1 .1) refl
-lent-well r d E.Constant x y t f l = rw (l .0, l .1) refl
-lent-well r d E.Turn x y t f l = rw (l .0, l .1) refl
-lent-well r d E.Closing x y t f l = rw (l .0, l .1) refl
-lent-well r d (E.Storing k) x y t f l = rw (l .1 .1) refl
-lent-well r d E.End x y t f l = rw (l .0, l .1) refl
+updated-well : (r : Run) (d : ℕ) (e : Element) (x : NodeRecord) (y : Taken) (t : List (List ℕ)) → y .faulty ≡ false → Legal r e y
+    → updatedTo r d (numberIn e) x y t ≡ updatedBy r d e x y t
+updated-well r d E.Opening x y t f l = rw (l .0, l .1) refl
+updated-well r d (E.Number v) x y t f l = rw (f, l .1 .0, l .1 .1) refl
+updated-well r d E.Constant x y t f l = rw (l .0, l .1) refl
+updated-well r d E.Turn x y t f l = rw (l .0, l .1) refl
+updated-well r d E.Closing x y t f l = rw (l .0, l .1) refl
+updated-well r d (E.Storing k) x y t f l = rw (l .1 .1) refl
+updated-well r d E.End x y t f l = rw (l .0, l .1) refl
 
 -- nothing is lent where nothing is stored
-lent-plain : (r : Run) (d k : ℕ) (x : Row) (y : Taken) (t : List (List ℕ)) → Plain y → lentTo r d k x y t ≡ t
-lent-plain r d k x y t l = rw (l .0, l .1) refl
+updated-plain : (r : Run) (d k : ℕ) (x : NodeRecord) (y : Taken) (t : List (List ℕ)) → Plain y → updatedTo r d k x y t ≡ t
+updated-plain r d k x y t l = rw (l .0, l .1) refl
 
 -- at a fault the table stays
-table-fault : (r : Run) (d : ℕ) (e : Element) (x : Row) (y : Taken) (u : List Node) → y .faulty ≡ true → y .stores ≡ false → tableTo r d e x y u ≡ u
+table-fault : (r : Run) (d : ℕ) (e : Element) (x : NodeRecord) (y : Taken) (u : List Node) → y .faulty ≡ true → y .stores ≡ false
+    → tableTo r d e x y u ≡ u
 table-fault r d E.Opening x y u f h = refl
-table-fault r d (E.Number v) x y u f h = rw f (go (isStart (markOf (r .mark))))
+table-fault r d (E.Number v) x y u f h = rw f (go (isStart (contextOf (r .context))))
   where
     go : (b : Bool) → cond b u u ≡ u
     go true = refl
@@ -287,66 +309,81 @@ table-fault r d (E.Storing k) x y u f h = rw h refl
 table-fault r d E.End x y u f h = refl
 
 -- after the start the table is that of the records
-table-later : (r : Run) (t : List (List ℕ)) → isStart (markOf (r .mark)) ≡ false → tableAt r t ≡ tableOf t (r .size)
+table-later : (r : Run) (t : List (List ℕ)) → isStart (contextOf (r .context)) ≡ false → tableAt r t ≡ tableOf t (r .size)
 table-later r t h = rw h refl
 
 -- the theory's table after an element is that of the lent one after it
-table-next : (r : Run) (d : ℕ) (e : Element) (x : Row) (y : Taken) (t : List (List ℕ)) → tableLimit ≤ length t → y .faulty ≡ false → Legal r e y → Begun (markOf (r .mark)) (elementOf e)
-    → tableTo r d e x y (tableAt r t) ≡ tableOf (lentBy r d e x y t) (sizeTo r e)
+table-next : (r : Run) (d : ℕ) (e : Element) (x : NodeRecord) (y : Taken) (t : List (List ℕ)) → tableLimit ≤ length t → y .faulty ≡ false
+    → Legal r e y → Begun (contextOf (r .context)) (elementOf e)
+    → tableTo r d e x y (tableAt r t) ≡ tableOf (updatedBy r d e x y t) (sizeTo r e)
 table-next r d E.Opening x y t room f l h = table-later r t h
-table-next r d (E.Number v) x y t room f l h = rw f (go (isStart (markOf (r .mark))) (l .0))
+table-next r d (E.Number v) x y t room f l h = rw f (go (isStart (contextOf (r .context))) (l .0))
   where
-    go : (b : Bool) → (b ≡ true → v ≤ tableLimit) → cond b (replicate (suc v) noNode) (cond b [] (tableOf t (r .size))) ≡ tableOf (cond b (clearTo t v) t) (cond b v (r .size))
+    go : (b : Bool) → (b ≡ true → v ≤ tableLimit) → cond b (replicate (suc v) noNode) (cond b [] (tableOf t (r .size)))
+        ≡ tableOf (cond b (clearTo t v) t) (cond b v (r .size))
     go true k = let i : v ≤ tableLimit = k refl in sym (clear-table t v (omega (arith, room, i)))
     go false k = refl
 table-next r d E.Constant x y t room f l h = table-later r t h
 table-next r d E.Turn x y t room f l h = table-later r t h
 table-next r d E.Closing x y t room f l h = table-later r t h
-table-next r d (E.Storing k) x y t room f l h = rw (l .1 .1) (ap (λ (u : List Node). set u k (nodeTo r d x)) (table-later r t (ap isStart h)) ∙ sym (store-table t (r .size) k (rowTo r d x) (l .0) (l .1 .0)))
+table-next r d (E.Storing k) x y t room f l h = rw (l .1 .1) (ap (λ (u : List Node). set u k (nodeTo r d x)) (table-later r t (ap isStart h))
+    ∙ sym (store-table t (r .size) k (recordTo r d x) (l .0) (l .1 .0)))
 table-next r d E.End x y t room f l h = table-later r t h
 
 -- the row of a number is that of the theory's table
-row-node : (r : Run) (t : List (List ℕ)) → (isStart (markOf (r .mark)) ≡ true → r .size ≡ 0) → (k : ℕ) → rowNode (getIn t (r .size) k) ≡ node (tableAt r t) k
-row-node r t begin k = go (isStart (markOf (r .mark))) begin
+record-node : (r : Run) (t : List (List ℕ)) → (isStart (contextOf (r .context)) ≡ true → r .size ≡ 0) → (k : ℕ) → recordNode (getIn t (r .size) k)
+    ≡ node (tableAt r t) k
+record-node r t begin k = go (isStart (contextOf (r .context))) begin
   where
-    none : (k : ℕ) → getIn t 0 k ≡ noRow
+    none : (k : ℕ) → getIn t 0 k ≡ noNodeRecord
     none zero = refl
     none (suc k) = sym (get-above t 0 (suc k) (λ e. omega (arith, e)) (omega arith))
 
-    go : (b : Bool) → (b ≡ true → r .size ≡ 0) → rowNode (getIn t (r .size) k) ≡ node (cond b [] (tableOf t (r .size))) k
-    go true h = ap (λ (z : ℕ). rowNode (getIn t z k)) (h refl) ∙ ap rowNode (none k)
+    go : (b : Bool) → (b ≡ true → r .size ≡ 0) → recordNode (getIn t (r .size) k) ≡ node (cond b [] (tableOf t (r .size))) k
+    go true h = ap (λ (z : ℕ). recordNode (getIn t z k)) (h refl) ∙ ap recordNode (none k)
     go false h = sym (table-node t (r .size) k)
 
 -- the row that code reads is the wanted one
-row-wanted : (r : Run) (o : Opens) (t : List (List ℕ)) → Kept r o t → Young r t → (e : Element) → Begun (markOf (r .mark)) (elementOf e) → Wanted r (tableAt r t) e (rowIn r t e)
-row-wanted r o t kept young E.Opening h = tt
-row-wanted r o t kept young (E.Number v) h = (row-node r t (kept .begin) v, λ e. ap (λ (x : Row). x .level) (sym (get-none t (r .size) v e)))
-row-wanted r o t kept young E.Constant h = tt
-row-wanted r o t kept young E.Turn h = tt
-row-wanted r o t kept young E.Closing h = tt
-row-wanted r o t kept young (E.Storing k) h =
-    let same : rowNode (getIn t (r .size) k) ≡ node (tableAt r t) k = row-node r t (kept .begin) k in
-    record { same = same; counts = go (isStart (markOf (r .mark))) (kept .begin); young = omega (arith, young h k, ap (λ (x : Node). x .stamp) same) }
+record-wanted : (r : Run) (o : Opens) (t : List (List ℕ)) → Kept r o t → Young r t → (e : Element) → Begun (contextOf (r .context)) (elementOf e)
+    → Wanted r (tableAt r t) e (recordIn r t e)
+record-wanted r o t kept young E.Opening h = tt
+record-wanted r o t kept young (E.Number v) h = (
+  record-node r t (kept .begin) v,
+  λ e. ap (λ (x : NodeRecord). x .level)
+      (sym (get-none t (r .size) v e)),
+)
+record-wanted r o t kept young E.Constant h = tt
+record-wanted r o t kept young E.Turn h = tt
+record-wanted r o t kept young E.Closing h = tt
+record-wanted r o t kept young (E.Storing k) h =
+    let same : recordNode (getIn t (r .size) k) ≡ node (tableAt r t) k = record-node r t (kept .begin) k in
+    record {
+      same = same;
+      counts = go (isStart (contextOf (r .context))) (kept .begin);
+      young = omega
+          (arith, young h k, ap (λ (x : Node). x .stamp) same);
+    }
   where
-    go : (b : Bool) → (b ≡ true → r .size ≡ 0) → (k ≡ 0 → ⊥) → k ≤ r .size → getIn t (r .size) k .parents ≡ parents (cond b [] (tableOf t (r .size))) k
+    go : (b : Bool) → (b ≡ true → r .size ≡ 0) → (k ≡ 0 → ⊥) → k ≤ r .size → getIn t (r .size) k .parents
+        ≡ parents (cond b [] (tableOf t (r .size))) k
     go true h n l = let z : r .size ≡ 0 = h refl in absurd (n (omega (arith, l, z)))
     go false h n l = kept .held .counts k n l
-row-wanted r o t kept young E.End h = tt
+record-wanted r o t kept young E.End h = tt
 
 -- ---- The lent table after --------------------------------------------------------------------
 
 -- The lent table keeps its length.
-pub length-lent : (r : Run) (d k : ℕ) (x : Row) (y : Taken) (t : List (List ℕ)) → length (lentTo r d k x y t) ≡ length t
-length-lent r d k x y t = go (y .stores) (y .sizes)
+pub length-updated : (r : Run) (d k : ℕ) (x : NodeRecord) (y : Taken) (t : List (List ℕ)) → length (updatedTo r d k x y t) ≡ length t
+length-updated r d k x y t = go (y .stores) (y .sizes)
   where
-    go : (a b : Bool) → length (cond a (storeAt t (r .size) k (rowTo r d x)) (cond b (clearTo t k) t)) ≡ length t
-    go true b = length-store t (r .size) k (rowTo r d x)
+    go : (a b : Bool) → length (cond a (storeAt t (r .size) k (recordTo r d x)) (cond b (clearTo t k) t)) ≡ length t
+    go true b = length-store t (r .size) k (recordTo r d x)
     go false true = length-clear t k
     go false false = refl
 
 size-small : (r : Run) (e : Element) (y : Taken) → r .size ≤ tableLimit → Legal r e y → sizeTo r e ≤ tableLimit
 size-small r E.Opening y h l = h
-size-small r (E.Number v) y h l = go (isStart (markOf (r .mark))) (l .0)
+size-small r (E.Number v) y h l = go (isStart (contextOf (r .context))) (l .0)
   where
     go : (b : Bool) → (b ≡ true → v ≤ tableLimit) → cond b v (r .size) ≤ tableLimit
     go true k = k refl
@@ -357,9 +394,10 @@ size-small r E.Closing y h l = h
 size-small r (E.Storing k) y h l = h
 size-small r E.End y h l = h
 
-held-next : (r : Run) (o : Opens) (d : ℕ) (e : Element) (y : Taken) (t : List (List ℕ)) → Kept r o t → y .faulty ≡ false → Legal r e y → Held (lentBy r d e (rowIn r t e) y t) (sizeTo r e)
+held-next : (r : Run) (o : Opens) (d : ℕ) (e : Element) (y : Taken) (t : List (List ℕ)) → Kept r o t → y .faulty ≡ false → Legal r e y
+    → Held (updatedBy r d e (recordIn r t e) y t) (sizeTo r e)
 held-next r o d E.Opening y t kept f l = kept .held
-held-next r o d (E.Number v) y t kept f l = rw f (go (isStart (markOf (r .mark))) (l .0))
+held-next r o d (E.Number v) y t kept f l = rw f (go (isStart (contextOf (r .context))) (l .0))
   where
     go : (b : Bool) → (b ≡ true → v ≤ tableLimit) → Held (cond b (clearTo t v) t) (cond b v (r .size))
     go true k = let i : v ≤ tableLimit = k refl in held-clear t v (omega (arith, kept .room, i))
@@ -367,7 +405,8 @@ held-next r o d (E.Number v) y t kept f l = rw f (go (isStart (markOf (r .mark))
 held-next r o d E.Constant y t kept f l = kept .held
 held-next r o d E.Turn y t kept f l = kept .held
 held-next r o d E.Closing y t kept f l = kept .held
-held-next r o d (E.Storing k) y t kept f l = rw (l .1 .1) (held-store t (r .size) k (rowTo r d (getIn t (r .size) k)) (kept .held) (kept .small) (l .0) (l .1 .0) refl)
+held-next r o d (E.Storing k) y t kept f l = rw (l .1 .1) (held-store t (r .size) k (recordTo r d (getIn t (r .size) k)) (kept .held) (kept .small)
+    (l .0) (l .1 .0) refl)
 held-next r o d E.End y t kept f l = kept .held
 
 -- ---- The open nodes --------------------------------------------------------------------------
@@ -386,7 +425,7 @@ list-length o h = open-length (o .nodes) (deepOf (o .depth)) ∙ deep-self (o .d
 -- ---- The step of the place -------------------------------------------------------------------
 
 table-short : (r : Run) (t : List (List ℕ)) → r .size ≤ length t → length (tableAt r t) ≤ suc (r .size)
-table-short r t h = go (isStart (markOf (r .mark)))
+table-short r t h = go (isStart (contextOf (r .context)))
   where
     go : (b : Bool) → length (cond b [] (tableOf t (r .size))) ≤ suc (r .size)
     go true = omega arith
@@ -417,7 +456,7 @@ for-top : (d : ℕ) (low : Open) → G.topOf (opensFor d low) ≡ sideOf d low
 for-top zero low = refl
 for-top (suc d) low = rw (ne-eqb (suc d) 0 (λ z. omega (arith, z))) (go (low .second))
   where
-    go : (b : Bool) → G.topOf (cond b (T.inSecond (refOf (low .first)) (low .turned)) T.inFirst ∷ replicate d T.inFirst) ≡ cond b G.outer G.inner
+    go : (b : Bool) → G.topOf (cond b (T.inSecond (refOf (low .first)) (low .complement)) T.inFirst ∷ replicate d T.inFirst) ≡ cond b G.outer G.inner
     go true = refl
     go false = refl
 
@@ -426,39 +465,43 @@ for-length zero low = refl
 for-length (suc d) low = ap suc (length-replicate d T.inFirst)
 
 -- An element ends behind its place.
-pub look-ahead : (bytes : List ℕ) (r : Run) (d : ℕ) (low : Open) (x : Look) → lookOf x ≡ lookAt kindTable bytes (r .at) (markOf (r .mark)) (r .last) d low → (e : Element) → outcomeIn x ≡ Got e → r .at < length bytes → r .at < x .at
-look-ahead bytes r d low x s e got l =
+pub token-ahead : (bytes : List ℕ) (r : Run) (d : ℕ) (low : Open) (x : NextToken) → nextTokenView x
+    ≡ nextToken kindTable bytes (r .at) (contextOf (r .context)) (r .last) d low → (e : Element) → outcomeIn x ≡ Got e → r .at < length bytes
+    → r .at < x .at
+token-ahead bytes r d low x s e got l =
     let k = deepOf d in
     let b = getD bytes (r .at) 0 in
-    let p = T.place (r .at) (markOf (r .mark)) (opensFor k low) (refOf (r .last)) in
+    let p = T.place (r .at) (contextOf (r .context)) (opensFor k low) (refOf (r .last)) in
     let A : T.Outcome → ℕ → Type 0 = λ (o : T.Outcome) (q : ℕ). AheadBy (r .at) (digitPlace (r .at) b) (length bytes) o q in
-    let y = G.glance kindTable bytes (r .at) (markOf (r .mark)) (sideOf k low) k in
+    let y = G.scanToken kindTable bytes (r .at) (contextOf (r .context)) (sideOf k low) k in
     let g : T.step p bytes ≡ G.applied p y
-    = G.step-glance p bytes ∙ ap₂ (λ (u : G.Top) (i : ℕ). G.applied p (G.glance kindTable bytes (r .at) (markOf (r .mark)) u i)) (for-top k low) (for-length k low) in
-    let a = cap-ahead (r .at) (digitPlace (r .at) b) (length bytes) (y .outcome) (y .at) (subst (λ (z : T.Step). A (z .outcome) (z .place .at)) g (step-ahead p bytes b (look-inside bytes (r .at) 0 l))) in
-    subst (λ (o : Outcome). A (outcomeOf o) (x .at)) got (subst (λ (z : Looked). A (z .outcome) (z .at)) (sym s) a) .0
+    = G.step-scan p bytes ∙ ap₂ (λ (u : G.Top) (i : ℕ). G.applied p (G.scanToken kindTable bytes (r .at) (contextOf (r .context)) u i))
+    (for-top k low) (for-length k low) in
+    let a = cap-ahead (r .at) (digitPlace (r .at) b) (length bytes) (y .outcome) (y .at)
+    (subst (λ (z : T.Step). A (z .outcome) (z .place .at)) g (step-ahead p bytes b (lookup-inside bytes (r .at) 0 l))) in
+    subst (λ (o : Outcome). A (outcomeOf o) (x .at)) got (subst (λ (z : NextTokenView). A (z .outcome) (z .at)) (sym s) a) .0
 
--- x is the look that code has at a place
+-- x is the token that code has at a place
 module _ (n : ℕ) (bytes : List ℕ) (r : Run) (o : Opens) (t : List (List ℕ)) (kept : Kept r o t)
-    (x : Look) (seen : lookOf x ≡ lookAt kindTable bytes (r .at) (markOf (r .mark)) (r .last) (o .depth) (lowOf o)) where
+    (x : NextToken) (seen : nextTokenView x ≡ nextToken kindTable bytes (r .at) (contextOf (r .context)) (r .last) (o .depth) (lowOf o)) where
   abbrev s : State
   s = stateAt r o t
 
   abbrev b : ℕ
   b = byteAt bytes s
 
-  -- the open nodes after the look
-  abbrev after-look : Opens
-  after-look = opensTo o (x .depth) (x .low)
+  -- the open nodes after the token
+  abbrev after-token : Opens
+  after-token = opensTo o (x .depth) (x .low)
 
-  -- the place after the look
+  -- the place after the token
   abbrev onto : T.Place
-  onto = T.place (x .at) (markOf (x .mark)) (openList after-look) (refOf (r .last))
+  onto = T.place (x .at) (contextOf (x .context)) (openList after-token) (refOf (r .last))
 
-  -- a step of reading by the look
-  advance-look : barredColon s b ≡ false → advance n bytes s ≡ after n s (firstDigit s b) (outcomeOf (outcomeIn x)) onto
-  advance-look free =
-      let p : Place = record { at = r .at; mark = r .mark; opens = o; last = r .last } in
+  -- a step of reading by the token
+  advance-token : barredColon s b ≡ false → advance n bytes s ≡ after n s (firstDigit s b) (outcomeOf (outcomeIn x)) onto
+  advance-token free =
+      let p : Place = record { at = r .at; context = r .context; opens = o; last = r .last } in
       let e = place-step bytes p (kept .nodes) kindTable refl (lowAt (o .depth)) (highAt (o .depth)) refl refl x seen in
       advance-seen n bytes s (kept .small) (table-short r t (kept .held .room))
       ∙ ap (λ (u : Bool). chosen n s b u (capStep (T.step (s .place) bytes) .outcome) (capStep (T.step (s .place) bytes) .place)) free
@@ -467,18 +510,19 @@ module _ (n : ℕ) (bytes : List ℕ) (r : Run) (o : Opens) (t : List (List ℕ)
   -- a fault of the step is the fault of the theory's reading
   advance-fault : (c : Cause) (i : ℕ) → outcomeIn x ≡ Fault c i → barredColon s b ≡ false → advance n bytes s ≡ fails s (causeOf c) i
   unfolding after
-  advance-fault c i e free = advance-look free ∙ ap (λ (y : Outcome). after n s (firstDigit s b) (outcomeOf y) onto) e
+  advance-fault c i e free = advance-token free ∙ ap (λ (y : Outcome). after n s (firstDigit s b) (outcomeOf y) onto) e
 
   -- where the bytes run out the theory's reading stays
   advance-out : outcomeIn x ≡ RanOut → barredColon s b ≡ false → advance n bytes s ≡ goes s
   unfolding after
-  advance-out e free = advance-look free ∙ ap (λ (y : Outcome). after n s (firstDigit s b) (outcomeOf y) onto) e
+  advance-out e free = advance-token free ∙ ap (λ (y : Outcome). after n s (firstDigit s b) (outcomeOf y) onto) e
 
-  -- the look gives the element e
+  -- the token gives the element e
   module _ (e : Element) (got : outcomeIn x ≡ Got e) (young : Young r t) where
-    -- the look has the element's number
+    -- the token has the element's number
     number-in : x .number ≡ numberIn e
-    number-in = ap (λ (u : Looked). u .number) seen ∙ sym (ap (λ (u : Looked). numberOf (u .outcome)) seen) ∙ ap (λ (u : Outcome). numberOf (outcomeOf u)) got ∙ go e
+    number-in = ap (λ (u : NextTokenView). u .number) seen ∙ sym (ap (λ (u : NextTokenView). numberOf (u .outcome)) seen)
+        ∙ ap (λ (u : Outcome). numberOf (outcomeOf u)) got ∙ go e
       where
         go : (e : Element) → numberOf (T.got (elementOf e)) ≡ numberIn e
         go E.Opening = refl
@@ -493,159 +537,193 @@ module _ (n : ℕ) (bytes : List ℕ) (r : Run) (o : Opens) (t : List (List ℕ)
     y = takenAt n bytes r (o .depth) (lowOf o) t x e
 
     abbrev os′ : List T.Open
-    os′ = openList after-look
+    os′ = openList after-token
 
     abbrev table : List Node
-    table = tableTo r (o .depth) e (rowIn r t e) y (tableAt r t)
+    table = tableTo r (o .depth) e (recordIn r t e) y (tableAt r t)
 
     abbrev lent : List (List ℕ)
-    lent = lentAt n bytes r (o .depth) (lowOf o) t x e
+    lent = updatedAt n bytes r (o .depth) (lowOf o) t x e
 
-    row-here : getIn t (r .size) (x .number) ≡ rowIn r t e
-    row-here = ap (getIn t (r .size)) number-in
+    record-here : getIn t (r .size) (x .number) ≡ recordIn r t e
+    record-here = ap (getIn t (r .size)) number-in
 
-    firm : Firm (markOf (r .mark)) (T.got (elementOf e)) (markOf (x .mark))
+    firm : Firm (contextOf (r .context)) (T.got (elementOf e)) (contextOf (x .context))
     firm =
         let d = deepOf (o .depth) in
-        subst (λ (u : Outcome). Firm (markOf (r .mark)) (outcomeOf u) (markOf (x .mark))) got
-        (subst (λ (u : Looked). Firm (markOf (r .mark)) (u .outcome) (u .mark)) (sym seen) (glance-firm kindTable bytes (r .at) (markOf (r .mark)) (sideOf d (lowOf o)) d))
+        subst (λ (u : Outcome). Firm (contextOf (r .context)) (outcomeOf u) (contextOf (x .context))) got
+        (subst (λ (u : NextTokenView). Firm (contextOf (r .context)) (u .outcome) (u .context)) (sym seen)
+        (scan-firm kindTable bytes (r .at) (contextOf (r .context)) (sideOf d (lowOf o)) d))
 
     -- the reading by what is taken, c: it is a fault
     abbrev readBy : Bool → Reading
-    readBy c = record { state = stateOf (y .run) (cond c (openList o) os′) table; fault = cond c (some (record { cause = causeOf (y .cause); byte = y .byte })) none }
+    readBy c = record {
+      state = stateOf (y .run) (cond c (openList o) os′) table;
+      fault = cond c
+          (some (record { cause = causeOf (y .cause); byte = y .byte })) none;
+    }
 
     -- a step of reading by what is taken
     advance-taken : barredColon s b ≡ false → advance n bytes s ≡ readBy (y .faulty)
     unfolding after
     advance-taken free =
-        advance-look free
+        advance-token free
         ∙ ap (λ (u : Outcome). after n s (firstDigit s b) (outcomeOf u) onto) got
-        ∙ sym (subst (λ (z : Taken). readingOf z (cond (z .faulty) (openList o) os′) (tableTo r (o .depth) e (rowIn r t e) z (tableAt r t)) ≡ withElement n s (firstDigit s b) (elementOf e) onto)
-        (ap (λ (w : Row). takenOf n r (o .depth) (lowOf o) (firstDigit s b) e w (x .at) (x .mark)) (sym row-here))
-        (subst (λ (d : ℕ). let z = takenOf n r d (lowOf o) (firstDigit s b) e (rowIn r t e) (x .at) (x .mark) in
-        readingOf z (cond (z .faulty) (openList o) os′) (tableTo r d e (rowIn r t e) z (tableAt r t)) ≡ withElement n s (firstDigit s b) (elementOf e) onto)
+        ∙ sym (subst (λ (z : Taken). readingOf z (cond (z .faulty) (openList o) os′) (tableTo r (o .depth) e (recordIn r t e) z (tableAt r t))
+        ≡ withElement n s (firstDigit s b) (elementOf e) onto)
+        (ap (λ (w : NodeRecord). takenOf n r (o .depth) (lowOf o) (firstDigit s b) e w (x .at) (x .context)) (sym record-here))
+        (subst (λ (d : ℕ). let z = takenOf n r d (lowOf o) (firstDigit s b) e (recordIn r t e) (x .at) (x .context) in
+        readingOf z (cond (z .faulty) (openList o) os′) (tableTo r d e (recordIn r t e) z (tableAt r t))
+        ≡ withElement n s (firstDigit s b) (elementOf e) onto)
         (list-length o (kept .deep))
-        (take-with n r (openList o) os′ (tableAt r t) (lowOf o) (firstDigit s b) e (rowIn r t e) (x .at) (x .mark) (low-inner o (kept .deep)) (row-wanted r o t kept young e (firm .1)))))
+        (take-with n r (openList o) os′ (tableAt r t) (lowOf o) (firstDigit s b) e (recordIn r t e) (x .at) (x .context) (low-inner o (kept .deep))
+        (record-wanted r o t kept young e (firm .1)))))
 
-    made-here : Made r (x .mark) e y (y .faulty)
-    made-here = made n r (o .depth) (lowOf o) (firstDigit s b) (getIn t (r .size) (x .number)) (x .at) (x .mark) e
+    effect-here : Effect r (x .context) e y (y .faulty)
+    effect-here = effect n r (o .depth) (lowOf o) (firstDigit s b) (getIn t (r .size) (x .number)) (x .at) (x .context) e
 
     -- a fault of what is taken is the fault of the theory's reading, and nothing is lent
     advance-refused : y .faulty ≡ true → barredColon s b ≡ false → (advance n bytes s ≡ fails s (causeOf (y .cause)) (y .byte)) × (lent ≡ t)
     advance-refused f free =
-        let h : Made r (x .mark) e y true = subst (Made r (x .mark) e y) f made-here in (
+        let h : Effect r (x .context) e y true = subst (Effect r (x .context) e y) f effect-here in (
           advance-taken free
               ∙ ap readBy f
-              ∙ ap₂ (λ (q : Run) (u : List Node). fails (stateOf q (openList o) u) (causeOf (y .cause)) (y .byte)) (h .0) (table-fault r (o .depth) e (rowIn r t e) y (tableAt r t) f (h .1 .0)),
-          lent-plain r (o .depth) (x .number) (getIn t (r .size) (x .number)) y t (h .1),
+              ∙ ap₂ (λ (q : Run) (u : List Node). fails (stateOf q (openList o) u) (causeOf (y .cause)) (y .byte)) (h .0)
+              (table-fault r (o .depth) e (recordIn r t e) y (tableAt r t) f (h .1 .0)),
+          updated-plain r (o .depth) (x .number) (getIn t (r .size) (x .number)) y t (h .1),
         )
 
     module _ (f : y .faulty ≡ false) where
-      made-well : Made r (x .mark) e y false
-      made-well = subst (Made r (x .mark) e y) f made-here
+      effect-well : Effect r (x .context) e y false
+      effect-well = subst (Effect r (x .context) e y) f effect-here
 
-      lent-here : lent ≡ lentBy r (o .depth) e (rowIn r t e) y t
-      lent-here =
-          ap₂ (λ (k : ℕ) (w : Row). lentTo r (o .depth) k w y t) number-in row-here
-          ∙ lent-well r (o .depth) e (rowIn r t e) y t f (made-well .1 .1)
+      updated-here : lent ≡ updatedBy r (o .depth) e (recordIn r t e) y t
+      updated-here =
+          ap₂ (λ (k : ℕ) (w : NodeRecord). updatedTo r (o .depth) k w y t) number-in record-here
+          ∙ updated-well r (o .depth) e (recordIn r t e) y t f (effect-well .1 .1)
 
       table-made : table ≡ tableAt (y .run) lent
       table-made =
-          table-next r (o .depth) e (rowIn r t e) y t (kept .room) f (made-well .1 .1) (firm .1)
-          ∙ ap (λ (u : List (List ℕ)). tableOf u (sizeTo r e)) (sym lent-here)
-          ∙ sym (ap₂ (λ (k : Mark) (z : ℕ). cond (isStart (markOf k)) [] (tableOf lent z)) (made-well .0) (made-well .1 .0)
+          table-next r (o .depth) e (recordIn r t e) y t (kept .room) f (effect-well .1 .1) (firm .1)
+          ∙ ap (λ (u : List (List ℕ)). tableOf u (sizeTo r e)) (sym updated-here)
+          ∙ sym (ap₂ (λ (k : Context) (z : ℕ). cond (isStart (contextOf k)) [] (tableOf lent z)) (effect-well .0) (effect-well .1 .0)
           ∙ ap (λ (c : Bool). cond c [] (tableOf lent (sizeTo r e))) (firm .0))
 
       -- AN ELEMENT MORE: what code takes, the open nodes and the lent table are the theory's state after it.
-      advance-element : barredColon s b ≡ false → advance n bytes s ≡ goes (stateAt (y .run) after-look lent)
+      advance-element : barredColon s b ≡ false → advance n bytes s ≡ goes (stateAt (y .run) after-token lent)
       advance-element free =
           advance-taken free
           ∙ ap readBy f
           ∙ ap (λ (u : List Node). goes (stateOf (y .run) os′ u)) table-made
 
       -- The size has been read.
-      later-element : isStart (markOf (y .run .mark)) ≡ false
-      later-element = ap (λ (k : Mark). isStart (markOf k)) (made-well .0) ∙ firm .0
+      later-element : isStart (contextOf (y .run .context)) ≡ false
+      later-element = ap (λ (k : Context). isStart (contextOf k)) (effect-well .0) ∙ firm .0
 
       -- What code keeps true stays so.
-      kept-element : Kept (y .run) after-look lent
+      kept-element : Kept (y .run) after-token lent
       kept-element = record {
-        room = omega (arith, kept .room, length-lent r (o .depth) (x .number) (getIn t (r .size) (x .number)) y t);
-        small = subst (λ (z : ℕ). z ≤ tableLimit) (sym (made-well .1 .0)) (size-small r e y (kept .small) (made-well .1 .1));
-        held = subst (Held lent) (sym (made-well .1 .0)) (subst (λ (u : List (List ℕ)). Held u (sizeTo r e)) (sym lent-here) (held-next r o (o .depth) e y t kept f (made-well .1 .1)));
-        nodes = length-set (set (o .nodes) (highAt (o .depth)) insideOpen) (lowAt (o .depth)) (x .low) ∙ length-set (o .nodes) (highAt (o .depth)) insideOpen ∙ kept .nodes;
-        deep = subst (λ (u : Looked). u .depth ≤ openLimit) (sym seen) (look-depth kindTable bytes (r .at) (markOf (r .mark)) (r .last) (o .depth) (lowOf o));
+        room = omega (arith, kept .room, length-updated r (o .depth) (x .number) (getIn t (r .size) (x .number)) y t);
+        small = subst (λ (z : ℕ). z ≤ tableLimit) (sym (effect-well .1 .0)) (size-small r e y (kept .small) (effect-well .1 .1));
+        held = subst (Held lent) (sym (effect-well .1 .0)) (subst (λ (u : List (List ℕ)). Held u (sizeTo r e)) (sym updated-here)
+            (held-next r o (o .depth) e y t kept f (effect-well .1 .1)));
+        nodes = length-set (set (o .nodes) (highAt (o .depth)) insideOpen) (lowAt (o .depth)) (x .low)
+            ∙ length-set (o .nodes) (highAt (o .depth)) insideOpen ∙ kept .nodes;
+        deep = subst (λ (u : NextTokenView). u .depth ≤ openLimit) (sym seen)
+            (token-depth kindTable bytes (r .at) (contextOf (r .context)) (r .last) (o .depth) (lowOf o));
         begin = λ q. absurd (false≢true (sym later-element ∙ q));
       }
 
       -- The place moves on.
       ahead-element : r .at < length bytes → r .at < y .run .at
-      ahead-element l = subst (λ (i : ℕ). r .at < i) (sym (taken-at n r (o .depth) (lowOf o) (firstDigit s b) (getIn t (r .size) (x .number)) (x .at) (x .mark) e f)) (look-ahead bytes r (o .depth) (lowOf o) x seen e got l)
+      ahead-element l = subst (λ (i : ℕ). r .at < i) (sym (taken-at n r (o .depth) (lowOf o) (firstDigit s b) (getIn t (r .size) (x .number)) (x .at)
+          (x .context) e f)) (token-ahead bytes r (o .depth) (lowOf o) x seen e got l)
 
--- ---- A turn of the loop ----------------------------------------------------------------------
+-- ---- An iteration of the loop ----------------------------------------------------------------------
 
 -- nothing was read. f: it is a fault
-abbrev pub stayed : Run → ℕ → Open → Bool → Cause → ℕ → Turn
+abbrev pub stayed : Run → ℕ → Open → Bool → Cause → ℕ → Iteration
 stayed r d low f c b = record { run = r; depth = d; low = low; went = false; faulty = f; cause = c; byte = b }
 
--- an element was taken, after the look x
-abbrev pub wentBy : Taken → Look → Turn
+-- an element was taken, after the token x
+abbrev pub wentBy : Taken → NextToken → Iteration
 wentBy y x = record { run = y .run; depth = x .depth; low = x .low; went = not (y .faulty); faulty = y .faulty; cause = y .cause; byte = y .byte }
 
--- d: how many nodes are open, low: the innermost; y: what the turn comes to, u: the lent table after it
-pub data TurnMade (n : ℕ) (bytes : List ℕ) (r : Run) (d : ℕ) (low : Open) (t : List (List ℕ)) (y : Turn) (u : List (List ℕ)) : Type 0 where
-  past : length bytes ≤ r .at → y ≡ stayed r d low false WrongByte 0 → u ≡ t → TurnMade n bytes r d low t y u
-  barred : barredBy t r (getD bytes (r .at) 0) ≡ true → y ≡ stayed r d low true NotStorable (r .at) → u ≡ t → TurnMade n bytes r d low t y u
-  out : barredBy t r (getD bytes (r .at) 0) ≡ false → (x : Look) → lookOf x ≡ lookAt kindTable bytes (r .at) (markOf (r .mark)) (r .last) d low
-      → outcomeIn x ≡ RanOut → y ≡ stayed r d low false WrongByte 0 → u ≡ t → TurnMade n bytes r d low t y u
-  fault : barredBy t r (getD bytes (r .at) 0) ≡ false → (x : Look) → lookOf x ≡ lookAt kindTable bytes (r .at) (markOf (r .mark)) (r .last) d low
-      → (c : Cause) (i : ℕ) → outcomeIn x ≡ Fault c i → y ≡ stayed r d low true c i → u ≡ t → TurnMade n bytes r d low t y u
-  took : r .at < length bytes → barredBy t r (getD bytes (r .at) 0) ≡ false → (x : Look) → lookOf x ≡ lookAt kindTable bytes (r .at) (markOf (r .mark)) (r .last) d low
-      → (e : Element) → outcomeIn x ≡ Got e → y ≡ wentBy (takenAt n bytes r d low t x e) x → u ≡ lentAt n bytes r d low t x e → TurnMade n bytes r d low t y u
+-- d: how many nodes are open, low: the innermost; y: what the iteration comes to, u: the lent table after it
+pub data Iterates (n : ℕ) (bytes : List ℕ) (r : Run) (d : ℕ) (low : Open) (t : List (List ℕ)) (y : Iteration) (u : List (List ℕ)) : Type 0 where
+  past : length bytes ≤ r .at → y ≡ stayed r d low false WrongByte 0 → u ≡ t → Iterates n bytes r d low t y u
+  barred : barredBy t r (getD bytes (r .at) 0) ≡ true → y ≡ stayed r d low true NotStorable (r .at) → u ≡ t → Iterates n bytes r d low t y u
+  out : barredBy t r (getD bytes (r .at) 0) ≡ false → (x : NextToken) → nextTokenView x
+      ≡ nextToken kindTable bytes (r .at) (contextOf (r .context)) (r .last) d low
+      → outcomeIn x ≡ RanOut → y ≡ stayed r d low false WrongByte 0 → u ≡ t → Iterates n bytes r d low t y u
+  fault : barredBy t r (getD bytes (r .at) 0) ≡ false → (x : NextToken) → nextTokenView x
+      ≡ nextToken kindTable bytes (r .at) (contextOf (r .context)) (r .last) d low
+      → (c : Cause) (i : ℕ) → outcomeIn x ≡ Fault c i → y ≡ stayed r d low true c i → u ≡ t → Iterates n bytes r d low t y u
+  took : r .at < length bytes → barredBy t r (getD bytes (r .at) 0) ≡ false → (x : NextToken) → nextTokenView x
+      ≡ nextToken kindTable bytes (r .at) (contextOf (r .context)) (r .last) d low
+      → (e : Element) → outcomeIn x ≡ Got e → y ≡ wentBy (takenAt n bytes r d low t x e) x → u ≡ updatedAt n bytes r d low t x e
+      → Iterates n bytes r d low t y u
 
 -- reading halts at s: at a fault, or since the bytes ran out
 abbrev pub HaltsAt : ℕ → List ℕ → State → Bool → Cause → ℕ → Type 0
 HaltsAt n bytes s true c b = advance n bytes s ≡ fails s (causeOf c) b
 HaltsAt n bytes s false c b = advance n bytes s ≡ goes s
 
--- what a turn comes to: it goes on, or halts
-abbrev pub Comes : ℕ → List ℕ → Run → Opens → List (List ℕ) → Turn → List (List ℕ) → Bool → Type 0
+-- what an iteration comes to: it goes on, or halts
+abbrev pub Comes : ℕ → List ℕ → Run → Opens → List (List ℕ) → Iteration → List (List ℕ) → Bool → Type 0
 Comes n bytes r o t y u true =
-    (advance n bytes (stateAt r o t) ≡ goes (stateAt (y .run) (opensTo o (y .depth) (y .low)) u)) × (Kept (y .run) (opensTo o (y .depth) (y .low)) u × ((r .at < length bytes) × ((r .at < y .run .at) × (isStart (markOf (y .run .mark)) ≡ false))))
+    (advance n bytes (stateAt r o t) ≡ goes (stateAt (y .run) (opensTo o (y .depth) (y .low)) u))
+    × (Kept (y .run) (opensTo o (y .depth) (y .low)) u × ((r .at < length bytes)
+    × ((r .at < y .run .at) × (isStart (contextOf (y .run .context)) ≡ false))))
 Comes n bytes r o t y u false = (u ≡ t) × HaltsAt n bytes (stateAt r o t) (y .faulty) (y .cause) (y .byte)
 
 module _ (n : ℕ) (bytes : List ℕ) (r : Run) (o : Opens) (t : List (List ℕ)) (kept : Kept r o t) (young : Young r t) where
-  abbrev ComesBy : Turn → List (List ℕ) → Type 0
+  abbrev ComesBy : Iteration → List (List ℕ) → Type 0
   ComesBy y u = Comes n bytes r o t y u (y .went)
 
   free : barredBy t r (getD bytes (r .at) 0) ≡ false → barredColon (stateAt r o t) (byteAt bytes (stateAt r o t)) ≡ false
-  free h = barred-rows r o t (byteAt bytes (stateAt r o t)) ∙ h
+  free h = barred-records r o t (byteAt bytes (stateAt r o t)) ∙ h
 
-  comes-took : (x : Look) → lookOf x ≡ lookAt kindTable bytes (r .at) (markOf (r .mark)) (r .last) (o .depth) (lowOf o) → (e : Element) → outcomeIn x ≡ Got e
-      → r .at < length bytes → barredBy t r (getD bytes (r .at) 0) ≡ false → ComesBy (wentBy (takenAt n bytes r (o .depth) (lowOf o) t x e) x) (lentAt n bytes r (o .depth) (lowOf o) t x e)
+  comes-took : (x : NextToken) → nextTokenView x ≡ nextToken kindTable bytes (r .at) (contextOf (r .context)) (r .last) (o .depth) (lowOf o)
+      → (e : Element) → outcomeIn x ≡ Got e
+      → r .at < length bytes → barredBy t r (getD bytes (r .at) 0) ≡ false
+      → ComesBy (wentBy (takenAt n bytes r (o .depth) (lowOf o) t x e) x) (updatedAt n bytes r (o .depth) (lowOf o) t x e)
   comes-took x seen e got l h = go (takenAt n bytes r (o .depth) (lowOf o) t x e .faulty) refl
     where
       y : Taken
       y = takenAt n bytes r (o .depth) (lowOf o) t x e
 
-      go : (f : Bool) → y .faulty ≡ f → Comes n bytes r o t (wentBy y x) (lentAt n bytes r (o .depth) (lowOf o) t x e) (not f)
+      go : (f : Bool) → y .faulty ≡ f → Comes n bytes r o t (wentBy y x) (updatedAt n bytes r (o .depth) (lowOf o) t x e) (not f)
       go true i =
           let k = advance-refused n bytes r o t kept x seen e got young i (free h) in
           (k .1, subst (λ (f : Bool). HaltsAt n bytes (stateAt r o t) f (y .cause) (y .byte)) (sym i) (k .0))
-      go false i = (advance-element n bytes r o t kept x seen e got young i (free h), (kept-element n bytes r o t kept x seen e got young i, (l, (ahead-element n bytes r o t kept x seen e got young i l, later-element n bytes r o t kept x seen e got young i))))
+      go false i = (
+        advance-element n bytes r o t kept x seen e got young i (free h),
+        (
+          kept-element n bytes r o t kept x seen e got young i,
+          (
+            l,
+            (ahead-element n bytes r o t kept x seen e got young i l, later-element n bytes r o t kept x seen e got young i),
+          ),
+        ),
+      )
 
-  -- WHAT A TURN COMES TO
-  comes : (y : Turn) (u : List (List ℕ)) → TurnMade n bytes r (o .depth) (lowOf o) t y u → ComesBy y u
-  comes y u (past h e k) = subst (λ (z : Turn). ComesBy z u) (sym e) (k, advance-past n bytes (stateAt r o t) h)
-  comes y u (barred h e k) = subst (λ (z : Turn). ComesBy z u) (sym e) (k, advance-barred n bytes r o t (barred-rows r o t (byteAt bytes (stateAt r o t)) ∙ h))
-  comes y u (out h x seen i e k) = subst (λ (z : Turn). ComesBy z u) (sym e) (k, advance-out n bytes r o t kept x seen i (free h))
-  comes y u (fault h x seen c j i e k) = subst (λ (z : Turn). ComesBy z u) (sym e) (k, advance-fault n bytes r o t kept x seen c j i (free h))
-  comes y u (took l h x seen el i e k) = subst (λ (z : Turn). ComesBy z u) (sym e) (subst (ComesBy (wentBy (takenAt n bytes r (o .depth) (lowOf o) t x el) x)) (sym k) (comes-took x seen el i l h))
+  -- WHAT AN ITERATION COMES TO
+  comes : (y : Iteration) (u : List (List ℕ)) → Iterates n bytes r (o .depth) (lowOf o) t y u → ComesBy y u
+  comes y u (past h e k) = subst (λ (z : Iteration). ComesBy z u) (sym e) (k, advance-past n bytes (stateAt r o t) h)
+  comes y u (barred h e k) = subst (λ (z : Iteration). ComesBy z u) (sym e)
+      (k, advance-barred n bytes r o t (barred-records r o t (byteAt bytes (stateAt r o t)) ∙ h))
+  comes y u (out h x seen i e k) = subst (λ (z : Iteration). ComesBy z u) (sym e) (k, advance-out n bytes r o t kept x seen i (free h))
+  comes y u (fault h x seen c j i e k) = subst (λ (z : Iteration). ComesBy z u) (sym e) (k, advance-fault n bytes r o t kept x seen c j i (free h))
+  comes y u (took l h x seen el i e k) = subst (λ (z : Iteration). ComesBy z u) (sym e)
+      (subst (ComesBy (wentBy (takenAt n bytes r (o .depth) (lowOf o) t x el) x)) (sym k) (comes-took x seen el i l h))
 
-  -- A turn that goes on is an element more.
-  pub turn-went : (y : Turn) (u : List (List ℕ)) → TurnMade n bytes r (o .depth) (lowOf o) t y u → y .went ≡ true → Comes n bytes r o t y u true
-  turn-went y u h e = subst (Comes n bytes r o t y u) e (comes y u h)
+  -- An iteration that goes on is an element more.
+  pub iteration-went : (y : Iteration) (u : List (List ℕ)) → Iterates n bytes r (o .depth) (lowOf o) t y u → y .went ≡ true
+      → Comes n bytes r o t y u true
+  iteration-went y u h e = subst (Comes n bytes r o t y u) e (comes y u h)
 
   -- Another halts.
-  pub turn-halts : (y : Turn) (u : List (List ℕ)) → TurnMade n bytes r (o .depth) (lowOf o) t y u → y .went ≡ false → Comes n bytes r o t y u false
-  turn-halts y u h e = subst (Comes n bytes r o t y u) e (comes y u h)
+  pub iteration-halts : (y : Iteration) (u : List (List ℕ)) → Iterates n bytes r (o .depth) (lowOf o) t y u → y .went ≡ false
+      → Comes n bytes r o t y u false
+  iteration-halts y u h e = subst (Comes n bytes r o t y u) e (comes y u h)

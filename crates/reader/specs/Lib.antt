@@ -1,10 +1,10 @@
-pub mod Sights
+pub mod Tokens
 pub mod Taking
 pub mod Simulation
 pub mod CappedElement
 pub mod Advance
-pub mod Turn
-pub mod Turning
-pub mod Lent
+pub mod Iteration
+pub mod Iterating
+pub mod OpenCells
 pub mod Loop
 pub mod ReadOn

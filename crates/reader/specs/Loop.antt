@@ -6,25 +6,35 @@ use mathlib.Core.List.{List}
 use Prim.Native.Nat.{ℕ, suc, _-_, _<_, _≤_}
 use native.Mathlib.Omega.{arith}
 use lib.ListN.{length, replicate, length-replicate}
-use Rattle.reading.specs.Limits.{optionLimit, openLimit, tableLimit, wordLimit}
-use Rattle.reading.specs.Reading.{State, isStart}
-use Rattle.reading.specs.Reaching.{At, at-start, at-next, at-covered, at-stamp}
-use Rattle.scanner.specs.Cite.{markOf, insideOpen, terminalRef, temporaryRef, opensOf}
+use Rattle.theory_reading.specs.Limits.{optionLimit, openLimit, tableLimit, wordLimit}
+use Rattle.theory_reading.specs.Reading.{State, isStart}
+use Rattle.theory_reading.specs.Reaching.{At, at-start, at-next, at-covered, at-stamp}
+use Rattle.scanner.specs.Abstraction.{contextOf, insideOpen, terminalRef, temporaryRef, opensOf}
 use Rattle.scanner.specs.declared.Cause.the-variants.{WrongByte}
 use Rattle.scanner.specs.declared.Open.{Open}
 use Rattle.scanner.specs.declared.Opens.{Opens}
-use Rattle.scanner.specs.declared.Mark.{Mark}
-use Rattle.scanner.specs.declared.Mark.the-variants.{Start}
+use Rattle.scanner.specs.declared.Context.{Context}
+use Rattle.scanner.specs.declared.Context.the-variants.{Start}
 use Rattle.reader.specs.declared.Run.{Run}
-use Rattle.reader.specs.declared.Turn.{Turn}
+use Rattle.reader.specs.declared.Iteration.{Iteration}
 use Rattle.work_table.specs.Table.{getIn}
-use Rattle.reader.specs.Advance.{stateAt, Kept, Young, takenAt, lowOf, opensTo, TurnMade, past, barred, out, fault, took, HaltsAt, Comes, turn-went, turn-halts, list-length, length-lent}
-use Rattle.reader.specs.Lent.{ReadReached}
+use Rattle.reader.specs.Advance.{stateAt, Kept, Young, takenAt, lowOf, opensTo, Iterates, past, barred, out, fault, took, HaltsAt, Comes}
+use Rattle.reader.specs.Advance.{iteration-went, iteration-halts, list-length, length-updated}
+use Rattle.reader.specs.OpenCells.{ReadReached}
 
 -- ---- The first state -------------------------------------------------------------------------
 
 abbrev pub firstRun : Run
-firstRun = record { at = 0; mark = Start; last = temporaryRef; size = 0; covered = 0; complement = false; pair = record { first = terminalRef; turned = false; second = terminalRef } }
+firstRun = record {
+  at = 0;
+  context = Start;
+  last = temporaryRef;
+  size = 0;
+  covered = 0;
+  complement = false;
+  pair = record
+      { first = terminalRef; complement = false; second = terminalRef };
+}
 
 abbrev pub firstOpens : Opens
 firstOpens = record { nodes = replicate openLimit insideOpen; depth = 0 }
@@ -53,8 +63,8 @@ stands-first n bytes t h = record {
 
 -- ---- What is reached -------------------------------------------------------------------------
 
--- The last of the steps, which has come to the mark m, passed the words from `from` on, inside `deep` open nodes.
-pub record PassedLast (n : ℕ) (bytes : List ℕ) (m : Mark) (steps stop from deep : ℕ) : Type 0 where
+-- The last of the steps, which has come to the context m, passed the words from `from` on, inside `deep` open nodes.
+pub record PassedLast (n : ℕ) (bytes : List ℕ) (m : Context) (steps stop from deep : ℕ) : Type 0 where
   pub before : ℕ
   pub last : steps ≡ suc before
   pub state : State
@@ -63,12 +73,12 @@ pub record PassedLast (n : ℕ) (bytes : List ℕ) (m : Mark) (steps stop from d
   pub low : from ≤ stop
   pub depth : length (state .place .opens) ≡ deep
   pub shallow : deep ≤ openLimit
-  pub later : isStart (markOf m) ≡ false
+  pub later : isStart (contextOf m) ≡ false
 
 -- Past the stop the last step passed it; else reading halts.
 abbrev pub Ends : (n : ℕ) (bytes : List ℕ) (stop : ℕ) (y : ReadReached) (u : List (List ℕ)) → ℕ → Bool → Type 0
 Ends n bytes stop y u steps true = (y .run .covered ≤ stop) × HaltsAt n bytes (stateAt (y .run) (y .opens) u) (y .faulty) (y .cause) (y .byte)
-Ends n bytes stop y u steps false = (stop < y .run .covered) × PassedLast n bytes (y .run .mark) steps stop (y .from) (y .deep)
+Ends n bytes stop y u steps false = (stop < y .run .covered) × PassedLast n bytes (y .run .context) steps stop (y .from) (y .deep)
 
 pub record ReachedBy (n : ℕ) (bytes : List ℕ) (stop : ℕ) (y : ReadReached) (u : List (List ℕ)) : Type 0 where
   pub stands : Stands n bytes (y .run) (y .opens) u
@@ -77,7 +87,7 @@ pub record ReachedBy (n : ℕ) (bytes : List ℕ) (stop : ℕ) (y : ReadReached)
 -- What the loop keeps: where it stands; and past the stop, the last step.
 pub record Running (n : ℕ) (bytes : List ℕ) (stop : ℕ) (r : Run) (o : Opens) (from deep : ℕ) (t : List (List ℕ)) : Type 0 where
   pub stands : Stands n bytes r o t
-  pub past : (r .covered ≤ stop) ⊎ PassedLast n bytes (r .mark) (stands .steps) stop from deep
+  pub past : (r .covered ≤ stop) ⊎ PassedLast n bytes (r .context) (stands .steps) stop from deep
 
 module _ (n : ℕ) (bytes : List ℕ) (few : n ≤ optionLimit) (r : Run) (o : Opens) (t : List (List ℕ)) (h : Stands n bytes r o t) where
   young : Young r t
@@ -87,24 +97,36 @@ module _ (n : ℕ) (bytes : List ℕ) (few : n ≤ optionLimit) (r : Run) (o : O
   pub stands-covered : r .covered ≤ wordLimit
   stands-covered = at-covered n bytes (h .steps) (stateAt r o t) few (h .here)
 
-  -- the turn's result y, with the lent table u
-  module _ (y : Turn) (u : List (List ℕ)) (made : TurnMade n bytes r (o .depth) (lowOf o) t y u) where
-    -- A turn that does not go on halts, and lends nothing.
+  -- the iteration's result y, with the lent table u
+  module _ (y : Iteration) (u : List (List ℕ)) (made : Iterates n bytes r (o .depth) (lowOf o) t y u) where
+    -- An iteration that does not go on halts, and lends nothing.
     pub halts-here : y .went ≡ false → (u ≡ t) × HaltsAt n bytes (stateAt r o t) (y .faulty) (y .cause) (y .byte)
-    halts-here = turn-halts n bytes r o t (h .kept) young y u made
+    halts-here = iteration-halts n bytes r o t (h .kept) young y u made
 
     went : y .went ≡ true → Comes n bytes r o t y u true
-    went = turn-went n bytes r o t (h .kept) young y u made
+    went = iteration-went n bytes r o t (h .kept) young y u made
 
-    -- A turn that goes on is a step more, and passes what it passes inside the open nodes before it.
-    pub goes-here : y .went ≡ true → (stop : ℕ) → r .covered ≤ stop → Running n bytes stop (y .run) (opensTo o (y .depth) (y .low)) (r .covered) (o .depth) u
+    -- An iteration that goes on is a step more, and passes what it passes inside the open nodes before it.
+    pub goes-here : y .went ≡ true → (stop : ℕ) → r .covered ≤ stop → Running n bytes stop (y .run) (opensTo o (y .depth) (y .low)) (r .covered)
+        (o .depth) u
     goes-here e stop l = record {
       stands = record {
         steps = suc (h .steps);
         here = at-next n bytes (h .steps) (stateAt r o t) (stateAt (y .run) (opensTo o (y .depth) (y .low)) u) (h .here) (went e .0);
         kept = went e .1 .0;
       };
-      past = inr (record { before = h .steps; last = refl; state = stateAt r o t; here = h .here; covered = refl; low = l; depth = list-length o (h .kept .deep); shallow = h .kept .deep; later = went e .1 .1 .1 .1 });
+      past = inr (record {
+        before = h .steps;
+        last = refl;
+        state = stateAt r o t;
+        here = h .here;
+        covered = refl;
+        low = l;
+        depth = list-length o
+            (h .kept .deep);
+        shallow = h .kept .deep;
+        later = went e .1 .1 .1 .1;
+      });
     }
 
     -- It moves on.
@@ -113,15 +135,25 @@ module _ (n : ℕ) (bytes : List ℕ) (few : n ≤ optionLimit) (r : Run) (o : O
 
 -- ---- The ends of the loop ---------------------------------------------------------------------
 
--- A turn keeps the length of the lent table.
-pub turn-length : (n : ℕ) (bytes : List ℕ) (r : Run) (d : ℕ) (low : Open) (t : List (List ℕ)) (y : Turn) (u : List (List ℕ)) → TurnMade n bytes r d low t y u → length u ≡ length t
-turn-length n bytes r d low t y u (past h e k) = ap length k
-turn-length n bytes r d low t y u (barred h e k) = ap length k
-turn-length n bytes r d low t y u (out h x seen i e k) = ap length k
-turn-length n bytes r d low t y u (fault h x seen a j i e k) = ap length k
-turn-length n bytes r d low t y u (took l h x seen el i e k) = ap length k ∙ length-lent r d (x .number) (getIn t (r .size) (x .number)) (takenAt n bytes r d low t x el) t
+-- An iteration keeps the length of the lent table.
+pub iteration-length : (n : ℕ) (bytes : List ℕ) (r : Run) (d : ℕ) (low : Open) (t : List (List ℕ)) (y : Iteration) (u : List (List ℕ))
+    → Iterates n bytes r d low t y u → length u ≡ length t
+iteration-length n bytes r d low t y u (past h e k) = ap length k
+iteration-length n bytes r d low t y u (barred h e k) = ap length k
+iteration-length n bytes r d low t y u (out h x seen i e k) = ap length k
+iteration-length n bytes r d low t y u (fault h x seen a j i e k) = ap length k
+iteration-length n bytes r d low t y u (took l h x seen el i e k) = ap length k
+    ∙ length-updated r d (x .number) (getIn t (r .size) (x .number)) (takenAt n bytes r d low t x el) t
 
 -- The loop is past its stop.
-pub loop-past : (n : ℕ) (bytes : List ℕ) (stop : ℕ) (r : Run) (o : Opens) (from deep : ℕ) (t : List (List ℕ)) → Running n bytes stop r o from deep t → stop < r .covered
+pub loop-past : (n : ℕ) (bytes : List ℕ) (stop : ℕ) (r : Run) (o : Opens) (from deep : ℕ) (t : List (List ℕ)) → Running n bytes stop r o from deep t
+    → stop < r .covered
     → ReachedBy n bytes stop (record { run = r; opens = o; from = from; deep = deep; halted = false; faulty = false; cause = WrongByte; byte = 0 }) t
-loop-past n bytes stop r o from deep t h l = record { stands = h .stands; ends = (l, ⊎-elim (λ (k : r .covered ≤ stop). absurd (omega (arith, k, l))) (λ (k : PassedLast n bytes (r .mark) (h .stands .steps) stop from deep). k) (h .past)) }
+loop-past n bytes stop r o from deep t h l = record {
+  stands = h .stands;
+  ends = (
+    l,
+    ⊎-elim (λ (k : r .covered ≤ stop). absurd (omega (arith, k, l)))
+        (λ (k : PassedLast n bytes (r .context) (h .stands .steps) stop from deep). k) (h .past),
+  );
+}

@@ -1,4 +1,4 @@
--- The code's loop as a function, with fuel for its turns, and reading on from a cursor. Where code stands as reading does, what the
+-- The code's loop as a function, with fuel for its iterations, and reading on from a cursor. Where code stands as reading does, what the
 -- function comes to is what the loop reaches. Assumes nothing.
 use mathlib.Core.Path.{_≡_, refl, sym, ap, _∙_, subst}
 use mathlib.Core.Logic.{inl, ⊎-elim}
@@ -9,19 +9,20 @@ use native.Mathlib.Omega.{arith}
 use lib.Dec.{ltb}
 use lib.ListN.{length, replicate}
 use borrow.Author.Tests.{lt-ltb, le-ltb, ltb-false}
-use Rattle.lists.specs.Lists.{decide-le}
-use Rattle.reading.specs.Limits.{optionLimit, openLimit, tableLimit, wordLimit}
+use Rattle.theory_lists.specs.Lists.{decide-le}
+use Rattle.theory_reading.specs.Limits.{optionLimit, openLimit, tableLimit, wordLimit}
 use Rattle.scanner.specs.declared.Cause.{Cause}
 use Rattle.scanner.specs.declared.Cause.the-variants.{WrongByte}
 use Rattle.reader.specs.declared.Cursor.{Cursor}
 use Rattle.scanner.specs.declared.Open.{Open}
 use Rattle.scanner.specs.declared.Opens.{Opens}
 use Rattle.reader.specs.declared.Run.{Run}
-use Rattle.reader.specs.declared.Turn.{Turn}
-use Rattle.reader.specs.Advance.{lowOf, nodesTo, opensTo, TurnMade}
-use Rattle.reader.specs.Turning.{Turned, turnIn, turn-in, turn-made, turn-ahead}
-use Rattle.reader.specs.Lent.{ReadReached, ReadCursor, cursorIn}
-use Rattle.reader.specs.Loop.{firstRun, firstOpens, Stands, stands-first, ReachedBy, Running, goes-here, halts-here, ahead-here, turn-length, loop-past}
+use Rattle.reader.specs.declared.Iteration.{Iteration}
+use Rattle.reader.specs.Advance.{lowOf, nodesTo, opensTo, Iterates}
+use Rattle.reader.specs.Iterating.{Iterated, iterationIn, iteration-in, iteration-made, iteration-ahead}
+use Rattle.reader.specs.OpenCells.{ReadReached, ReadCursor, cursorIn}
+use Rattle.reader.specs.Loop.{firstRun, firstOpens, Stands, stands-first, ReachedBy, Running, goes-here, halts-here, ahead-here}
+use Rattle.reader.specs.Loop.{iteration-length, loop-past}
 
 -- ---- The loop --------------------------------------------------------------------------------
 
@@ -38,17 +39,18 @@ haltedAt r o from deep f c b = record { run = r; opens = o; from = from; deep = 
 abbrev pub passedAt : Run → Opens → ℕ → ℕ → ReadReached
 passedAt r o from deep = record { run = r; opens = o; from = from; deep = deep; halted = false; faulty = false; cause = WrongByte; byte = 0 }
 
--- "Reads on while no more than `stop` words are covered", at most so many turns
+-- "Reads on while no more than `stop` words are covered", at most so many iterations
 unfoldable pub readOn : ℕ → ℕ → List ℕ → ℕ → Run → Opens → ℕ → ℕ → List (List ℕ) → ReadTo
-unfolding turnIn
+unfolding iterationIn
 readOn zero n bytes stop r o from deep t = record { reached = haltedAt r o from deep false WrongByte 0; table = t }
 readOn (suc f) n bytes stop r o from deep t =
-    let x = turnIn n bytes r (o .depth) (lowOf o) t in
+    let x = iterationIn n bytes r (o .depth) (lowOf o) t in
     cond (ltb stop (r .covered)) (record { reached = passedAt r o from deep; table = t })
-    (cond (x .turn .went) (readOn f n bytes stop (x .turn .run) (opensTo o (x .turn .depth) (x .turn .low)) (r .covered) (o .depth) (x .table))
-    (record { reached = haltedAt r o from deep (x .turn .faulty) (x .turn .cause) (x .turn .byte); table = x .table }))
+    (cond (x .iteration .went) (readOn f n bytes stop (x .iteration .run) (opensTo o (x .iteration .depth) (x .iteration .low)) (r .covered)
+    (o .depth) (x .table))
+    (record { reached = haltedAt r o from deep (x .iteration .faulty) (x .iteration .cause) (x .iteration .byte); table = x .table }))
 
--- every turn that goes on takes a byte, so there are no more turns than bytes, but for the last
+-- every turn that goes on takes a byte, so there are no more iterations than bytes, but for the last
 abbrev pub readAll : ℕ → List ℕ → ℕ → Run → Opens → List (List ℕ) → ReadTo
 readAll n bytes stop r o t = readOn (suc (length bytes)) n bytes stop r o 0 0 t
 
@@ -58,51 +60,60 @@ module _ (f n : ℕ) (bytes : List ℕ) (stop : ℕ) (r : Run) (o : Opens) (from
   unfolding readOn
   read-past h = rw (lt-ltb stop (r .covered) h) refl
 
-  -- a turn more, of the result y and the table u
-  abbrev turned : Turned → ReadTo
-  turned x =
-      cond (x .turn .went) (readOn f n bytes stop (x .turn .run) (opensTo o (x .turn .depth) (x .turn .low)) (r .covered) (o .depth) (x .table))
-      (record { reached = haltedAt r o from deep (x .turn .faulty) (x .turn .cause) (x .turn .byte); table = x .table })
+  -- an iteration more, of the result y and the table u
+  abbrev iterated : Iterated → ReadTo
+  iterated x =
+      cond (x .iteration .went) (readOn f n bytes stop (x .iteration .run) (opensTo o (x .iteration .depth) (x .iteration .low)) (r .covered)
+      (o .depth) (x .table))
+      (record { reached = haltedAt r o from deep (x .iteration .faulty) (x .iteration .cause) (x .iteration .byte); table = x .table })
 
-  read-turn : r .covered ≤ stop → readOn (suc f) n bytes stop r o from deep t ≡ turned (turnIn n bytes r (o .depth) (lowOf o) t)
+  read-iteration : r .covered ≤ stop → readOn (suc f) n bytes stop r o from deep t ≡ iterated (iterationIn n bytes r (o .depth) (lowOf o) t)
   unfolding readOn
-  read-turn h = ap (λ (b : Bool). cond b (record { reached = passedAt r o from deep; table = t }) (turned (turnIn n bytes r (o .depth) (lowOf o) t))) (le-ltb stop (r .covered) h)
+  read-iteration h = ap (λ (b : Bool). cond b (record { reached = passedAt r o from deep; table = t })
+      (iterated (iterationIn n bytes r (o .depth) (lowOf o) t))) (le-ltb stop (r .covered) h)
 
-  module _ (y : Turn) (u : List (List ℕ)) (made : TurnMade n bytes r (o .depth) (lowOf o) t y u) (l : r .covered ≤ stop) where
-    read-made : readOn (suc f) n bytes stop r o from deep t ≡ turned (record { turn = y; table = u })
-    read-made = read-turn l ∙ ap turned (sym (turn-in n bytes r (o .depth) (lowOf o) t y u made))
+  module _ (y : Iteration) (u : List (List ℕ)) (made : Iterates n bytes r (o .depth) (lowOf o) t y u) (l : r .covered ≤ stop) where
+    read-correct : readOn (suc f) n bytes stop r o from deep t ≡ iterated (record { iteration = y; table = u })
+    read-correct = read-iteration l ∙ ap iterated (sym (iteration-in n bytes r (o .depth) (lowOf o) t y u made))
 
-    -- a turn that goes on
-    read-goes : y .went ≡ true → readOn (suc f) n bytes stop r o from deep t ≡ readOn f n bytes stop (y .run) (opensTo o (y .depth) (y .low)) (r .covered) (o .depth) u
+    -- an iteration that goes on
+    read-goes : y .went ≡ true → readOn (suc f) n bytes stop r o from deep t
+        ≡ readOn f n bytes stop (y .run) (opensTo o (y .depth) (y .low)) (r .covered) (o .depth) u
     read-goes e =
-        read-made
-        ∙ ap (λ (b : Bool). cond b (readOn f n bytes stop (y .run) (opensTo o (y .depth) (y .low)) (r .covered) (o .depth) u) (record { reached = haltedAt r o from deep (y .faulty) (y .cause) (y .byte); table = u })) e
+        read-correct
+        ∙ ap (λ (b : Bool). cond b (readOn f n bytes stop (y .run) (opensTo o (y .depth) (y .low)) (r .covered) (o .depth) u)
+        (record { reached = haltedAt r o from deep (y .faulty) (y .cause) (y .byte); table = u })) e
 
     -- another halts
-    read-halts : y .went ≡ false → readOn (suc f) n bytes stop r o from deep t ≡ record { reached = haltedAt r o from deep (y .faulty) (y .cause) (y .byte); table = u }
+    read-halts : y .went ≡ false → readOn (suc f) n bytes stop r o from deep t
+        ≡ record { reached = haltedAt r o from deep (y .faulty) (y .cause) (y .byte); table = u }
     read-halts e =
-        read-made
-        ∙ ap (λ (b : Bool). cond b (readOn f n bytes stop (y .run) (opensTo o (y .depth) (y .low)) (r .covered) (o .depth) u) (record { reached = haltedAt r o from deep (y .faulty) (y .cause) (y .byte); table = u })) e
+        read-correct
+        ∙ ap (λ (b : Bool). cond b (readOn f n bytes stop (y .run) (opensTo o (y .depth) (y .low)) (r .covered) (o .depth) u)
+        (record { reached = haltedAt r o from deep (y .faulty) (y .cause) (y .byte); table = u })) e
 
 -- The lent table stays as long.
-pub read-length : (f n : ℕ) (bytes : List ℕ) (stop : ℕ) (r : Run) (o : Opens) (from deep : ℕ) (t : List (List ℕ)) → length (readOn f n bytes stop r o from deep t .table) ≡ length t
+pub read-length : (f n : ℕ) (bytes : List ℕ) (stop : ℕ) (r : Run) (o : Opens) (from deep : ℕ) (t : List (List ℕ))
+    → length (readOn f n bytes stop r o from deep t .table) ≡ length t
 unfolding readOn
 read-length zero n bytes stop r o from deep t = refl
-read-length (suc f) n bytes stop r o from deep t = ⊎-elim (λ k. on (λ a b c d e. read-length f n bytes stop a b c d e) k (x .turn .went) refl) over (decide-le (r .covered) stop)
+read-length (suc f) n bytes stop r o from deep t = ⊎-elim (λ k. on (λ a b c d e. read-length f n bytes stop a b c d e) k (x .iteration .went) refl)
+    over (decide-le (r .covered) stop)
   where
-    x : Turned
-    x = turnIn n bytes r (o .depth) (lowOf o) t
+    x : Iterated
+    x = iterationIn n bytes r (o .depth) (lowOf o) t
 
-    made : TurnMade n bytes r (o .depth) (lowOf o) t (x .turn) (x .table)
-    made = turn-made n bytes r (o .depth) (lowOf o) t
+    made : Iterates n bytes r (o .depth) (lowOf o) t (x .iteration) (x .table)
+    made = iteration-made n bytes r (o .depth) (lowOf o) t
 
     long : length (x .table) ≡ length t
-    long = turn-length n bytes r (o .depth) (lowOf o) t (x .turn) (x .table) made
+    long = iteration-length n bytes r (o .depth) (lowOf o) t (x .iteration) (x .table) made
 
     on : ((r : Run) (o : Opens) (from deep : ℕ) (t : List (List ℕ)) → length (readOn f n bytes stop r o from deep t .table) ≡ length t)
-        → r .covered ≤ stop → (b : Bool) → x .turn .went ≡ b → length (readOn (suc f) n bytes stop r o from deep t .table) ≡ length t
-    on again k true e = ap (λ (z : ReadTo). length (z .table)) (read-goes f n bytes stop r o from deep t (x .turn) (x .table) made k e) ∙ again _ _ _ _ _ ∙ long
-    on again k false e = ap (λ (z : ReadTo). length (z .table)) (read-halts f n bytes stop r o from deep t (x .turn) (x .table) made k e) ∙ long
+        → r .covered ≤ stop → (b : Bool) → x .iteration .went ≡ b → length (readOn (suc f) n bytes stop r o from deep t .table) ≡ length t
+    on again k true e = ap (λ (z : ReadTo). length (z .table)) (read-goes f n bytes stop r o from deep t (x .iteration) (x .table) made k e)
+        ∙ again _ _ _ _ _ ∙ long
+    on again k false e = ap (λ (z : ReadTo). length (z .table)) (read-halts f n bytes stop r o from deep t (x .iteration) (x .table) made k e) ∙ long
 
     over : stop < r .covered → length (readOn (suc f) n bytes stop r o from deep t .table) ≡ length t
     over k = ap (λ (z : ReadTo). length (z .table)) (read-past f n bytes stop r o from deep t k)
@@ -113,22 +124,25 @@ abbrev Reaches : ℕ → List ℕ → ℕ → ReadTo → Type 0
 Reaches n bytes stop z = ReachedBy n bytes stop (z .reached) (z .table)
 
 -- with fuel for every byte that is left
-read-running : (f n : ℕ) (bytes : List ℕ) → n ≤ optionLimit → (stop : ℕ) (r : Run) (o : Opens) (from deep : ℕ) (t : List (List ℕ)) → Running n bytes stop r o from deep t → length bytes - r .at < f
+read-running : (f n : ℕ) (bytes : List ℕ) → n ≤ optionLimit → (stop : ℕ) (r : Run) (o : Opens) (from deep : ℕ) (t : List (List ℕ))
+    → Running n bytes stop r o from deep t → length bytes - r .at < f
     → Reaches n bytes stop (readOn f n bytes stop r o from deep t)
 read-running zero n bytes few stop r o from deep t h l = absurd (omega (arith, l))
-read-running (suc f) n bytes few stop r o from deep t h l = ⊎-elim (on (λ a b c d e. read-running f n bytes few stop a b c d e)) over (decide-le (r .covered) stop)
+read-running (suc f) n bytes few stop r o from deep t h l = ⊎-elim (on (λ a b c d e. read-running f n bytes few stop a b c d e)) over
+    (decide-le (r .covered) stop)
   where
     Again : Type 0
-    Again = (r : Run) (o : Opens) (from deep : ℕ) (t : List (List ℕ)) → Running n bytes stop r o from deep t → length bytes - r .at < f → Reaches n bytes stop (readOn f n bytes stop r o from deep t)
+    Again = (r : Run) (o : Opens) (from deep : ℕ) (t : List (List ℕ)) → Running n bytes stop r o from deep t → length bytes - r .at < f
+        → Reaches n bytes stop (readOn f n bytes stop r o from deep t)
 
-    y : Turn
-    y = turnIn n bytes r (o .depth) (lowOf o) t .turn
+    y : Iteration
+    y = iterationIn n bytes r (o .depth) (lowOf o) t .iteration
 
     u : List (List ℕ)
-    u = turnIn n bytes r (o .depth) (lowOf o) t .table
+    u = iterationIn n bytes r (o .depth) (lowOf o) t .table
 
-    made : TurnMade n bytes r (o .depth) (lowOf o) t y u
-    made = turn-made n bytes r (o .depth) (lowOf o) t
+    made : Iterates n bytes r (o .depth) (lowOf o) t y u
+    made = iteration-made n bytes r (o .depth) (lowOf o) t
 
     go : Again → r .covered ≤ stop → (b : Bool) → y .went ≡ b → Reaches n bytes stop (readOn (suc f) n bytes stop r o from deep t)
     go again k true e =
@@ -138,7 +152,8 @@ read-running (suc f) n bytes few stop r o from deep t h l = ⊎-elim (on (λ a b
     go again k false e =
         let i = halts-here n bytes few r o t (h .stands) y u made e in
         subst (Reaches n bytes stop) (sym (read-halts f n bytes stop r o from deep t y u made k e))
-        (subst (ReachedBy n bytes stop (haltedAt r o from deep (y .faulty) (y .cause) (y .byte))) (sym (i .0)) (record { stands = h .stands; ends = (k, i .1) }))
+        (subst (ReachedBy n bytes stop (haltedAt r o from deep (y .faulty) (y .cause) (y .byte))) (sym (i .0))
+        (record { stands = h .stands; ends = (k, i .1) }))
 
     on : Again → r .covered ≤ stop → Reaches n bytes stop (readOn (suc f) n bytes stop r o from deep t)
     on again k = go again k (y .went) refl
@@ -147,9 +162,11 @@ read-running (suc f) n bytes few stop r o from deep t h l = ⊎-elim (on (λ a b
     over k = subst (Reaches n bytes stop) (sym (read-past f n bytes stop r o from deep t k)) (loop-past n bytes stop r o from deep t h k)
 
 -- WHERE CODE STANDS as reading does, what the function comes to is what the loop reaches.
-pub read-reaches : (n : ℕ) (bytes : List ℕ) → n ≤ optionLimit → (stop : ℕ) (r : Run) (o : Opens) (t : List (List ℕ)) → Stands n bytes r o t → r .covered ≤ stop
+pub read-reaches : (n : ℕ) (bytes : List ℕ) → n ≤ optionLimit → (stop : ℕ) (r : Run) (o : Opens) (t : List (List ℕ)) → Stands n bytes r o t
+    → r .covered ≤ stop
     → let z = readAll n bytes stop r o t in ReachedBy n bytes stop (z .reached) (z .table)
-read-reaches n bytes few stop r o t h l = read-running (suc (length bytes)) n bytes few stop r o 0 0 t (record { stands = h; past = inl l }) (omega arith)
+read-reaches n bytes few stop r o t h l = read-running (suc (length bytes)) n bytes few stop r o 0 0 t (record { stands = h; past = inl l })
+    (omega arith)
 
 -- ---- The code's loop -------------------------------------------------------------------------
 
@@ -161,37 +178,48 @@ pub record Leads (z : ReadTo) (n : ℕ) (bytes : List ℕ) (stop : ℕ) (r : Run
   pub shallow : o .depth ≤ openLimit
 
 -- So at the start.
-pub leads-first : (n : ℕ) (bytes : List ℕ) (stop : ℕ) (r : Run) (o : Opens) (t : List (List ℕ)) → o .depth ≤ openLimit → Leads (readAll n bytes stop r o t) n bytes stop r o 0 0 t
+pub leads-first : (n : ℕ) (bytes : List ℕ) (stop : ℕ) (r : Run) (o : Opens) (t : List (List ℕ)) → o .depth ≤ openLimit
+    → Leads (readAll n bytes stop r o t) n bytes stop r o 0 0 t
 leads-first n bytes stop r o t h = record { fuel = length bytes; enough = omega arith; same = refl; shallow = h }
 
-module _ (z : ReadTo) (n : ℕ) (bytes : List ℕ) (stop : ℕ) (r : Run) (o : Opens) (from deep : ℕ) (t : List (List ℕ)) (h : Leads z n bytes stop r o from deep t) where
+module _ (z : ReadTo) (n : ℕ) (bytes : List ℕ) (stop : ℕ) (r : Run) (o : Opens) (from deep : ℕ) (t : List (List ℕ))
+    (h : Leads z n bytes stop r o from deep t) where
   -- Past its stop the loop is done.
   pub leads-past : stop < r .covered → record { reached = passedAt r o from deep; table = t } ≡ z
   leads-past l = sym (read-past (h .fuel) n bytes stop r o from deep t l) ∙ h .same
 
   -- low: the innermost entry, as code reads it
-  module _ (l : r .covered ≤ stop) (low : Open) (lowest : low ≡ lowOf o) (y : Turn) (u : List (List ℕ)) (made : TurnMade n bytes r (o .depth) low t y u) where
-    made-low : TurnMade n bytes r (o .depth) (lowOf o) t y u
-    made-low = subst (λ (x : Open). TurnMade n bytes r (o .depth) x t y u) lowest made
+  module _ (l : r .covered ≤ stop) (low : Open) (lowest : low ≡ lowOf o) (y : Iteration) (u : List (List ℕ))
+      (made : Iterates n bytes r (o .depth) low t y u) where
+    iterates-low : Iterates n bytes r (o .depth) (lowOf o) t y u
+    iterates-low = subst (λ (x : Open). Iterates n bytes r (o .depth) x t y u) lowest made
 
-    -- It halts at a turn that does not go on.
+    -- It halts at an iteration that does not go on.
     pub leads-halts : y .went ≡ false → record { reached = haltedAt r o from deep (y .faulty) (y .cause) (y .byte); table = u } ≡ z
-    leads-halts e = sym (read-halts (h .fuel) n bytes stop r o from deep t y u made-low l e) ∙ h .same
+    leads-halts e = sym (read-halts (h .fuel) n bytes stop r o from deep t y u iterates-low l e) ∙ h .same
 
     module _ (e : y .went ≡ true) where
       ahead : (r .at < length bytes) × ((r .at < y .run .at) × (y .depth ≤ openLimit))
-      ahead = turn-ahead n bytes r (o .depth) (lowOf o) t y u made-low e
+      ahead = iteration-ahead n bytes r (o .depth) (lowOf o) t y u iterates-low e
 
       -- Another moves on in the bytes,
       pub leads-moves : length bytes - y .run .at < length bytes - r .at
       leads-moves = omega (arith, ahead .0, ahead .1 .0)
 
-      leads-on : (f : ℕ) → length bytes - r .at < suc f → readOn (suc f) n bytes stop r o from deep t ≡ z → Leads z n bytes stop (y .run) (opensTo o (y .depth) (y .low)) (r .covered) (o .depth) u
+      leads-on : (f : ℕ) → length bytes - r .at < suc f → readOn (suc f) n bytes stop r o from deep t ≡ z
+          → Leads z n bytes stop (y .run) (opensTo o (y .depth) (y .low)) (r .covered) (o .depth) u
       leads-on zero m k = absurd (omega (arith, m, ahead .0))
-      leads-on (suc f) m k = record { fuel = f; enough = omega (arith, m, leads-moves); same = sym (read-goes (suc f) n bytes stop r o from deep t y u made-low l e) ∙ k; shallow = ahead .1 .1 }
+      leads-on (suc f) m k = record {
+        fuel = f;
+        enough = omega (arith, m, leads-moves);
+        same = sym
+            (read-goes (suc f) n bytes stop r o from deep t y u iterates-low l e) ∙ k;
+        shallow = ahead .1 .1;
+      }
 
       -- and leads on; ns: the entries, as code stores them.
-      pub leads-goes : (ns : List Open) → ns ≡ nodesTo (o .nodes) (o .depth) (y .low) → Leads z n bytes stop (y .run) (record { nodes = ns; depth = y .depth }) (r .covered) (o .depth) u
+      pub leads-goes : (ns : List Open) → ns ≡ nodesTo (o .nodes) (o .depth) (y .low)
+          → Leads z n bytes stop (y .run) (record { nodes = ns; depth = y .depth }) (r .covered) (o .depth) u
       leads-goes ns k =
           subst (λ (ns : List Open). Leads z n bytes stop (y .run) (record { nodes = ns; depth = y .depth }) (r .covered) (o .depth) u) (sym k)
           (leads-on (h .fuel) (h .enough) (h .same))
@@ -221,7 +249,8 @@ restingAt c = haltedAt (c .run) (c .opens) 0 0 false WrongByte 0
 -- READING ON while no more than `stop` words are covered; past the limits nothing is read
 unfoldable pub readFrom : ℕ → List ℕ → ℕ → ReadCursor → List (List ℕ) → ReadTo
 unfolding readOn
-readFrom n bytes stop c t = cond (offBy n (c .opens .depth) stop) (record { reached = restingAt c; table = t }) (readAll n bytes stop (c .run) (c .opens) t)
+readFrom n bytes stop c t = cond (offBy n (c .opens .depth) stop) (record { reached = restingAt c; table = t })
+    (readAll n bytes stop (c .run) (c .opens) t)
 
 module _ (n : ℕ) (bytes : List ℕ) (stop : ℕ) (c : ReadCursor) (t : List (List ℕ)) where
   abbrev by : Bool → ReadTo
@@ -241,7 +270,8 @@ module _ (n : ℕ) (bytes : List ℕ) (stop : ℕ) (c : ReadCursor) (t : List (L
 pub within : (n d stop : ℕ) → offBy n d stop ≡ false → (n ≤ optionLimit) × ((d ≤ openLimit) × (stop ≤ wordLimit))
 within n d stop = go (ltb optionLimit n) refl (ltb openLimit d) refl (ltb wordLimit stop) refl
   where
-    go : (p : Bool) → ltb optionLimit n ≡ p → (q : Bool) → ltb openLimit d ≡ q → (r : Bool) → ltb wordLimit stop ≡ r → (p || (q || r)) ≡ false → (n ≤ optionLimit) × ((d ≤ openLimit) × (stop ≤ wordLimit))
+    go : (p : Bool) → ltb optionLimit n ≡ p → (q : Bool) → ltb openLimit d ≡ q → (r : Bool) → ltb wordLimit stop ≡ r → (p || (q || r)) ≡ false
+        → (n ≤ optionLimit) × ((d ≤ openLimit) × (stop ≤ wordLimit))
     go true e q f r g h = absurd (false≢true (sym h))
     go false e true f r g h = absurd (false≢true (sym h))
     go false e false f true g h = absurd (false≢true (sym h))
@@ -252,19 +282,23 @@ not-off : (n d stop : ℕ) → n ≤ optionLimit → d ≤ openLimit → stop �
 not-off n d stop h k l = rw (le-ltb optionLimit n h, le-ltb openLimit d k, le-ltb wordLimit stop l) refl
 
 -- The loop reads on from a cursor that stands where reading does.
-pub read-within : (n : ℕ) (bytes : List ℕ) → n ≤ optionLimit → (stop : ℕ) → stop ≤ wordLimit → (c : ReadCursor) (t : List (List ℕ)) → Stands n bytes (c .run) (c .opens) t
+pub read-within : (n : ℕ) (bytes : List ℕ) → n ≤ optionLimit → (stop : ℕ) → stop ≤ wordLimit → (c : ReadCursor) (t : List (List ℕ))
+    → Stands n bytes (c .run) (c .opens) t
     → readFrom n bytes stop c t ≡ readAll n bytes stop (c .run) (c .opens) t
 read-within n bytes few stop most c t h = read-on n bytes stop c t (not-off n (c .opens .depth) stop few (h .kept .deep) most)
 
 -- So for a call: y is what it reaches, u the table after it.
-pub read-called : (n : ℕ) (bytes : List ℕ) → n ≤ optionLimit → (stop : ℕ) → stop ≤ wordLimit → (c : ReadCursor) (t : List (List ℕ)) → Stands n bytes (c .run) (c .opens) t → c .run .covered ≤ stop
+pub read-called : (n : ℕ) (bytes : List ℕ) → n ≤ optionLimit → (stop : ℕ) → stop ≤ wordLimit → (c : ReadCursor) (t : List (List ℕ))
+    → Stands n bytes (c .run) (c .opens) t → c .run .covered ≤ stop
     → (y : ReadReached) (u : List (List ℕ)) → record { reached = y; table = u } ≡ readFrom n bytes stop c t → ReachedBy n bytes stop y u
 read-called n bytes few stop most c t h l y u e =
     subst (Reaches n bytes stop) (sym (e ∙ read-within n bytes few stop most c t h)) (read-reaches n bytes few stop (c .run) (c .opens) t h l)
 
 -- So for a call from the start.
-pub read-begun : (n : ℕ) (bytes : List ℕ) → n ≤ optionLimit → (stop : ℕ) → stop ≤ wordLimit → (c : Cursor) (t : List (List ℕ)) → tableLimit ≤ length t → c ≡ startCursor
-    → (y : ReadReached) (u : List (List ℕ)) → record { reached = y; table = u } ≡ readFrom n bytes stop (cursorIn c (replicate openLimit (replicate 4 0))) t → ReachedBy n bytes stop y u
+pub read-begun : (n : ℕ) (bytes : List ℕ) → n ≤ optionLimit → (stop : ℕ) → stop ≤ wordLimit → (c : Cursor) (t : List (List ℕ)) → tableLimit ≤ length t
+    → c ≡ startCursor
+    → (y : ReadReached) (u : List (List ℕ)) → record { reached = y; table = u }
+    ≡ readFrom n bytes stop (cursorIn c (replicate openLimit (replicate 4 0))) t → ReachedBy n bytes stop y u
 read-begun n bytes few stop most c t room ce y u e =
     read-called n bytes few stop most firstCursor t (stands-first n bytes t room) (omega arith) y u
     (e ∙ ap (λ (c : Cursor). readFrom n bytes stop (cursorIn c (replicate openLimit (replicate 4 0))) t) ce)

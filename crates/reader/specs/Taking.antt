@@ -2,18 +2,18 @@
 use mathlib.Core.Bool.{Bool, true, false, cond, _||_, not}
 use Prim.Native.Nat.{ℕ, _+_, _-_, _^_}
 use lib.Dec.{ltb, eqb}
-use Rattle.reading.specs.Limits.{tableLimit}
-use Rattle.reading.specs.Reading.{isStart, isLead}
-use Rattle.scanner.specs.Cite.{markOf, terminalRef, temporaryRef, entryRef}
+use Rattle.theory_reading.specs.Limits.{tableLimit}
+use Rattle.theory_reading.specs.Reading.{isStart, isLead}
+use Rattle.scanner.specs.Abstraction.{contextOf, terminalRef, temporaryRef, entryRef}
 use Rattle.scanner.specs.declared.Cause.{Cause}
 use Rattle.scanner.specs.declared.Cause.the-variants.{WrongByte, DeclaredSize, TooDeep, NotInTable, OtherLevel, NotStorable, BadNumber}
 use Rattle.scanner.specs.declared.Element.{Element}
 use Rattle.scanner.specs.declared.Element.the-variants.{Opening, Number, Constant, Turn, Closing, Storing, End}
-use Rattle.scanner.specs.declared.Mark.{Mark}
+use Rattle.scanner.specs.declared.Context.{Context}
 use Rattle.scanner.specs.declared.Open.{Open}
 use Rattle.scanner.specs.declared.Ref.{Ref}
 use Rattle.reader.specs.declared.Run.{Run}
-use Rattle.work_table.specs.declared.Row.{Row}
+use Rattle.work_table.specs.declared.NodeRecord.{NodeRecord}
 use Rattle.reader.specs.declared.Taken.{Taken}
 
 abbrev pub goesOf : Run → Taken
@@ -22,21 +22,46 @@ goesOf r = record { run = r; faulty = false; cause = WrongByte; byte = 0; sizes 
 abbrev pub failsOf : Run → Cause → ℕ → Taken
 failsOf r c b = record { run = r; faulty = true; cause = c; byte = b; sizes = false; stores = false }
 
-abbrev pub movedTo : Run → ℕ → Mark → Run
-movedTo r at m = record { at = at; mark = m; last = r .last; size = r .size; covered = r .covered; complement = r .complement; pair = r .pair }
+abbrev pub movedTo : Run → ℕ → Context → Run
+movedTo r at m = record { at = at; context = m; last = r .last; size = r .size; covered = r .covered; complement = r .complement; pair = r .pair }
 
-abbrev pub passedTo : ℕ → Run → ℕ → Ref → ℕ → Mark → Run
-passedTo n r d x at m = record { at = at; mark = m; last = x; size = r .size; covered = r .covered + 2 ^ (n - d); complement = r .complement; pair = r .pair }
+abbrev pub passedTo : ℕ → Run → ℕ → Ref → ℕ → Context → Run
+passedTo n r d x at m = record {
+  at = at;
+  context = m;
+  last = x;
+  size = r .size;
+  covered = r .covered + 2 ^ (n - d);
+  complement = r .complement;
+  pair
+      = r .pair;
+}
 
-abbrev pub turnedTo : Run → ℕ → Mark → Run
-turnedTo r at m = record { at = at; mark = m; last = r .last; size = r .size; covered = r .covered; complement = isLead (markOf (r .mark)) || r .complement; pair = r .pair }
+abbrev pub turnedTo : Run → ℕ → Context → Run
+turnedTo r at m = record {
+  at = at;
+  context = m;
+  last = r .last;
+  size = r .size;
+  covered = r .covered;
+  complement = isLead (contextOf (r .context)) ||
+      r .complement;
+  pair = r .pair;
+}
 
-abbrev pub sizedTo : Run → ℕ → ℕ → ℕ → Mark → Taken
+abbrev pub sizedTo : Run → ℕ → ℕ → ℕ → Context → Taken
 sizedTo r g v at m =
     cond (ltb tableLimit v) (failsOf r DeclaredSize g)
-    (record { run = record { at = at; mark = m; last = r .last; size = v; covered = r .covered; complement = r .complement; pair = r .pair }; faulty = false; cause = WrongByte; byte = 0; sizes = true; stores = false })
+    (record {
+      run = record { at = at; context = m; last = r .last; size = v; covered = r .covered; complement = r .complement; pair = r .pair };
+      faulty = false;
+      cause = WrongByte;
+      byte = 0;
+      sizes = true;
+      stores = false;
+    })
 
-abbrev pub foundTo : ℕ → Run → ℕ → ℕ → ℕ → Row → ℕ → Mark → Taken
+abbrev pub foundTo : ℕ → Run → ℕ → ℕ → ℕ → NodeRecord → ℕ → Context → Taken
 foundTo n r d g v x at m =
     cond (eqb (x .level) 0) (failsOf r NotInTable g)
     (cond (eqb (x .level) (d + 1)) (goesOf (passedTo n r d (entryRef v (x .stamp)) at m)) (failsOf r OtherLevel g))
@@ -46,28 +71,48 @@ abbrev pub isKeptOf : Ref → Bool
 isKeptOf a = cond (eqb (a .number) 0) (eqb (a .stamp) 0) true
 
 -- `)` of two children
-abbrev pub closedTwo : Run → Open → ℕ → Mark → Run
-closedTwo r o at m = record { at = at; mark = m; last = temporaryRef; size = r .size; covered = r .covered; complement = r .complement; pair = record { first = o .first; turned = o .turned; second = r .last } }
+abbrev pub closedTwo : Run → Open → ℕ → Context → Run
+closedTwo r o at m = record {
+  at = at;
+  context = m;
+  last = temporaryRef;
+  size = r .size;
+  covered = r .covered;
+  complement = r .complement;
+  pair =
+      record { first = o .first; complement = o .complement; second = r .last };
+}
 
-abbrev pub closedTo : ℕ → Run → ℕ → Open → ℕ → Mark → Taken
-closedTo n r d o at m = cond (eqb d 0) (goesOf (movedTo r at m)) (cond (o .second) (goesOf (closedTwo r o at m)) (cond (isKeptOf (r .last)) (goesOf (passedTo n r d (r .last) at m)) (failsOf r NotStorable (r .at))))
+abbrev pub closedTo : ℕ → Run → ℕ → Open → ℕ → Context → Taken
+closedTo n r d o at m = cond (eqb d 0) (goesOf (movedTo r at m)) (cond (o .second) (goesOf (closedTwo r o at m))
+    (cond (isKeptOf (r .last)) (goesOf (passedTo n r d (r .last) at m)) (failsOf r NotStorable (r .at))))
 
-abbrev pub isBadOf : Run → ℕ → Row → Bool
+abbrev pub isBadOf : Run → ℕ → NodeRecord → Bool
 isBadOf r k x = (eqb k 0 || ltb (r .size) k) || (not (eqb (x .parents) 0) || (eqb (r .pair .first .number) k || eqb (r .pair .second .number) k))
 
 -- a stamp that does not fit stays at the largest (none comes so far: `at-stamp`)
 abbrev pub nextStamp : ℕ → ℕ
 nextStamp g = cond (ltb g 4294967295) (g + 1) g
 
-abbrev pub storedRun : Run → ℕ → Row → ℕ → Mark → Run
-storedRun r k x at m = record { at = at; mark = m; last = entryRef k (nextStamp (x .stamp)); size = r .size; covered = r .covered; complement = r .complement; pair = r .pair }
+abbrev pub storedRun : Run → ℕ → NodeRecord → ℕ → Context → Run
+storedRun r k x at m = record {
+  at = at;
+  context = m;
+  last = entryRef k (nextStamp (x .stamp));
+  size = r .size;
+  covered = r .covered;
+  complement = r
+      .complement;
+  pair = r .pair;
+}
 
-abbrev pub storedTo : Run → ℕ → Row → ℕ → Mark → Taken
-storedTo r k x at m = cond (isBadOf r k x) (failsOf r BadNumber (r .at + 1)) (record { run = storedRun r k x at m; faulty = false; cause = WrongByte; byte = 0; sizes = false; stores = true })
+abbrev pub storedTo : Run → ℕ → NodeRecord → ℕ → Context → Taken
+storedTo r k x at m = cond (isBadOf r k x) (failsOf r BadNumber (r .at + 1))
+    (record { run = storedRun r k x at m; faulty = false; cause = WrongByte; byte = 0; sizes = false; stores = true })
 
-abbrev pub takenOf : ℕ → Run → ℕ → Open → ℕ → Element → Row → ℕ → Mark → Taken
+abbrev pub takenOf : ℕ → Run → ℕ → Open → ℕ → Element → NodeRecord → ℕ → Context → Taken
 takenOf n r d o g Opening x at m = cond (ltb n (d + 1)) (failsOf r TooDeep (r .at)) (goesOf (movedTo r at m))
-takenOf n r d o g (Number v) x at m = cond (isStart (markOf (r .mark))) (sizedTo r g v at m) (foundTo n r d g v x at m)
+takenOf n r d o g (Number v) x at m = cond (isStart (contextOf (r .context))) (sizedTo r g v at m) (foundTo n r d g v x at m)
 takenOf n r d o g Constant x at m = goesOf (passedTo n r d terminalRef at m)
 takenOf n r d o g Turn x at m = goesOf (turnedTo r at m)
 takenOf n r d o g Closing x at m = closedTo n r d o at m

@@ -1,30 +1,31 @@
 ghost use mathlib.Core.Path.{_≡_};
 ghost use Prim.Native.Nat.{_+_, _-_, _<_, _≤_, _^_};
-ghost use Rattle.reading.specs.Limits.{optionLimit, openLimit, wordLimit};
-ghost use Rattle.reading.specs.StepLaws.{digitPlace};
+ghost use Rattle.theory_reading.specs.Limits.{optionLimit, openLimit, wordLimit};
+ghost use Rattle.theory_reading.specs.StepLaws.{digitPlace};
 ghost use Rattle.scanner.specs.Kinds.{kindTable};
-ghost use Rattle.reader.specs.Taking.{goesOf, failsOf, movedTo, passedTo, turnedTo, sizedTo, foundTo, closedTwo, closedTo, isKeptOf, isBadOf, nextStamp, storedTo, takenOf};
-ghost use Rattle.reader.specs.Advance.{barredBy, rowTo, lentTo, lowOf, nodesTo, stayed, wentBy, TurnMade};
-ghost use Rattle.reader.specs.Lent.{nodesIn, opensIn, reachedIn, cursorIn};
+ghost use Rattle.reader.specs.Taking.{goesOf, failsOf, movedTo, passedTo, turnedTo, sizedTo, foundTo, closedTwo, closedTo, isKeptOf, isBadOf};
+ghost use Rattle.reader.specs.Taking.{nextStamp, storedTo, takenOf};
+ghost use Rattle.reader.specs.Advance.{barredBy, recordTo, updatedTo, lowOf, nodesTo, stayed, wentBy, Iterates};
+ghost use Rattle.reader.specs.OpenCells.{nodesIn, opensIn, reachedIn, cursorIn};
 ghost use Rattle.reader.specs.Loop.{firstRun};
 ghost use Rattle.reader.specs.ReadOn.{readAll, startCursor, offBy, readFrom};
-ghost use Rattle.reader.specs.Sights.{elementIn, isFault, isOut};
+ghost use Rattle.reader.specs.Tokens.{elementIn, isFault, isOut};
 use scanner::BLANK;
 use scanner::COLON;
 use scanner::Cause;
+use scanner::Context;
 use scanner::Element;
-use scanner::Look;
-use scanner::Mark;
+use scanner::NextToken;
 use scanner::OPEN_LIMIT;
 use scanner::Open;
 use scanner::Ref;
-use scanner::Sight;
-use scanner::is_mark;
+use scanner::Token;
+use scanner::is_context;
 use scanner::kinds;
-use scanner::look_at;
+use scanner::next_token;
 use scanner::spots_of;
+use work_table::NodeRecord;
 use work_table::OPTION_LIMIT;
-use work_table::Row;
 use work_table::TABLE_LIMIT;
 use work_table::WORD_LIMIT;
 use work_table::bit;
@@ -36,7 +37,7 @@ use work_table::store;
 
 // The children of the two-child node that ended last, and whether a `~` stands between them.
 pub struct Pair {
-    pub turned: bool,
+    pub complement: bool,
     pub first: Ref,
     pub second: Ref,
 }
@@ -49,7 +50,7 @@ pub struct Run {
     pub at: usize,
     pub covered: u64,
     pub size: u32,
-    pub mark: Mark,
+    pub context: Context,
     pub complement: bool,
 }
 
@@ -90,14 +91,14 @@ fn fails(r: Run, c: Cause, b: usize) -> Taken
 }
 
 // The place moves on.
-fn moved(r: Run, at: usize, m: Mark) -> Run
+fn moved(r: Run, at: usize, m: Context) -> Run
     ensures { λ x. ⌜ x ≡ movedTo r at m ⌝ }
 {
     let x = r.last;
     let p = r.pair;
     Run {
         at: at,
-        mark: m,
+        context: m,
         last: x,
         size: r.size,
         covered: r.covered,
@@ -118,7 +119,7 @@ fn words(n: u32, d: u32) -> u64
 }
 
 // A node that refers to x passes its words.
-fn passed(n: u32, r: Run, d: u32, x: Ref, at: usize, m: Mark) -> Run
+fn passed(n: u32, r: Run, d: u32, x: Ref, at: usize, m: Context) -> Run
     requires { ⌜ (n ≤ optionLimit) × (r .covered ≤ wordLimit) ⌝ }
     ensures { λ y. ⌜ y ≡ passedTo n r d x at m ⌝ }
 {
@@ -126,7 +127,7 @@ fn passed(n: u32, r: Run, d: u32, x: Ref, at: usize, m: Mark) -> Run
     let c = r.covered + words(n, d);
     Run {
         at: at,
-        mark: m,
+        context: m,
         last: x,
         size: r.size,
         covered: c,
@@ -135,19 +136,19 @@ fn passed(n: u32, r: Run, d: u32, x: Ref, at: usize, m: Mark) -> Run
     }
 }
 
-fn turned(r: Run, at: usize, m: Mark) -> Run
+fn turned(r: Run, at: usize, m: Context) -> Run
     ensures { λ y. ⌜ y ≡ turnedTo r at m ⌝ }
 {
-    let k = r.mark;
+    let k = r.context;
     let mut q = moved(r, at, m);
-    if is_mark(k, Mark::Lead) {
+    if is_context(k, Context::Lead) {
         q.complement = true;
     }
     q
 }
 
 // The size v, whose first digit stands at g.
-fn sized(r: Run, g: usize, v: u32, at: usize, m: Mark) -> Taken
+fn sized(r: Run, g: usize, v: u32, at: usize, m: Context) -> Taken
     ensures { λ y. ⌜ y ≡ sizedTo r g v at m ⌝ }
 {
     if TABLE_LIMIT < v as usize {
@@ -166,7 +167,7 @@ fn sized(r: Run, g: usize, v: u32, at: usize, m: Mark) -> Taken
 }
 
 // The number v, with its record x.
-fn found(n: u32, r: Run, d: u32, g: usize, v: u32, x: Row, at: usize, m: Mark) -> Taken
+fn found(n: u32, r: Run, d: u32, g: usize, v: u32, x: NodeRecord, at: usize, m: Context) -> Taken
     requires { ⌜ (n ≤ optionLimit) × ((r .covered ≤ wordLimit) × (d ≤ openLimit)) ⌝ }
     ensures { λ y. ⌜ y ≡ foundTo n r d g v x at m ⌝ }
 {
@@ -184,14 +185,14 @@ fn found(n: u32, r: Run, d: u32, g: usize, v: u32, x: Row, at: usize, m: Mark) -
 }
 
 // The second child of the open node o has ended.
-fn paired(r: Run, o: Open, at: usize, m: Mark) -> Run
+fn paired(r: Run, o: Open, at: usize, m: Context) -> Run
     ensures { λ y. ⌜ y ≡ closedTwo r o at m ⌝ }
 {
     let a = o.first;
     let b = r.last;
     let p = Pair {
         first: a,
-        turned: o.turned,
+        complement: o.complement,
         second: b,
     };
     let t = Ref {
@@ -200,7 +201,7 @@ fn paired(r: Run, o: Open, at: usize, m: Mark) -> Run
     };
     Run {
         at: at,
-        mark: m,
+        context: m,
         last: t,
         size: r.size,
         covered: r.covered,
@@ -210,7 +211,7 @@ fn paired(r: Run, o: Open, at: usize, m: Mark) -> Run
 }
 
 // The innermost open node, o, is closed.
-fn closed(n: u32, r: Run, d: u32, o: Open, at: usize, m: Mark) -> Taken
+fn closed(n: u32, r: Run, d: u32, o: Open, at: usize, m: Context) -> Taken
     requires { ⌜ (n ≤ optionLimit) × (r .covered ≤ wordLimit) ⌝ }
     ensures { λ y. ⌜ y ≡ closedTo n r d o at m ⌝ }
 {
@@ -236,7 +237,7 @@ fn is_kept(r: Ref) -> bool
 }
 
 // The number k, with its record x, may not be stored.
-fn is_bad(r: Run, k: u32, x: Row) -> bool
+fn is_bad(r: Run, k: u32, x: NodeRecord) -> bool
     ensures { λ y. ⌜ y ≡ isBadOf r k x ⌝ }
 {
     if k == 0 {
@@ -265,7 +266,7 @@ fn next_stamp(g: u32) -> u32
 }
 
 // The node that ended last is given the number k, with its record x.
-fn stored(r: Run, k: u32, x: Row, at: usize, m: Mark) -> Taken
+fn stored(r: Run, k: u32, x: NodeRecord, at: usize, m: Context) -> Taken
     requires { ⌜ r .at < 18446744073709551615 ⌝ }
     ensures { λ y. ⌜ y ≡ storedTo r k x at m ⌝ }
 {
@@ -280,7 +281,7 @@ fn stored(r: Run, k: u32, x: Row, at: usize, m: Mark) -> Taken
     };
     let q = Run {
         at: at,
-        mark: m,
+        context: m,
         last: e,
         size: r.size,
         covered: r.covered,
@@ -306,9 +307,9 @@ fn take_element(
     o: Open,
     g: usize,
     e: Element,
-    x: Row,
+    x: NodeRecord,
     at: usize,
-    m: Mark,
+    m: Context,
 ) -> Taken
     requires { ⌜ (n ≤ optionLimit) × ((r .covered ≤ wordLimit) × ((d ≤ openLimit) × (r .at < 18446744073709551615))) ⌝ }
     ensures { λ y. ⌜ y ≡ takenOf n r d o g e x at m ⌝ }
@@ -321,8 +322,8 @@ fn take_element(
             goes(moved(r, at, m))
         }
         Element::Number(v) => {
-            let k = r.mark;
-            if is_mark(k, Mark::Start) {
+            let k = r.context;
+            if is_context(k, Context::Start) {
                 return sized(r, g, v, at, m);
             }
             found(n, r, d, g, v, x, at, m)
@@ -341,17 +342,17 @@ fn take_element(
     }
 }
 
-// ---- One turn
+// ---- One iteration
 
 // A `:` at the place is barred by a child, whose number was given out again. b: the byte there
 fn barred(t: &[[u32; 6]], r: Run, b: u8) -> bool
     ensures { λ x. ⌜ x ≡ barredBy (now (t .entry)) r b ⌝ }
 {
-    let m = r.mark;
+    let m = r.context;
     if b != COLON {
         return false;
     }
-    if !is_mark(m, Mark::AfterTwo) {
+    if !is_context(m, Context::AfterTwo) {
         return false;
     }
     let p = r.pair;
@@ -366,27 +367,27 @@ fn barred(t: &[[u32; 6]], r: Run, b: u8) -> bool
 }
 
 // The record that a storing puts, d nodes being open. x: the record before
-fn record_of(r: Run, d: u32, x: Row) -> Row
+fn record_of(r: Run, d: u32, x: NodeRecord) -> NodeRecord
     requires { ⌜ d ≤ openLimit ⌝ }
-    ensures { λ y. ⌜ y ≡ rowTo r d x ⌝ }
+    ensures { λ y. ⌜ y ≡ recordTo r d x ⌝ }
 {
     let p = r.pair;
     let a = p.first;
     let b = p.second;
-    Row {
+    NodeRecord {
         level: d + 1,
         first: a.number,
         second: b.number,
-        complement: p.turned,
+        complement: p.complement,
         stamp: next_stamp(x.stamp),
         parents: x.parents,
     }
 }
 
 // The table after an element of the number k: a size clears its records, a storing puts one.
-fn lend(t: &mut [[u32; 6]], r: Run, d: u32, k: u32, x: Row, y: Taken)
+fn update_table(t: &mut [[u32; 6]], r: Run, d: u32, k: u32, x: NodeRecord, y: Taken)
     requires { ⌜ d ≤ openLimit ⌝ }
-    ensures { λ _. ⌜ now (t .exit) ≡ lentTo r d k x y (now (t .entry)) ⌝ }
+    ensures { λ _. ⌜ now (t .exit) ≡ updatedTo r d k x y (now (t .entry)) ⌝ }
 {
     let s = y.stores;
     if s {
@@ -399,9 +400,9 @@ fn lend(t: &mut [[u32; 6]], r: Run, d: u32, k: u32, x: Row, y: Taken)
     }
 }
 
-// A turn of the loop: what reading has come to, how many nodes are open, the entry of the innermost before it, whether it went on, and the fault if
+// An iteration of the loop: what reading has come to, how many nodes are open, the entry of the innermost before it, whether it went on, and the fault if
 // there is one.
-struct Turn {
+struct Iteration {
     run: Run,
     depth: usize,
     byte: usize,
@@ -411,10 +412,10 @@ struct Turn {
     cause: Cause,
 }
 
-fn halted(r: Run, d: usize, low: Open, f: bool, c: Cause, b: usize) -> Turn
+fn halted(r: Run, d: usize, low: Open, f: bool, c: Cause, b: usize) -> Iteration
     ensures { λ y. ⌜ y ≡ stayed r d low f c b ⌝ }
 {
-    Turn {
+    Iteration {
         run: r,
         depth: d,
         low: low,
@@ -425,13 +426,13 @@ fn halted(r: Run, d: usize, low: Open, f: bool, c: Cause, b: usize) -> Turn
     }
 }
 
-fn went_on(y: Taken, x: Look) -> Turn
+fn went_on(y: Taken, x: NextToken) -> Iteration
     ensures { λ z. ⌜ z ≡ wentBy y x ⌝ }
 {
     let q = y.run;
     let l = x.low;
     let c = y.cause;
-    Turn {
+    Iteration {
         run: q,
         depth: x.depth,
         low: l,
@@ -450,57 +451,57 @@ fn digit_place(b: u8, at: usize) -> usize
     if b == BLANK { at + 1 } else { at }
 }
 
-fn is_fault(w: Sight) -> bool
+fn is_fault(w: Token) -> bool
     ensures { λ r. ⌜ r ≡ isFault w ⌝ }
 {
     match w {
-        Sight::Opening => false,
-        Sight::Number => false,
-        Sight::Constant => false,
-        Sight::Turn => false,
-        Sight::Closing => false,
-        Sight::Storing => false,
-        Sight::End => false,
-        Sight::Fault => true,
-        Sight::Out => false,
+        Token::Opening => false,
+        Token::Number => false,
+        Token::Constant => false,
+        Token::Turn => false,
+        Token::Closing => false,
+        Token::Storing => false,
+        Token::End => false,
+        Token::Fault => true,
+        Token::Out => false,
     }
 }
 
-fn is_out(w: Sight) -> bool
+fn is_out(w: Token) -> bool
     ensures { λ r. ⌜ r ≡ isOut w ⌝ }
 {
     match w {
-        Sight::Opening => false,
-        Sight::Number => false,
-        Sight::Constant => false,
-        Sight::Turn => false,
-        Sight::Closing => false,
-        Sight::Storing => false,
-        Sight::End => false,
-        Sight::Fault => false,
-        Sight::Out => true,
+        Token::Opening => false,
+        Token::Number => false,
+        Token::Constant => false,
+        Token::Turn => false,
+        Token::Closing => false,
+        Token::Storing => false,
+        Token::End => false,
+        Token::Fault => false,
+        Token::Out => true,
     }
 }
 
 // The element, with its number v.
-fn element_of(w: Sight, v: u32) -> Element
+fn element_of(w: Token, v: u32) -> Element
     ensures { λ r. ⌜ r ≡ elementIn w v ⌝ }
 {
     match w {
-        Sight::Opening => Element::Opening,
-        Sight::Number => Element::Number(v),
-        Sight::Constant => Element::Constant,
-        Sight::Turn => Element::Turn,
-        Sight::Closing => Element::Closing,
-        Sight::Storing => Element::Storing(v),
-        Sight::End => Element::End,
-        Sight::Fault => Element::End,
-        Sight::Out => Element::End,
+        Token::Opening => Element::Opening,
+        Token::Number => Element::Number(v),
+        Token::Constant => Element::Constant,
+        Token::Turn => Element::Turn,
+        Token::Closing => Element::Closing,
+        Token::Storing => Element::Storing(v),
+        Token::End => Element::End,
+        Token::Fault => Element::End,
+        Token::Out => Element::End,
     }
 }
 
-// One turn of the loop. d: how many nodes are open, low: the innermost
-fn take_turn(
+// One iteration of the loop. d: how many nodes are open, low: the innermost
+fn iterate(
     k: &[u8; 256],
     n: u32,
     s: &[u8],
@@ -508,9 +509,9 @@ fn take_turn(
     r: Run,
     d: usize,
     low: Open,
-) -> Turn
+) -> Iteration
     requires { ⌜ (now k ≡ kindTable) × ((n ≤ optionLimit) × ((r .covered ≤ wordLimit) × (d ≤ openLimit))) ⌝ }
-    ensures { λ y. ⌜ TurnMade n (now (s .entry)) r d low (now (t .entry)) y (now (t .exit)) ⌝ }
+    ensures { λ y. ⌜ Iterates n (now (s .entry)) r d low (now (t .entry)) y (now (t .exit)) ⌝ }
 {
     let at = r.at;
     if s.len() <= at {
@@ -520,10 +521,10 @@ fn take_turn(
     if barred(t, r, b) {
         return halted(r, d, low, true, Cause::NotStorable, at);
     }
-    let m = r.mark;
+    let m = r.context;
     let last = r.last;
-    let x = look_at(k, s, at, m, last, d, low);
-    let w = x.sight;
+    let x = next_token(k, s, at, m, last, d, low);
+    let w = x.token;
     if is_fault(w) {
         let c = x.cause;
         return halted(r, d, low, true, c, x.byte);
@@ -533,9 +534,9 @@ fn take_turn(
     }
     let e = element_of(w, x.number);
     let row = get(t, r.size, x.number);
-    let m1 = x.mark;
+    let m1 = x.context;
     let y = take_element(n, r, d as u32, low, digit_place(b, at), e, row, x.at, m1);
-    lend(t, r, d as u32, x.number, row, y);
+    update_table(t, r, d as u32, x.number, row, y);
     went_on(y, x)
 }
 
@@ -567,12 +568,12 @@ fn first_run() -> Run
     };
     let p = Pair {
         first: z,
-        turned: false,
+        complement: false,
         second: z,
     };
     Run {
         at: 0,
-        mark: Mark::Start,
+        context: Context::Start,
         last: t,
         size: 0,
         covered: 0,
@@ -596,7 +597,7 @@ fn open_at(o: &[[u32; 4]; OPEN_LIMIT], d: usize) -> Open
     Open {
         first: r,
         second: a[2] != 0,
-        turned: a[3] != 0,
+        complement: a[3] != 0,
     }
 }
 
@@ -608,7 +609,7 @@ fn put_open(o: &mut [[u32; 4]; OPEN_LIMIT], d: usize, e: Open)
     let i = p.low;
     let j = p.high;
     let r = e.first;
-    let a = [r.number, r.stamp, bit(e.second), bit(e.turned)];
+    let a = [r.number, r.stamp, bit(e.second), bit(e.complement)];
     o[j] = [0; 4];
     o[i] = a;
 }
@@ -625,7 +626,8 @@ fn run_on(
     stop: u64,
 ) -> Reached
     requires { ⌜ (now k ≡ kindTable) × ((n ≤ optionLimit) × ((around ≤ openLimit) × (stop ≤ wordLimit))) ⌝ }
-    ensures { λ y. ⌜ record { reached = reachedIn y (now (o .exit)); table = now (t .exit) } ≡ readAll n (now (s .entry)) stop first (opensIn (now (o .entry)) around) (now (t .entry)) ⌝ }
+    ensures { λ y. ⌜ record { reached = reachedIn y (now (o .exit)); table = now (t .exit) }
+        ≡ readAll n (now (s .entry)) stop first (opensIn (now (o .entry)) around) (now (t .entry)) ⌝ }
 {
     let mut run = first;
     let mut depth = around;
@@ -634,7 +636,7 @@ fn run_on(
     while run.covered <= stop {
         let d = depth;
         let low = open_at(o, d);
-        let x = take_turn(k, n, s, t, run, d, low);
+        let x = iterate(k, n, s, t, run, d, low);
         let w = x.went;
         if !w {
             let c = x.cause;
@@ -709,7 +711,8 @@ pub fn read_on(
     c: Cursor,
     stop: u64,
 ) -> Reached
-    ensures { λ y. ⌜ record { reached = reachedIn y (now (o .exit)); table = now (t .exit) } ≡ readFrom n (now (s .entry)) stop (cursorIn c (now (o .entry))) (now (t .entry)) ⌝ }
+    ensures { λ y. ⌜ record { reached = reachedIn y (now (o .exit)); table = now (t .exit) }
+        ≡ readFrom n (now (s .entry)) stop (cursorIn c (now (o .entry))) (now (t .entry)) ⌝ }
 {
     let q = c.run;
     if is_off(n, c.depth, stop) {

@@ -3,7 +3,7 @@ use mathlib.Core.Path.{_≡_}
 use mathlib.Core.List.{List}
 use Prim.Native.Nat.{ℕ, _≤_}
 use lib.ListN.{length, take, replicate}
-use Rattle.engine.specs.Pending.{Waiting, waiting}
+use Rattle.theory_engine.specs.Pending.{Waiting, waiting}
 use Rattle.report.specs.Printing.{lineLimit}
 use Rattle.report.specs.declared.Line.{Line}
 

@@ -7,17 +7,17 @@ use native.Mathlib.Omega.{arith}
 use lib.ListN.{length, getD, take, length-append, length-take}
 use lib.Pow.{pow-add}
 use lib.Seq.{take-suc, take-all}
-use Rattle.lists.specs.Lists.{decide-le}
-use Rattle.lists.specs.Powers.{shifted}
-use Rattle.reading.specs.Limits.{optionLimit}
-use Rattle.reading.specs.Bytes.{blank, lineFeed, digitZero, text}
-use Rattle.reading.specs.Causes.{causeRow, Refusal, Result, refused, done}
-use Rattle.writing.specs.Texts.{decimal}
-use Rattle.writing.specs.Run.{Ending, whole, inputEnded, outputFull, Answer}
-use Rattle.writing.specs.Join.{endingName, line, report, badJob}
-use Rattle.engine.specs.Pending.{Waiting, waiting, pushAll}
-use Rattle.engine.specs.PendingLaws.{push-length, push-count, push-take, decimal-small, decimal-more}
-use Rattle.engine.specs.PendingMade.{push-then}
+use Rattle.theory_lists.specs.Lists.{decide-le}
+use Rattle.theory_lists.specs.Powers.{shifted}
+use Rattle.theory_reading.specs.Limits.{optionLimit}
+use Rattle.theory_reading.specs.Bytes.{blank, lineFeed, digitZero, text}
+use Rattle.theory_reading.specs.Causes.{causeRow, Refusal, Result, refused, done}
+use Rattle.theory_writing.specs.Texts.{decimal}
+use Rattle.theory_writing.specs.Run.{Ending, whole, inputEnded, outputFull, Answer}
+use Rattle.theory_writing.specs.Join.{endingName, line, report, badJob}
+use Rattle.theory_engine.specs.Pending.{Waiting, waiting, pushAll}
+use Rattle.theory_engine.specs.PendingLaws.{push-length, push-count, push-take, decimal-small, decimal-more}
+use Rattle.theory_engine.specs.PendingCorrect.{push-then}
 
 -- the last line has room in so many bytes
 abbrev pub lineLimit : ℕ
@@ -45,8 +45,12 @@ pub text-there : (w : List ℕ) (s : List ℕ) {u : List ℕ} {x : ℕ} → wait
     → (take x u ≡ s) × (x ≡ length s) × (length u ≡ length w)
 text-there w s {u} {x} p h =
     let k : 0 + length s ≤ length w = omega (arith, h) in
-    let n : x ≡ 0 + length s = ap (λ (v : Waiting). v .count) p ∙ push-count w 0 s k in
-    (ap₂ take n (ap (λ (v : Waiting). v .bytes) p) ∙ push-take w 0 s k, omega (arith, n), ap (λ (v : Waiting). length (v .bytes)) p ∙ push-length w 0 s)
+    let n : x ≡ 0 + length s = ap (λ (v : Waiting). v .count) p ∙ push-count w 0 s k in (
+      ap₂ take n (ap (λ (v : Waiting). v .bytes) p) ∙ push-take w 0 s k,
+      omega (arith, n),
+      ap (λ (v : Waiting). length (v .bytes)) p
+          ∙ push-length w 0 s,
+    )
 
 -- ---- How long numbers are --------------------------------------------------------------------
 
@@ -112,10 +116,10 @@ module _ (n : ℕ) (a : Result Answer) (output w : List ℕ) {k : ℕ} {last : L
   unfolding reportText
   text-parts = ap₂ (λ (i : ℕ) (l : List ℕ). take i output ++ l) e f ∙ report-parts (min n optionLimit) a output
 
-  pub report-made : {u v : List ℕ} {x y : ℕ} → waiting u x ≡ pushAll w 0 (take k output) → waiting v y ≡ pushAll u x last
+  pub report-correct : {u v : List ℕ} {x y : ℕ} → waiting u x ≡ pushAll w 0 (take k output) → waiting v y ≡ pushAll u x last
       → waiting v y ≡ reportIn n a output w
   unfolding reportIn
-  report-made p q = push-then w 0 (take k output) last p q ∙ ap (pushAll w 0) text-parts
+  report-correct p q = push-then w 0 (take k output) last p q ∙ ap (pushAll w 0) text-parts
 
   pub report-length : length last ≤ lineLimit → length (reportText n a output) ≤ length output + lineLimit
   report-length h =

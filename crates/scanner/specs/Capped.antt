@@ -9,10 +9,11 @@ use native.Mathlib.Numerals.{add-one}
 use lib.ListN.{length, getD, drop, drop-of-length-le, List·getD-eq-default}
 use borrow.Author.Tests.{eq-eqb, ne-eqb}
 use lib.Seq.{drop-cons}
-use Rattle.reading.specs.Bytes.{digitZero}
-use Rattle.reading.specs.Element.{Element, opening, number, constant, turn, closing, storing, end, Scan, read, unread, Outcome, got, fault, ranOut, Step}
+use Rattle.theory_reading.specs.Bytes.{digitZero}
+use Rattle.theory_reading.specs.Element.{Element, opening, number, constant, turn, closing, storing, end, Scan, read, unread, Outcome, got, fault}
+use Rattle.theory_reading.specs.Element.{ranOut, Step}
 use Rattle.scanner.specs.Kinds.{digitIn, digitsBy, numberBy}
-use Rattle.scanner.specs.Glance.{Glance}
+use Rattle.scanner.specs.ScannedToken.{ScannedToken}
 
 -- the largest number that code holds
 abbrev pub numberMost : ℕ
@@ -39,8 +40,8 @@ capOutcome (got e) = got (capElement e)
 capOutcome (fault c b) = fault c b
 capOutcome ranOut = ranOut
 
-abbrev pub capGlance : Glance → Glance
-capGlance g = record { outcome = capOutcome (g .outcome); at = g .at; mark = g .mark; change = g .change }
+abbrev pub capScanned : ScannedToken → ScannedToken
+capScanned g = record { outcome = capOutcome (g .outcome); at = g .at; context = g .context; change = g .change }
 
 abbrev pub capStep : Step → Step
 capStep x = record { outcome = capOutcome (x .outcome); place = x .place }
@@ -58,27 +59,40 @@ cappedOn k (b ∷ bs) v at = elim (digitIn k b) [ true ↦ cappedOn k bs (cap (v
 digits-capped : (k bs : List ℕ) (v at : ℕ) → cappedOn k bs (cap v) at ≡ capScan (digitsBy k bs v at)
 unfolding digitsBy cappedOn
 digits-capped k [] v at = refl
-digits-capped k (b ∷ bs) v at = go (digitIn k b) (ap (λ (y : ℕ). cappedOn k bs y (at + 1)) (cap-more v (b - digitZero)) ∙ digits-capped k bs (v * 10 + (b - digitZero)) (at + 1))
+digits-capped k (b ∷ bs) v at = go (digitIn k b) (ap (λ (y : ℕ). cappedOn k bs y (at + 1)) (cap-more v (b - digitZero))
+    ∙ digits-capped k bs (v * 10 + (b - digitZero)) (at + 1))
   where
     go : (t : Bool) → cappedOn k bs (cap (cap v * 10 + (b - digitZero))) (at + 1) ≡ capScan (digitsBy k bs (v * 10 + (b - digitZero)) (at + 1))
-        → elim t as (λ _. Scan) [ true ↦ cappedOn k bs (cap (cap v * 10 + (b - digitZero))) (at + 1) | false ↦ read (cap v) at ] ≡ capScan (elim t as (λ _. Scan) [ true ↦ digitsBy k bs (v * 10 + (b - digitZero)) (at + 1) | false ↦ read v at ])
+        → elim t as (λ _. Scan) [ true ↦ cappedOn k bs (cap (cap v * 10 + (b - digitZero))) (at + 1) | false ↦ read (cap v) at ]
+        ≡ capScan (elim t as (λ _. Scan) [ true ↦ digitsBy k bs (v * 10 + (b - digitZero)) (at + 1) | false ↦ read v at ])
     go true h = h
     go false h = refl
 
 -- the number at a place, capped
 module _ (k s : List ℕ) where
-  on-cons : (i v at : ℕ) → i < length s → cappedOn k (drop i s) v at ≡ elim (digitIn k (getD s i 0)) as (λ _. Scan) [ true ↦ cappedOn k (drop (i + 1) s) (cap (v * 10 + (getD s i 0 - digitZero))) (at + 1) | false ↦ read v at ]
+  on-cons : (i v at : ℕ) → i < length s → cappedOn k (drop i s) v at
+      ≡ elim (digitIn k (getD s i 0)) as (λ _. Scan) [
+        | true ↦ cappedOn k (drop (i + 1) s) (cap (v * 10 + (getD s i 0 - digitZero))) (at + 1)
+        | false ↦
+            read v at
+      ]
   unfolding cappedOn
   on-cons i v at h =
       ap (λ (l : List ℕ). cappedOn k l v at) (drop-cons s i 0 h)
-      ∙ ap (λ (j : ℕ). elim (digitIn k (getD s i 0)) as (λ _. Scan) [ true ↦ cappedOn k (drop j s) (cap (v * 10 + (getD s i 0 - digitZero))) (at + 1) | false ↦ read v at ]) (sym (add-one i))
+      ∙ ap (λ (j : ℕ). elim (digitIn k (getD s i 0)) as (λ _. Scan) [
+        | true ↦ cappedOn k (drop j s) (cap (v * 10 + (getD s i 0 - digitZero))) (at + 1)
+        | false ↦ read v at
+      ]) (sym (add-one i))
 
   -- for a loop over the digits: a digit more, what is no digit, the end of the bytes
-  pub on-digit : (i v : ℕ) → i < length s → digitIn k (getD s i 0) ≡ true → cappedOn k (drop i s) v i ≡ cappedOn k (drop (i + 1) s) (cap (v * 10 + (getD s i 0 - digitZero))) (i + 1)
-  on-digit i v h e = on-cons i v i h ∙ ap (λ (t : Bool). elim t as (λ _. Scan) [ true ↦ cappedOn k (drop (i + 1) s) (cap (v * 10 + (getD s i 0 - digitZero))) (i + 1) | false ↦ read v i ]) e
+  pub on-digit : (i v : ℕ) → i < length s → digitIn k (getD s i 0) ≡ true → cappedOn k (drop i s) v i
+      ≡ cappedOn k (drop (i + 1) s) (cap (v * 10 + (getD s i 0 - digitZero))) (i + 1)
+  on-digit i v h e = on-cons i v i h ∙ ap (λ (t : Bool). elim t as (λ _. Scan)
+      [ true ↦ cappedOn k (drop (i + 1) s) (cap (v * 10 + (getD s i 0 - digitZero))) (i + 1) | false ↦ read v i ]) e
 
   pub on-stop : (i v : ℕ) → i < length s → digitIn k (getD s i 0) ≡ false → cappedOn k (drop i s) v i ≡ read v i
-  on-stop i v h e = on-cons i v i h ∙ ap (λ (t : Bool). elim t as (λ _. Scan) [ true ↦ cappedOn k (drop (i + 1) s) (cap (v * 10 + (getD s i 0 - digitZero))) (i + 1) | false ↦ read v i ]) e
+  on-stop i v h e = on-cons i v i h ∙ ap (λ (t : Bool). elim t as (λ _. Scan)
+      [ true ↦ cappedOn k (drop (i + 1) s) (cap (v * 10 + (getD s i 0 - digitZero))) (i + 1) | false ↦ read v i ]) e
 
   pub on-end : (i v : ℕ) → length s ≤ i → cappedOn k (drop i s) v i ≡ unread
   unfolding cappedOn
@@ -86,15 +100,18 @@ module _ (k s : List ℕ) where
 
   pub at-zero : (at : ℕ) → getD s at 0 ≡ digitZero → read 0 (at + 1) ≡ capScan (numberBy k s at (getD s at 0))
   unfolding numberBy
-  at-zero at e = sym (ap (λ (t : Bool). capScan (elim t as (λ _. Scan) [ true ↦ read 0 (at + 1) | false ↦ digitsBy k (drop (at + 1) s) (getD s at 0 - digitZero) (at + 1) ])) (eq-eqb (getD s at 0) digitZero e))
+  at-zero at e = sym (ap (λ (t : Bool). capScan (elim t as (λ _. Scan)
+      [ true ↦ read 0 (at + 1) | false ↦ digitsBy k (drop (at + 1) s) (getD s at 0 - digitZero) (at + 1) ])) (eq-eqb (getD s at 0) digitZero e))
 
-  pub at-digits : (at : ℕ) → (getD s at 0 ≡ digitZero → ⊥) → getD s at 0 - digitZero ≤ numberMost → cappedOn k (drop (at + 1) s) (getD s at 0 - digitZero) (at + 1) ≡ capScan (numberBy k s at (getD s at 0))
+  pub at-digits : (at : ℕ) → (getD s at 0 ≡ digitZero → ⊥) → getD s at 0 - digitZero ≤ numberMost
+      → cappedOn k (drop (at + 1) s) (getD s at 0 - digitZero) (at + 1) ≡ capScan (numberBy k s at (getD s at 0))
   unfolding numberBy
   at-digits at e h =
       let v = getD s at 0 - digitZero in
       let c : v ≡ cap v = omega arith in
       ap (λ (y : ℕ). cappedOn k (drop (at + 1) s) y (at + 1)) c ∙ digits-capped k (drop (at + 1) s) v (at + 1)
-      ∙ sym (ap (λ (t : Bool). capScan (elim t as (λ _. Scan) [ true ↦ read 0 (at + 1) | false ↦ digitsBy k (drop (at + 1) s) v (at + 1) ])) (ne-eqb (getD s at 0) digitZero e))
+      ∙ sym (ap (λ (t : Bool). capScan (elim t as (λ _. Scan) [ true ↦ read 0 (at + 1) | false ↦ digitsBy k (drop (at + 1) s) v (at + 1) ]))
+      (ne-eqb (getD s at 0) digitZero e))
 
   pub at-past : (at : ℕ) → length s ≤ at → unread ≡ capScan (numberBy k s at (getD s at 0))
   unfolding numberBy digitsBy

@@ -10,9 +10,10 @@ use native.Mathlib.Nat.{add-zero}
 use lib.Dec.{ltb, eqb}
 use lib.ListN.{getD, drop}
 use borrow.Author.Tests.{eq-eqb, ne-eqb, lt-ltb, le-ltb, le-leb, lt-leb}
-use Rattle.lists.specs.Lists.{differ, and-l, and-r, not-differ-true, decide-eq, decide-le}
-use Rattle.reading.specs.Bytes.{Kind, digit, bracket, mark, space, lineEnd, point, foreign, digitZero, digitNine, opener, closer, tilde, colon, blank, lineFeed, dot, kindOf, isDigitKind, isDigit}
-use Rattle.reading.specs.Element.{Scan, read, unread, digitsOn, numberAt}
+use Rattle.theory_lists.specs.Lists.{differ, and-l, and-r, not-differ-true, decide-eq, decide-le}
+use Rattle.theory_reading.specs.Bytes.{Kind, digit, bracket, mark, space, lineEnd, point, foreign, digitZero, digitNine, opener, closer, tilde, colon}
+use Rattle.theory_reading.specs.Bytes.{blank, lineFeed, dot, kindOf, isDigitKind, isDigit}
+use Rattle.theory_reading.specs.Element.{Scan, read, unread, digitsOn, numberAt}
 
 abbrev pub kindNumber : Kind → ℕ
 kindNumber digit = 0
@@ -191,9 +192,11 @@ digits-by : (bs : List ℕ) (v at : ℕ) → digitsBy kindTable bs v at ≡ digi
 unfolding digitsBy digitsOn
 digits-by [] v at = refl
 digits-by (b ∷ bs) v at =
-    ap₂ (λ (t : Bool) (x : Scan). elim t as (λ _. Scan) [ true ↦ x | false ↦ read v at ]) (digit-in b) (digits-by bs (v * 10 + (b - digitZero)) (at + 1))
+    ap₂ (λ (t : Bool) (x : Scan). elim t as (λ _. Scan) [ true ↦ x | false ↦ read v at ]) (digit-in b)
+    (digits-by bs (v * 10 + (b - digitZero)) (at + 1))
 
 -- And so it is with a number.
 pub number-by : (bytes : List ℕ) (at b : ℕ) → numberBy kindTable bytes at b ≡ numberAt bytes at b
 unfolding numberBy numberAt
-number-by bytes at b = ap (λ (x : Scan). elim (eqb b digitZero) as (λ _. Scan) [ true ↦ read 0 (at + 1) | false ↦ x ]) (digits-by (drop (at + 1) bytes) (b - digitZero) (at + 1))
+number-by bytes at b = ap (λ (x : Scan). elim (eqb b digitZero) as (λ _. Scan) [ true ↦ read 0 (at + 1) | false ↦ x ])
+    (digits-by (drop (at + 1) bytes) (b - digitZero) (at + 1))

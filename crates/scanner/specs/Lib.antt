@@ -1,8 +1,8 @@
 pub mod Kinds
-pub mod Glance
+pub mod ScannedToken
 pub mod Capped
-pub mod GlanceLaws
-pub mod Cite
+pub mod ScannedTokenLaws
+pub mod Abstraction
 pub mod OpenLaws
 pub mod PlaceLaws
-pub mod SeenLaws
+pub mod ScannedViewLaws

@@ -3,13 +3,16 @@ ghost use mathlib.Core.Bool.{cond, _&&_};
 ghost use Prim.Native.Nat.{_+_, _*_, _-_, _<_, _≤_};
 ghost use lib.Dec.{eqb};
 ghost use lib.ListN.{length, getD, getElem?};
-ghost use Rattle.reading.specs.Bytes.{digitZero};
-ghost use Rattle.reading.specs.Element.{begin, step};
-ghost use Rattle.reading.specs.Reading.{markNumber, isMark};
+ghost use Rattle.theory_reading.specs.Bytes.{digitZero};
+ghost use Rattle.theory_reading.specs.Element.{begin, step};
+ghost use Rattle.theory_reading.specs.Reading.{contextNumber, isContext};
 ghost use Rattle.scanner.specs.Kinds.{kindTable, kindIn, digitIn, numberBy};
-ghost use Rattle.scanner.specs.Glance.{glance, endSeen, innerSeen, colonSeen, spaceSeen, nodeSeen, numberSeen, storingSeen, sizeSeen, leadSeen, endedSeen, wrongAt};
-ghost use Rattle.scanner.specs.Capped.{cap, capScan, capGlance, capStep};
-ghost use Rattle.scanner.specs.Cite.{outcomeIn, scanOf, markOf, topsOf, seenOf, plain, numbered, gaveBy, failedBy, waitedBy, stageOf, isAfter, insideOpen, begunOpen, sideOf, spotsOf, deepOf, lookOf, lookAt, placeOf, steppedOf};
+ghost use Rattle.scanner.specs.ScannedToken.{scanToken, scanEnd, scanInner, scanColon, scanSpace, scanNode, scanNumber, scanStoring, scanSize};
+ghost use Rattle.scanner.specs.ScannedToken.{scanLead, scanEnded, wrongAt};
+ghost use Rattle.scanner.specs.Capped.{cap, capScan, capScanned, capStep};
+ghost use Rattle.scanner.specs.Abstraction.{outcomeIn, scanOf, contextOf, topsOf, scannedView, plain, numbered, gaveBy, failedBy, waitedBy};
+ghost use Rattle.scanner.specs.Abstraction.{stageOf, isAfter, insideOpen, begunOpen, sideOf, spotsOf, deepOf, nextTokenView, nextToken};
+ghost use Rattle.scanner.specs.Abstraction.{placeOf, steppedOf};
 
 mod kind;
 
@@ -69,7 +72,7 @@ pub enum Element {
 }
 
 // What stands before a place.
-pub enum Mark {
+pub enum Context {
     Start,
     Lead,
     Begins,
@@ -125,7 +128,7 @@ enum Stage {
 }
 
 // What a step comes to, without its numbers: one of the elements, a fault, or that the bytes ran out.
-pub enum Sight {
+pub enum Token {
     Opening,
     Number,
     Constant,
@@ -139,16 +142,16 @@ pub enum Sight {
 
 // A step by little: what it comes to, with the element's number or the fault, and the place after it: how many nodes are open then, whether the second child of the
 // innermost begins, and after a `~`.
-struct Glance {
+struct ScannedToken {
     byte: usize,
     at: usize,
     depth: usize,
     number: u32,
-    sight: Sight,
+    token: Token,
     cause: Cause,
-    mark: Mark,
+    context: Context,
     second: bool,
-    turned: bool,
+    complement: bool,
 }
 
 // ---- Numbers
@@ -222,57 +225,58 @@ fn number_at(k: &[u8; 256], s: &[u8], at: usize) -> Num
 // ---- A step by little
 
 // The element e, of the number v. two, t: the innermost's second child begins, after a `~`
-fn gave(e: Sight, v: u32, at: usize, m: Mark, d: usize, two: bool, t: bool) -> Glance
+fn gave(e: Token, v: u32, at: usize, m: Context, d: usize, two: bool, t: bool) -> ScannedToken
     ensures { λ r. ⌜ r ≡ gaveBy e v at m d two t ⌝ }
 {
-    Glance {
-        sight: e,
+    ScannedToken {
+        token: e,
         cause: Cause::WrongByte,
         byte: 0,
         number: v,
         at: at,
-        mark: m,
+        context: m,
         depth: d,
         second: two,
-        turned: t,
+        complement: t,
     }
 }
 
-fn failed(at: usize, m: Mark, d: usize, c: Cause, b: usize) -> Glance
+fn failed(at: usize, m: Context, d: usize, c: Cause, b: usize) -> ScannedToken
     ensures { λ r. ⌜ r ≡ failedBy at m d c b ⌝ }
 {
-    Glance {
-        sight: Sight::Fault,
+    ScannedToken {
+        token: Token::Fault,
         cause: c,
         byte: b,
         number: 0,
         at: at,
-        mark: m,
+        context: m,
         depth: d,
         second: false,
-        turned: false,
+        complement: false,
     }
 }
 
-fn waited(at: usize, m: Mark, d: usize) -> Glance
+fn waited(at: usize, m: Context, d: usize) -> ScannedToken
     ensures { λ r. ⌜ r ≡ waitedBy at m d ⌝ }
 {
-    Glance {
-        sight: Sight::Out,
+    ScannedToken {
+        token: Token::Out,
         cause: Cause::WrongByte,
         byte: 0,
         number: 0,
         at: at,
-        mark: m,
+        context: m,
         depth: d,
         second: false,
-        turned: false,
+        complement: false,
     }
 }
 
 // The size, whose first digit stands at the place.
-fn size_seen(k: &[u8; 256], s: &[u8], at: usize, m: Mark, d: usize) -> Glance
-    ensures { λ r. ⌜ seenOf r ≡ plain d (capGlance (sizeSeen (now (k .entry)) (now (s .entry)) at (markOf m) (numberBy (now (k .entry)) (now (s .entry)) at (getD (now (s .entry)) at 0)))) ⌝ }
+fn scan_size(k: &[u8; 256], s: &[u8], at: usize, m: Context, d: usize) -> ScannedToken
+    ensures { λ r. ⌜ scannedView r ≡ plain d (capScanned (scanSize (now (k .entry)) (now (s .entry)) at (contextOf m)
+        (numberBy (now (k .entry)) (now (s .entry)) at (getD (now (s .entry)) at 0)))) ⌝ }
 {
     let x = number_at(k, s, at);
     let done = x.done;
@@ -285,22 +289,31 @@ fn size_seen(k: &[u8; 256], s: &[u8], at: usize, m: Mark, d: usize) -> Glance
     }
     let b = s[e];
     if is_kind(k, b, kind::LINE_END) {
-        return gave(Sight::Number, x.value, e + 1, Mark::Lead, d, false, false);
+        return gave(
+            Token::Number,
+            x.value,
+            e + 1,
+            Context::Lead,
+            d,
+            false,
+            false,
+        );
     }
     failed(at, m, d, Cause::WrongByte, e)
 }
 
 // A number or the constant, whose first digit stands at `from`.
-fn number_seen(
+fn scan_number(
     k: &[u8; 256],
     s: &[u8],
     from: usize,
     at: usize,
-    m: Mark,
+    m: Context,
     d: usize,
     two: bool,
-) -> Glance
-    ensures { λ r. ⌜ seenOf r ≡ plain d (capGlance (numberSeen at (markOf m) (numbered two) (numberBy (now (k .entry)) (now (s .entry)) from (getD (now (s .entry)) from 0)))) ⌝ }
+) -> ScannedToken
+    ensures { λ r. ⌜ scannedView r ≡ plain d (capScanned (scanNumber at (contextOf m) (numbered two)
+        (numberBy (now (k .entry)) (now (s .entry)) from (getD (now (s .entry)) from 0)))) ⌝ }
 {
     let x = number_at(k, s, from);
     let done = x.done;
@@ -309,14 +322,30 @@ fn number_seen(
     }
     let v = x.value;
     if v == 0 {
-        return gave(Sight::Constant, 0, x.next, Mark::AfterDigit, d, two, false);
+        return gave(
+            Token::Constant,
+            0,
+            x.next,
+            Context::AfterDigit,
+            d,
+            two,
+            false,
+        );
     }
-    gave(Sight::Number, v, x.next, Mark::AfterDigit, d, two, false)
+    gave(Token::Number, v, x.next, Context::AfterDigit, d, two, false)
 }
 
 // A number to store, whose first digit stands at `from`.
-fn storing_seen(k: &[u8; 256], s: &[u8], from: usize, at: usize, m: Mark, d: usize) -> Glance
-    ensures { λ r. ⌜ seenOf r ≡ plain d (capGlance (storingSeen at (markOf m) (numberBy (now (k .entry)) (now (s .entry)) from (getD (now (s .entry)) from 0)))) ⌝ }
+fn scan_storing(
+    k: &[u8; 256],
+    s: &[u8],
+    from: usize,
+    at: usize,
+    m: Context,
+    d: usize,
+) -> ScannedToken
+    ensures { λ r. ⌜ scannedView r ≡ plain d (capScanned (scanStoring at (contextOf m)
+        (numberBy (now (k .entry)) (now (s .entry)) from (getD (now (s .entry)) from 0)))) ⌝ }
 {
     let x = number_at(k, s, from);
     let done = x.done;
@@ -324,31 +353,49 @@ fn storing_seen(k: &[u8; 256], s: &[u8], from: usize, at: usize, m: Mark, d: usi
         return waited(at, m, d);
     }
     let v = x.value;
-    gave(Sight::Storing, v, x.next, Mark::AfterDigit, d, false, false)
+    gave(
+        Token::Storing,
+        v,
+        x.next,
+        Context::AfterDigit,
+        d,
+        false,
+        false,
+    )
 }
 
 // A node begins, as a second child or not.
-fn node_seen(k: &[u8; 256], s: &[u8], at: usize, m: Mark, d: usize, two: bool) -> Glance
+fn scan_node(k: &[u8; 256], s: &[u8], at: usize, m: Context, d: usize, two: bool) -> ScannedToken
     requires { ⌜ at < length (now s) ⌝ }
-    ensures { λ r. ⌜ seenOf r ≡ plain d (capGlance (nodeSeen (now (k .entry)) (now (s .entry)) at (markOf m) d two (getD (now (s .entry)) at 0))) ⌝ }
+    ensures { λ r. ⌜ scannedView r ≡ plain d (capScanned (scanNode (now (k .entry)) (now (s .entry)) at (contextOf m) d two
+        (getD (now (s .entry)) at 0))) ⌝ }
 {
     let b = s[at];
     if is_one(k, b, kind::BRACKET, OPENER) {
         if OPEN_LIMIT <= d {
             return failed(at, m, d, Cause::TooDeep, at);
         }
-        return gave(Sight::Opening, 0, at + 1, Mark::Begins, d + 1, two, false);
+        return gave(
+            Token::Opening,
+            0,
+            at + 1,
+            Context::Begins,
+            d + 1,
+            two,
+            false,
+        );
     }
     if !is_kind(k, b, kind::DIGIT) {
         return failed(at, m, d, Cause::WrongByte, at);
     }
-    number_seen(k, s, at, at, m, d, two)
+    scan_number(k, s, at, at, m, d, two)
 }
 
 // After the space that belongs to a second child.
-fn space_seen(k: &[u8; 256], s: &[u8], at: usize, m: Mark, d: usize) -> Glance
+fn scan_space(k: &[u8; 256], s: &[u8], at: usize, m: Context, d: usize) -> ScannedToken
     requires { ⌜ at < length (now s) ⌝ }
-    ensures { λ r. ⌜ seenOf r ≡ plain d (capGlance (spaceSeen (now (k .entry)) (now (s .entry)) at (markOf m) (getElem? (now (s .entry)) (at + 1)))) ⌝ }
+    ensures { λ r. ⌜ scannedView r ≡ plain d (capScanned (scanSpace (now (k .entry)) (now (s .entry)) at (contextOf m)
+        (getElem? (now (s .entry)) (at + 1)))) ⌝ }
 {
     let i = at + 1;
     if s.len() <= i {
@@ -358,13 +405,14 @@ fn space_seen(k: &[u8; 256], s: &[u8], at: usize, m: Mark, d: usize) -> Glance
     if !is_kind(k, b, kind::DIGIT) {
         return failed(at, m, d, Cause::WrongByte, i);
     }
-    number_seen(k, s, i, at, m, d, true)
+    scan_number(k, s, i, at, m, d, true)
 }
 
 // After the `:` of a storing.
-fn colon_seen(k: &[u8; 256], s: &[u8], at: usize, m: Mark, d: usize) -> Glance
+fn scan_colon(k: &[u8; 256], s: &[u8], at: usize, m: Context, d: usize) -> ScannedToken
     requires { ⌜ at < length (now s) ⌝ }
-    ensures { λ r. ⌜ seenOf r ≡ plain d (capGlance (colonSeen (now (k .entry)) (now (s .entry)) at (markOf m) (getElem? (now (s .entry)) (at + 1)))) ⌝ }
+    ensures { λ r. ⌜ scannedView r ≡ plain d (capScanned (scanColon (now (k .entry)) (now (s .entry)) at (contextOf m)
+        (getElem? (now (s .entry)) (at + 1)))) ⌝ }
 {
     let i = at + 1;
     if s.len() <= i {
@@ -374,24 +422,32 @@ fn colon_seen(k: &[u8; 256], s: &[u8], at: usize, m: Mark, d: usize) -> Glance
     if !is_kind(k, b, kind::DIGIT) {
         return failed(at, m, d, Cause::WrongByte, i);
     }
-    storing_seen(k, s, i, at, m, d)
+    scan_storing(k, s, i, at, m, d)
 }
 
 // A first child has ended, in a digit or not.
-fn inner_seen(k: &[u8; 256], s: &[u8], at: usize, m: Mark, d: usize, digital: bool) -> Glance
+fn scan_inner(
+    k: &[u8; 256],
+    s: &[u8],
+    at: usize,
+    m: Context,
+    d: usize,
+    digital: bool,
+) -> ScannedToken
     requires { ⌜ at < length (now s) ⌝ }
-    ensures { λ r. ⌜ seenOf r ≡ plain d (capGlance (innerSeen (now (k .entry)) (now (s .entry)) at (markOf m) d digital (getD (now (s .entry)) at 0))) ⌝ }
+    ensures { λ r. ⌜ scannedView r ≡ plain d (capScanned (scanInner (now (k .entry)) (now (s .entry)) at (contextOf m) d digital
+        (getD (now (s .entry)) at 0))) ⌝ }
 {
     let b = s[at];
     if is_one(k, b, kind::MARK, TILDE) {
-        return gave(Sight::Turn, 0, at + 1, Mark::Begins, d, true, true);
+        return gave(Token::Turn, 0, at + 1, Context::Begins, d, true, true);
     }
     if is_one(k, b, kind::BRACKET, CLOSER) {
         return gave(
-            Sight::Closing,
+            Token::Closing,
             0,
             at + 1,
-            Mark::AfterOne,
+            Context::AfterOne,
             less(d),
             false,
             false,
@@ -399,13 +455,13 @@ fn inner_seen(k: &[u8; 256], s: &[u8], at: usize, m: Mark, d: usize, digital: bo
     }
     if digital {
         if is_kind(k, b, kind::SPACE) {
-            return space_seen(k, s, at, m, d);
+            return scan_space(k, s, at, m, d);
         }
         if is_kind(k, b, kind::DIGIT) {
             return failed(at, m, d, Cause::WrongByte, at);
         }
     }
-    node_seen(k, s, at, m, d, true)
+    scan_node(k, s, at, m, d, true)
 }
 
 // One less, if there is one.
@@ -416,34 +472,35 @@ fn less(d: usize) -> usize
 }
 
 // A node has ended, in a digit or not.
-fn end_seen(
+fn scan_end(
     k: &[u8; 256],
     s: &[u8],
     at: usize,
-    m: Mark,
+    m: Context,
     top: Top,
     d: usize,
     digital: bool,
-) -> Glance
+) -> ScannedToken
     requires { ⌜ at < length (now s) ⌝ }
-    ensures { λ r. ⌜ seenOf r ≡ plain d (capGlance (endSeen (now (k .entry)) (now (s .entry)) at (markOf m) (topsOf top) d digital (getD (now (s .entry)) at 0))) ⌝ }
+    ensures { λ r. ⌜ scannedView r ≡ plain d (capScanned (scanEnd (now (k .entry)) (now (s .entry)) at (contextOf m) (topsOf top) d digital
+        (getD (now (s .entry)) at 0))) ⌝ }
 {
     let b = s[at];
     match top {
         Top::Empty => {
             if is_kind(k, b, kind::POINT) {
-                return gave(Sight::End, 0, at + 1, Mark::Over, d, false, false);
+                return gave(Token::End, 0, at + 1, Context::Over, d, false, false);
             }
             failed(at, m, d, Cause::WrongByte, at)
         }
-        Top::Inner => inner_seen(k, s, at, m, d, digital),
+        Top::Inner => scan_inner(k, s, at, m, d, digital),
         Top::Outer => {
             if is_one(k, b, kind::BRACKET, CLOSER) {
                 return gave(
-                    Sight::Closing,
+                    Token::Closing,
                     0,
                     at + 1,
-                    Mark::AfterTwo,
+                    Context::AfterTwo,
                     less(d),
                     false,
                     false,
@@ -454,93 +511,97 @@ fn end_seen(
     }
 }
 
-fn stage_of(m: Mark) -> Stage
+fn stage_of(m: Context) -> Stage
     ensures { λ r. ⌜ r ≡ stageOf m ⌝ }
 {
     match m {
-        Mark::Start => Stage::First,
-        Mark::Lead => Stage::Node,
-        Mark::Begins => Stage::Node,
-        Mark::AfterDigit => Stage::Ended,
-        Mark::AfterTwo => Stage::Ended,
-        Mark::AfterOne => Stage::Ended,
-        Mark::Over => Stage::Past,
+        Context::Start => Stage::First,
+        Context::Lead => Stage::Node,
+        Context::Begins => Stage::Node,
+        Context::AfterDigit => Stage::Ended,
+        Context::AfterTwo => Stage::Ended,
+        Context::AfterOne => Stage::Ended,
+        Context::Over => Stage::Past,
     }
 }
 
 // The marks by number, in the order of their names
-pub fn mark_number(m: Mark) -> u8
-    ensures { λ r. ⌜ r ≡ markNumber (markOf m) ⌝ }
+pub fn context_number(m: Context) -> u8
+    ensures { λ r. ⌜ r ≡ contextNumber (contextOf m) ⌝ }
 {
     match m {
-        Mark::Start => 0,
-        Mark::Lead => 1,
-        Mark::Begins => 2,
-        Mark::AfterDigit => 3,
-        Mark::AfterTwo => 4,
-        Mark::AfterOne => 5,
-        Mark::Over => 6,
+        Context::Start => 0,
+        Context::Lead => 1,
+        Context::Begins => 2,
+        Context::AfterDigit => 3,
+        Context::AfterTwo => 4,
+        Context::AfterOne => 5,
+        Context::Over => 6,
     }
 }
 
-pub fn is_mark(m: Mark, k: Mark) -> bool
-    ensures { λ r. ⌜ r ≡ isMark (markOf k) (markOf m) ⌝ }
+pub fn is_context(m: Context, k: Context) -> bool
+    ensures { λ r. ⌜ r ≡ isContext (contextOf k) (contextOf m) ⌝ }
 {
-    mark_number(m) == mark_number(k)
+    context_number(m) == context_number(k)
 }
 
 // At the size.
-fn first_seen(k: &[u8; 256], s: &[u8], at: usize, m: Mark, d: usize) -> Glance
+fn scan_first(k: &[u8; 256], s: &[u8], at: usize, m: Context, d: usize) -> ScannedToken
     requires { ⌜ at < length (now s) ⌝ }
-    ensures { λ r. ⌜ seenOf r ≡ plain d (capGlance (cond (digitIn (now (k .entry)) (getD (now (s .entry)) at 0)) (sizeSeen (now (k .entry)) (now (s .entry)) at (markOf m) (numberBy (now (k .entry)) (now (s .entry)) at (getD (now (s .entry)) at 0))) (wrongAt at (markOf m)))) ⌝ }
+    ensures { λ r. ⌜ scannedView r ≡ plain d (capScanned (cond (digitIn (now (k .entry)) (getD (now (s .entry)) at 0))
+        (scanSize (now (k .entry)) (now (s .entry)) at (contextOf m) (numberBy (now (k .entry)) (now (s .entry)) at (getD (now (s .entry)) at 0)))
+        (wrongAt at (contextOf m)))) ⌝ }
 {
     let b = s[at];
     if is_kind(k, b, kind::DIGIT) {
-        return size_seen(k, s, at, m, d);
+        return scan_size(k, s, at, m, d);
     }
     failed(at, m, d, Cause::WrongByte, at)
 }
 
 // Where a node begins that is no second child.
-fn begin_seen(k: &[u8; 256], s: &[u8], at: usize, m: Mark, d: usize) -> Glance
+fn scan_begin(k: &[u8; 256], s: &[u8], at: usize, m: Context, d: usize) -> ScannedToken
     requires { ⌜ at < length (now s) ⌝ }
-    ensures { λ r. ⌜ seenOf r ≡ plain d (capGlance (leadSeen (now (k .entry)) (now (s .entry)) at (markOf m) d (getD (now (s .entry)) at 0))) ⌝ }
+    ensures { λ r. ⌜ scannedView r ≡ plain d (capScanned (scanLead (now (k .entry)) (now (s .entry)) at (contextOf m) d (getD (now (s .entry)) at 0)))
+        ⌝ }
 {
     let b = s[at];
     if is_one(k, b, kind::MARK, TILDE) {
-        if is_mark(m, Mark::Lead) {
-            return gave(Sight::Turn, 0, at + 1, Mark::Begins, d, false, false);
+        if is_context(m, Context::Lead) {
+            return gave(Token::Turn, 0, at + 1, Context::Begins, d, false, false);
         }
     }
-    node_seen(k, s, at, m, d, false)
+    scan_node(k, s, at, m, d, false)
 }
 
 // Where a node has ended that may be stored.
-fn ended_seen(k: &[u8; 256], s: &[u8], at: usize, m: Mark, top: Top, d: usize) -> Glance
+fn scan_ended(k: &[u8; 256], s: &[u8], at: usize, m: Context, top: Top, d: usize) -> ScannedToken
     requires { ⌜ at < length (now s) ⌝ }
-    ensures { λ r. ⌜ seenOf r ≡ plain d (capGlance (endedSeen (now (k .entry)) (now (s .entry)) at (markOf m) (topsOf top) d (isAfter m) (getD (now (s .entry)) at 0))) ⌝ }
+    ensures { λ r. ⌜ scannedView r ≡ plain d (capScanned (scanEnded (now (k .entry)) (now (s .entry)) at (contextOf m) (topsOf top) d (isAfter m)
+        (getD (now (s .entry)) at 0))) ⌝ }
 {
     let b = s[at];
-    if is_mark(m, Mark::AfterTwo) {
+    if is_context(m, Context::AfterTwo) {
         if is_one(k, b, kind::MARK, COLON) {
-            return colon_seen(k, s, at, m, d);
+            return scan_colon(k, s, at, m, d);
         }
     }
-    end_seen(k, s, at, m, top, d, is_mark(m, Mark::AfterDigit))
+    scan_end(k, s, at, m, top, d, is_context(m, Context::AfterDigit))
 }
 
 // One step, by what stands before the place, the innermost open node and how many are open.
-fn glance_at(k: &[u8; 256], s: &[u8], at: usize, m: Mark, top: Top, d: usize) -> Glance
-    ensures { λ r. ⌜ seenOf r ≡ plain d (capGlance (glance (now (k .entry)) (now (s .entry)) at (markOf m) (topsOf top) d)) ⌝ }
+fn scan_token(k: &[u8; 256], s: &[u8], at: usize, m: Context, top: Top, d: usize) -> ScannedToken
+    ensures { λ r. ⌜ scannedView r ≡ plain d (capScanned (scanToken (now (k .entry)) (now (s .entry)) at (contextOf m) (topsOf top) d)) ⌝ }
 {
     if s.len() <= at {
         return waited(at, m, d);
     }
     let g = stage_of(m);
     match g {
-        Stage::First => first_seen(k, s, at, m, d),
-        Stage::Node => begin_seen(k, s, at, m, d),
-        Stage::Ended => ended_seen(k, s, at, m, top, d),
+        Stage::First => scan_first(k, s, at, m, d),
+        Stage::Node => scan_begin(k, s, at, m, d),
+        Stage::Ended => scan_ended(k, s, at, m, top, d),
         Stage::Past => failed(at, m, d, Cause::WrongByte, at),
     }
 }
@@ -552,7 +613,7 @@ fn glance_at(k: &[u8; 256], s: &[u8], at: usize, m: Mark, top: Top, d: usize) ->
 pub struct Open {
     pub first: Ref,
     pub second: bool,
-    pub turned: bool,
+    pub complement: bool,
 }
 
 // The open nodes, the outermost first, and how many there are.
@@ -564,7 +625,7 @@ pub struct Opens {
 
 pub struct Place {
     pub at: usize,
-    pub mark: Mark,
+    pub context: Context,
     pub opens: Opens,
     pub last: Ref,
 }
@@ -584,7 +645,7 @@ fn inside() -> Open
     };
     Open {
         second: false,
-        turned: false,
+        complement: false,
         first: r,
     }
 }
@@ -594,7 +655,7 @@ fn begun(r: Ref, t: bool) -> Open
 {
     Open {
         second: true,
-        turned: t,
+        complement: t,
         first: r,
     }
 }
@@ -646,44 +707,44 @@ fn deep(d: usize) -> usize
     if OPEN_LIMIT < d { OPEN_LIMIT } else { d }
 }
 
-// What a look at the bytes comes to: the outcome with its number, the place after it, how many nodes are open then, and the entry of the innermost
+// What a scan of the bytes comes to: the outcome with its number, the place after it, how many nodes are open then, and the entry of the innermost
 // before it.
-pub struct Look {
+pub struct NextToken {
     pub byte: usize,
     pub at: usize,
     pub depth: usize,
     pub low: Open,
     pub number: u32,
-    pub sight: Sight,
+    pub token: Token,
     pub cause: Cause,
-    pub mark: Mark,
+    pub context: Context,
 }
 
 // One element on, by little: the byte's place, what stands before it, what ended last, how many nodes are open and the innermost.
-pub fn look_at(
+pub fn next_token(
     k: &[u8; 256],
     s: &[u8],
     at: usize,
-    m: Mark,
+    m: Context,
     last: Ref,
     depth: usize,
     low: Open,
-) -> Look
-    ensures { λ r. ⌜ lookOf r ≡ lookAt (now (k .entry)) (now (s .entry)) at (markOf m) last depth low ⌝ }
+) -> NextToken
+    ensures { λ r. ⌜ nextTokenView r ≡ nextToken (now (k .entry)) (now (s .entry)) at (contextOf m) last depth low ⌝ }
 {
     let d = deep(depth);
-    let g = glance_at(k, s, at, m, top_of(d, low), d);
-    let e = entry_of(low, last, g.second, g.turned);
-    let w = g.sight;
+    let g = scan_token(k, s, at, m, top_of(d, low), d);
+    let e = entry_of(low, last, g.second, g.complement);
+    let w = g.token;
     let c = g.cause;
-    let m1 = g.mark;
-    Look {
-        sight: w,
+    let m1 = g.context;
+    NextToken {
+        token: w,
         cause: c,
         byte: g.byte,
         number: g.number,
         at: g.at,
-        mark: m1,
+        context: m1,
         depth: g.depth,
         low: e,
     }
@@ -699,23 +760,23 @@ fn entry_of(low: Open, last: Ref, two: bool, t: bool) -> Open
     low
 }
 
-fn outcome_of(x: Look) -> Outcome
+fn outcome_of(x: NextToken) -> Outcome
     ensures { λ r. ⌜ r ≡ outcomeIn x ⌝ }
 {
-    let w = x.sight;
+    let w = x.token;
     match w {
-        Sight::Opening => Outcome::Got(Element::Opening),
-        Sight::Number => Outcome::Got(Element::Number(x.number)),
-        Sight::Constant => Outcome::Got(Element::Constant),
-        Sight::Turn => Outcome::Got(Element::Turn),
-        Sight::Closing => Outcome::Got(Element::Closing),
-        Sight::Storing => Outcome::Got(Element::Storing(x.number)),
-        Sight::End => Outcome::Got(Element::End),
-        Sight::Fault => {
+        Token::Opening => Outcome::Got(Element::Opening),
+        Token::Number => Outcome::Got(Element::Number(x.number)),
+        Token::Constant => Outcome::Got(Element::Constant),
+        Token::Turn => Outcome::Got(Element::Turn),
+        Token::Closing => Outcome::Got(Element::Closing),
+        Token::Storing => Outcome::Got(Element::Storing(x.number)),
+        Token::End => Outcome::Got(Element::End),
+        Token::Fault => {
             let c = x.cause;
             Outcome::Fault(c, x.byte)
         }
-        Sight::Out => Outcome::RanOut,
+        Token::Out => Outcome::RanOut,
     }
 }
 
@@ -735,7 +796,7 @@ impl Place {
         };
         Place {
             at: 0,
-            mark: Mark::Start,
+            context: Context::Start,
             opens: o,
             last: r,
         }
@@ -753,18 +814,18 @@ impl Place {
         let j = p.high;
         let low = o.nodes[i];
         let last = self.last;
-        let m = self.mark;
-        let x = look_at(&k, s, self.at, m, last, d, low);
+        let m = self.context;
+        let x = next_token(&k, s, self.at, m, last, d, low);
         let l = x.low;
         o.nodes[j] = inside();
         o.nodes[i] = l;
         o.depth = x.depth;
-        let m1 = x.mark;
+        let m1 = x.context;
         Stepped {
             outcome: outcome_of(x),
             place: Place {
                 at: x.at,
-                mark: m1,
+                context: m1,
                 opens: o,
                 last: last,
             },

@@ -3,31 +3,32 @@ use mathlib.Core.Path.{_≡_, refl}
 use mathlib.Core.Bool.{cond}
 use Prim.Native.Nat.{ℕ}
 use lib.Dec.{eqb}
-use Rattle.reading.specs.Causes.{causeRow}
-use Rattle.reading.specs.Element as T
-use Rattle.reading.specs.Reading.{markNumber}
-use Rattle.scanner.specs.Cite.{openList, refOf}
+use Rattle.theory_reading.specs.Causes.{causeRow}
+use Rattle.theory_reading.specs.Element as T
+use Rattle.theory_reading.specs.Reading.{contextNumber}
+use Rattle.scanner.specs.Abstraction.{openList, refOf}
 use Rattle.stepping.specs.declared.RulePlace.{RulePlace}
 use Rattle.stepping.specs.declared.RuleStepped.{RuleStepped}
 
--- what stands before a place; a number that is no mark's stands for the end
-abbrev pub markFrom : ℕ → T.Mark
-markFrom k =
-    cond (eqb k 0) T.start (cond (eqb k 1) T.lead (cond (eqb k 2) T.begins (cond (eqb k 3) T.afterDigit (cond (eqb k 4) T.afterTwo (cond (eqb k 5) T.afterOne T.over)))))
+-- what stands before a place; a number that is no context's stands for the end
+abbrev pub contextFrom : ℕ → T.Context
+contextFrom k =
+    cond (eqb k 0) T.start (cond (eqb k 1) T.lead (cond (eqb k 2) T.begins
+    (cond (eqb k 3) T.afterDigit (cond (eqb k 4) T.afterTwo (cond (eqb k 5) T.afterOne T.over)))))
 
--- the number of a mark gives it back
-pub mark-back : (m : T.Mark) → markFrom (markNumber m) ≡ m
-mark-back T.start = refl
-mark-back T.lead = refl
-mark-back T.begins = refl
-mark-back T.afterDigit = refl
-mark-back T.afterTwo = refl
-mark-back T.afterOne = refl
-mark-back T.over = refl
+-- the number of a context gives it back
+pub context-back : (m : T.Context) → contextFrom (contextNumber m) ≡ m
+context-back T.start = refl
+context-back T.lead = refl
+context-back T.begins = refl
+context-back T.afterDigit = refl
+context-back T.afterTwo = refl
+context-back T.afterOne = refl
+context-back T.over = refl
 
 -- the place that C holds; entries of nodes that are not open count for nothing
 abbrev pub placeFrom : RulePlace → T.Place
-placeFrom p = T.place (p .at) (markFrom (p .mark)) (openList (p .opens)) (refOf (p .last))
+placeFrom p = T.place (p .at) (contextFrom (p .context)) (openList (p .opens)) (refOf (p .last))
 
 -- outcome 0 an element, 1 a fault, 2 the bytes ran out
 pub record Numbers : Type 0 where
@@ -60,4 +61,8 @@ abbrev pub stepNumbers : T.Step → StepGiven
 stepNumbers x = record { numbers = outcomeNumbers (x .outcome); place = x .place }
 
 abbrev pub stepGiven : RuleStepped → StepGiven
-stepGiven r = record { numbers = record { outcome = r .outcome; element = r .element; number = r .number; cause = r .cause; byte = r .byte }; place = placeFrom (r .place) }
+stepGiven r = record {
+  numbers = record { outcome = r .outcome; element = r .element; number = r .number; cause = r .cause; byte = r .byte };
+  place =
+      placeFrom (r .place);
+}

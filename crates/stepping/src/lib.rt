@@ -1,22 +1,22 @@
 // The reader that steps, for C, as `include/rule.h` declares it.
 ghost use mathlib.Core.Path.{_≡_};
-ghost use Rattle.reading.specs.Element.{begin, step};
+ghost use Rattle.theory_reading.specs.Element.{begin, step};
 ghost use Rattle.scanner.specs.Capped.{capStep};
-ghost use Rattle.scanner.specs.Cite.{markOf, elementOf, outcomeOf, placeOf};
-ghost use Rattle.stepping.specs.Steps.{markFrom, placeFrom, gotNumbers, outcomeNumbers, stepNumbers, stepGiven};
+ghost use Rattle.scanner.specs.Abstraction.{contextOf, elementOf, outcomeOf, placeOf};
+ghost use Rattle.stepping.specs.Steps.{contextFrom, placeFrom, gotNumbers, outcomeNumbers, stepNumbers, stepGiven};
 use firmware::cause_number;
+use scanner::Context;
 use scanner::Element;
-use scanner::Mark;
 use scanner::Opens;
 use scanner::Outcome;
 use scanner::Place;
 use scanner::Ref;
-use scanner::mark_number;
+use scanner::context_number;
 
 #[repr(C)]
 pub struct RulePlace {
     pub at: usize,
-    pub mark: u32,
+    pub context: u32,
     pub last: Ref,
     pub opens: Opens,
 }
@@ -31,39 +31,39 @@ pub struct RuleStepped {
     pub place: RulePlace,
 }
 
-fn mark_from(k: u32) -> Mark
-    ensures { λ r. ⌜ markOf r ≡ markFrom k ⌝ }
+fn context_from(k: u32) -> Context
+    ensures { λ r. ⌜ contextOf r ≡ contextFrom k ⌝ }
 {
     if k == 0 {
-        return Mark::Start;
+        return Context::Start;
     }
     if k == 1 {
-        return Mark::Lead;
+        return Context::Lead;
     }
     if k == 2 {
-        return Mark::Begins;
+        return Context::Begins;
     }
     if k == 3 {
-        return Mark::AfterDigit;
+        return Context::AfterDigit;
     }
     if k == 4 {
-        return Mark::AfterTwo;
+        return Context::AfterTwo;
     }
     if k == 5 {
-        return Mark::AfterOne;
+        return Context::AfterOne;
     }
-    Mark::Over
+    Context::Over
 }
 
 fn place_numbers(p: Place) -> RulePlace
     ensures { λ r. ⌜ placeFrom r ≡ placeOf p ⌝ }
 {
-    let m = p.mark;
+    let m = p.context;
     let o = p.opens;
     let l = p.last;
     RulePlace {
         at: p.at,
-        mark: mark_number(m) as u32,
+        context: context_number(m) as u32,
         last: l,
         opens: o,
     }
@@ -134,12 +134,12 @@ fn element_numbers(e: Element, p: RulePlace) -> RuleStepped
 pub extern "C" fn rule_step(place: RulePlace, stream: &[u8]) -> RuleStepped
     ensures { λ r. ⌜ stepGiven r ≡ stepNumbers (capStep (step (placeFrom place) (now (stream .entry)))) ⌝ }
 {
-    let m = mark_from(place.mark);
+    let m = context_from(place.context);
     let o = place.opens;
     let l = place.last;
     let p = Place {
         at: place.at,
-        mark: m,
+        context: m,
         opens: o,
         last: l,
     };

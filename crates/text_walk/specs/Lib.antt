@@ -1,2 +1,2 @@
-pub mod Cite
-pub mod TextsMade
+pub mod Abstraction
+pub mod TextsCorrect

@@ -4,35 +4,35 @@ ghost use mathlib.Core.Bool.{true, false, not, _||_};
 ghost use mathlib.Core.List.{[], _∷_};
 ghost use lib.Dec.{eqb};
 ghost use Prim.Native.Nat.{_+_, _-_, _<_, _≤_, _^_};
-ghost use Rattle.reading.specs.Limits.{optionLimit, levelLimit, wordLimit};
-ghost use Rattle.writing.specs.Run.{head, operate};
-ghost use Rattle.engine.specs.Taping.{secondFeed};
-ghost use Rattle.engine.specs.Joining.{finishIn};
-ghost use Rattle.combining.specs.Tapes.{deepOf, sourceOf, nextTape};
-ghost use Rattle.meeting.specs.Cite.{penOf};
-ghost use Rattle.feeds.specs.Cite.{feedOf, begunIn};
-ghost use Rattle.text_walk.specs.Cite.{turnOf, gapIn, gapBy, carriedOf, sentOf, walkTexts, nodesBy, streamBy};
+ghost use Rattle.theory_reading.specs.Limits.{optionLimit, levelLimit, wordLimit};
+ghost use Rattle.theory_writing.specs.Run.{head, operate};
+ghost use Rattle.theory_engine.specs.Operands.{secondOperand};
+ghost use Rattle.theory_engine.specs.Finishing.{finishIn};
+ghost use Rattle.theory_combining.specs.BlockReaders.{deepOf, sourceOf, nextReader};
+ghost use Rattle.meeting.specs.Abstraction.{progressOf};
+ghost use Rattle.operands.specs.Abstraction.{operandOf, begunIn};
+ghost use Rattle.text_walk.specs.Abstraction.{firstValue, gapIn, gapBy, carriedOf, sentOf, walkTexts, nodesBy, streamBy};
 use applier::apply;
 use blocks::Block;
 use edges::operate;
-use feeds::Begun;
-use feeds::Feed;
-use feeds::edge_of;
-use feeds::first_half;
-use feeds::second_half;
-use feeds::turn_of;
 use meeting::Half;
-use meeting::Pen;
+use meeting::Progress;
 use meeting::Walked;
 use meeting::done;
 use meeting::half_of;
-use meeting::pen_after;
-use meeting::pen_of;
+use meeting::progress_after;
+use meeting::progress_of;
 use meeting::second;
+use operands::Begun;
+use operands::Operand;
+use operands::edge_of;
+use operands::first_half;
+use operands::first_value;
+use operands::second_half;
 use pending_text::Sent;
 use pending_text::push;
 use pending_text::push_number;
-use pending_text::push_turn;
+use pending_text::push_tilde;
 use pending_text::send;
 use pending_text::wait;
 use scanner::OPEN_LIMIT;
@@ -50,7 +50,7 @@ pub struct Task {
 }
 
 // No option is left, or no input is in its text.
-fn at_edges(d: u32, f: Feed, g: Feed) -> bool
+fn at_edges(d: u32, f: Operand, g: Operand) -> bool
     ensures { λ r. ⌜ r ≡ (eqb d 0 || not (f .inside || (g .inside || false))) ⌝ }
 {
     if d == 0 {
@@ -91,13 +91,13 @@ fn second_of(a: Applied) -> Block
 
 // Nothing is walked after it.
 fn is_halted(a: Applied) -> bool
-    ensures { λ r. ⌜ r ≡ (a .ended || a .walked .pen .full) ⌝ }
+    ensures { λ r. ⌜ r ≡ (a .ended || a .walked .progress .full) ⌝ }
 {
     let e = a.ended;
     if e {
         return true;
     }
-    let x = pen_of(walked_of(a));
+    let x = progress_of(walked_of(a));
     x.full
 }
 
@@ -119,10 +119,11 @@ fn first_on(
     s: &[u8],
     t: &mut [[u32; 6]],
     o: &mut [[u32; 4]; OPEN_LIMIT],
-    f: Feed,
+    f: Operand,
     a: Applied,
 ) -> Begun
-    ensures { λ r. ⌜ begunIn r (now (o .exit)) (now (s .entry)) (now (t .exit)) ≡ secondFeed deepOf sourceOf (nextTape n) i (feedOf f (a .first) (now (o .entry)) (now (s .entry)) (now (t .entry))) ⌝ }
+    ensures { λ r. ⌜ begunIn r (now (o .exit)) (now (s .entry)) (now (t .exit))
+        ≡ secondOperand deepOf sourceOf (nextReader n) i (operandOf f (a .first) (now (o .entry)) (now (s .entry)) (now (t .entry))) ⌝ }
 {
     let b = a.first;
     second_half(n, i, s, t, o, f, b)
@@ -134,39 +135,40 @@ fn second_on(
     s: &[u8],
     t: &mut [[u32; 6]],
     o: &mut [[u32; 4]; OPEN_LIMIT],
-    f: Feed,
+    f: Operand,
     a: Applied,
 ) -> Begun
-    ensures { λ r. ⌜ begunIn r (now (o .exit)) (now (s .entry)) (now (t .exit)) ≡ secondFeed deepOf sourceOf (nextTape n) i (feedOf f (a .second) (now (o .entry)) (now (s .entry)) (now (t .entry))) ⌝ }
+    ensures { λ r. ⌜ begunIn r (now (o .exit)) (now (s .entry)) (now (t .exit))
+        ≡ secondOperand deepOf sourceOf (nextReader n) i (operandOf f (a .second) (now (o .entry)) (now (s .entry)) (now (t .entry))) ⌝ }
 {
     let b = a.second;
     second_half(n, i, s, t, o, f, b)
 }
 
-// Between the halves: the first half, the pen after it, the `~` of the second, and how many bytes wait
+// Between the halves: the first half, the progress after it, the `~` of the second, and how many bytes wait
 struct Gap {
     half: Half,
-    pen: Pen,
-    turned: bool,
+    progress: Progress,
+    complement: bool,
     count: usize,
 }
 
 // f and g: the inputs at the second half, m bytes waiting before the first, which came to a
 fn cross(op: u32, m: usize, f: Begun, g: Begun, a: Applied, w: &mut [u8]) -> Gap
-    ensures { λ r. ⌜ gapIn r (now (w .exit)) ≡ gapBy op m (turnOf f) (turnOf g) (a .walked) (now (w .entry)) ⌝ }
+    ensures { λ r. ⌜ gapIn r (now (w .exit)) ≡ gapBy op m (firstValue f) (firstValue g) (a .walked) (now (w .entry)) ⌝ }
 {
     let r = walked_of(a);
     let h = half_of(r);
-    let z = pen_of(r);
-    let c = turn_of(f.feed, f.block);
-    let d = turn_of(g.feed, g.block);
+    let z = progress_of(r);
+    let c = first_value(f.operand, f.block);
+    let d = first_value(g.operand, g.block);
     let u = differs(h.complement, operate(op, c, d));
     let q = wait(w, m, h.wrote, h.skipped, h.number);
-    let v = push_turn(w, q, u);
+    let v = push_tilde(w, q, u);
     Gap {
         half: h,
-        pen: z,
-        turned: u,
+        progress: z,
+        complement: u,
         count: v,
     }
 }
@@ -204,8 +206,8 @@ fn texts(
     m: usize,
     x: &[u8],
     y: &[u8],
-    f: Feed,
-    g: Feed,
+    f: Operand,
+    g: Operand,
     b1: Block,
     b2: Block,
     o1: &mut [[u32; 4]; OPEN_LIMIT],
@@ -216,15 +218,18 @@ fn texts(
     out: &mut [u8],
     w: &mut [u8],
     c: &mut [[u32; 9]],
-    pen: Pen,
+    progress: Progress,
 ) -> Applied
     requires { ⌜ (d ≤ optionLimit) × ((i + d ≤ levelLimit) × (at + 2 ^ d ≤ wordLimit)) ⌝ }
-    ensures { λ r. ⌜ carriedOf r (now (x .entry)) (now (y .entry)) (now (o1 .exit)) (now (o2 .exit)) (now (t1 .exit)) (now (t2 .exit)) (now (t .exit)) (now (out .exit)) (now (w .exit)) (now (c .exit)) ≡ walkTexts k d i at m (feedOf f b1 (now (o1 .entry)) (now (x .entry)) (now (t1 .entry)) ∷ feedOf g b2 (now (o2 .entry)) (now (y .entry)) (now (t2 .entry)) ∷ []) (now (c .entry)) (now (t .entry)) (now (out .entry)) (now (w .entry)) (penOf pen) ⌝ }
+    ensures { λ r. ⌜ carriedOf r (now (x .entry)) (now (y .entry)) (now (o1 .exit)) (now (o2 .exit)) (now (t1 .exit)) (now (t2 .exit)) (now (t .exit))
+        (now (out .exit)) (now (w .exit)) (now (c .exit)) ≡ walkTexts k d i at m
+        (operandOf f b1 (now (o1 .entry)) (now (x .entry)) (now (t1 .entry)) ∷ operandOf g b2 (now (o2 .entry)) (now (y .entry)) (now (t2 .entry))
+        ∷ []) (now (c .entry)) (now (t .entry)) (now (out .entry)) (now (w .entry)) (progressOf progress) ⌝ }
 {
     if at_edges(d, f, g) {
         let p = edge_of(f, b1);
         let q = edge_of(g, b2);
-        let r = apply(k.op, k.size, d, i, m, p, q, t1, t2, t, out, w, c, pen);
+        let r = apply(k.op, k.size, d, i, m, p, q, t1, t2, t, out, w, c, progress);
         return went_on(r, b1, b2);
     }
     let e = d - 1;
@@ -253,7 +258,7 @@ fn texts(
         out,
         w,
         c,
-        pen,
+        progress,
     );
     if is_halted(a) {
         return a;
@@ -264,7 +269,7 @@ fn texts(
     let f2 = first_on(k.n, i, x, t1, o1, f, a);
     let g2 = second_on(k.n, i, y, t2, o2, g, a);
     let n = cross(k.op, p, f2, g2, a, w);
-    let z = n.pen;
+    let z = n.progress;
     let b = texts(
         k,
         e,
@@ -273,8 +278,8 @@ fn texts(
         n.count,
         x,
         y,
-        f2.feed,
-        g2.feed,
+        f2.operand,
+        g2.operand,
         f2.block,
         g2.block,
         o1,
@@ -291,7 +296,7 @@ fn texts(
         return b;
     }
     let h = n.half;
-    let l = second(k.size, i, n.count, n.turned, h, walked_of(b), t, out, w);
+    let l = second(k.size, i, n.count, n.complement, h, walked_of(b), t, out, w);
     met(l, b)
 }
 
@@ -300,13 +305,14 @@ fn texts(
 // After the walk: of a whole run what waits, and the point. m: how much waited before it
 fn finish(n: u32, covered: u64, m: usize, a: Applied, out: &mut [u8], w: &mut [u8]) -> Sent
     requires { ⌜ n ≤ optionLimit ⌝ }
-    ensures { λ r. ⌜ sentOf r (now (out .exit)) (now (w .exit)) ≡ finishIn n covered m (carriedOf a [] [] [] [] [] [] [] (now (out .entry)) (now (w .entry)) [] .applied) ⌝ }
+    ensures { λ r. ⌜ sentOf r (now (out .exit)) (now (w .exit)) ≡ finishIn n covered m
+        (carriedOf a [] [] [] [] [] [] [] (now (out .entry)) (now (w .entry)) [] .applied) ⌝ }
 {
     let r = walked_of(a);
     if covered == 1u64 << n {
         return done(m, r, out, w);
     }
-    let x = pen_of(r);
+    let x = progress_of(r);
     Sent {
         written: x.written,
         full: x.full,
@@ -331,14 +337,20 @@ fn nodes(
     head: Sent,
 ) -> Sent
     requires { ⌜ k .n ≤ optionLimit ⌝ }
-    ensures { λ r. ⌜ sentOf r (now (out .exit)) (now (w .exit)) ≡ nodesBy k (begunIn f (now (o1 .entry)) (now (x .entry)) (now (t1 .entry)) ∷ begunIn g (now (o2 .entry)) (now (y .entry)) (now (t2 .entry)) ∷ []) (now (c .entry)) (now (t .entry)) (sentOf head (now (out .entry)) (now (w .entry))) ⌝ }
+    ensures { λ r. ⌜ sentOf r (now (out .exit)) (now (w .exit)) ≡ nodesBy k
+        (begunIn f (now (o1 .entry)) (now (x .entry)) (now (t1 .entry)) ∷ begunIn g (now (o2 .entry)) (now (y .entry)) (now (t2 .entry)) ∷ [])
+        (now (c .entry)) (now (t .entry)) (sentOf head (now (out .entry)) (now (w .entry))) ⌝ }
 {
-    let m = push_turn(
+    let m = push_tilde(
         w,
         0,
-        operate(k.op, turn_of(f.feed, f.block), turn_of(g.feed, g.block)),
+        operate(
+            k.op,
+            first_value(f.operand, f.block),
+            first_value(g.operand, g.block),
+        ),
     );
-    let z = pen_after(head);
+    let z = progress_after(head);
     let a = texts(
         k,
         k.n,
@@ -347,8 +359,8 @@ fn nodes(
         m,
         x,
         y,
-        f.feed,
-        g.feed,
+        f.operand,
+        g.operand,
         f.block,
         g.block,
         o1,
@@ -391,7 +403,9 @@ pub fn stream(
     w: &mut [u8],
     c: &mut [[u32; 9]],
 ) -> Sent
-    ensures { λ r. ⌜ sentOf r (now (out .exit)) (now (w .exit)) ≡ streamBy k (begunIn f (now (o1 .entry)) (now (x .entry)) (now (t1 .entry)) ∷ begunIn g (now (o2 .entry)) (now (y .entry)) (now (t2 .entry)) ∷ []) (now (c .entry)) (now (t .entry)) (now (out .entry)) (now (w .entry)) ⌝ }
+    ensures { λ r. ⌜ sentOf r (now (out .exit)) (now (w .exit)) ≡ streamBy k
+        (begunIn f (now (o1 .entry)) (now (x .entry)) (now (t1 .entry)) ∷ begunIn g (now (o2 .entry)) (now (y .entry)) (now (t2 .entry)) ∷ [])
+        (now (c .entry)) (now (t .entry)) (now (out .entry)) (now (w .entry)) ⌝ }
 {
     if OPTION_LIMIT < k.n {
         return Sent {

@@ -3,10 +3,11 @@ ghost use mathlib.Core.Path.{_≡_};
 ghost use mathlib.Core.Bool.{cond};
 ghost use lib.ListN.{length, replicate};
 ghost use Prim.Native.Nat.{_+_, _-_, _<_};
-ghost use Rattle.writing.specs.Links.{stops};
-ghost use Rattle.engine.specs.Cells.{cell, putCell};
-ghost use Rattle.engine.specs.Hashing.{stir};
-ghost use Rattle.engine.specs.Recycling.{oneMore, leaveIn, joinIn, freeOf, bucketOf, fitsAt, searchIn, findIn, shelveIn, unshelveIn, moreIn, fewerIn, orphanIn, orphansIn, releaseIn, adoptIn, noteIn, placeIn, storeIn, nextIn};
+ghost use Rattle.theory_writing.specs.Links.{stops};
+ghost use Rattle.theory_engine.specs.Cells.{cell, putCell};
+ghost use Rattle.theory_engine.specs.Hashing.{stir};
+ghost use Rattle.theory_engine.specs.Recycling.{oneMore, unlinkIn, linkIn, freeOf, bucketOf, fitsAt, searchIn, findIn, insertIn, removeIn, moreIn};
+ghost use Rattle.theory_engine.specs.Recycling.{fewerIn, orphanIn, orphansIn, releaseIn, adoptIn, noteIn, placeIn, storeIn, nextIn};
 use work_table::TABLE_LIMIT;
 
 // ---- Records: the cells of a number are 0 level, 1 and 2 children, 3 complement, 4 stamp, 5 parents, 6 and 7 the numbers after and before it in the
@@ -66,9 +67,9 @@ pub fn either(c: bool, x: u32, y: u32) -> u32
 }
 
 // k leaves the queue (j is 6) or a bucket (j is 8).
-fn leave(t: &mut [[u32; 12]], j: usize, e: Ends, k: u32) -> Ends
+fn unlink(t: &mut [[u32; 12]], j: usize, e: Ends, k: u32) -> Ends
     requires { ⌜ j + 1 < 12 ⌝ }
-    ensures { λ r. ⌜ record { table = now (t .exit); first = r .first; last = r .last } ≡ leaveIn (now (t .entry)) j (e .first) (e .last) k ⌝ }
+    ensures { λ r. ⌜ record { table = now (t .exit); first = r .first; last = r .last } ≡ unlinkIn (now (t .entry)) j (e .first) (e .last) k ⌝ }
 {
     let p = get(t, j + 1, k);
     let x = get(t, j, k);
@@ -81,9 +82,9 @@ fn leave(t: &mut [[u32; 12]], j: usize, e: Ends, k: u32) -> Ends
 }
 
 // k joins at the end.
-fn join(t: &mut [[u32; 12]], j: usize, e: Ends, k: u32) -> Ends
+fn link_last(t: &mut [[u32; 12]], j: usize, e: Ends, k: u32) -> Ends
     requires { ⌜ j + 1 < 12 ⌝ }
-    ensures { λ r. ⌜ record { table = now (t .exit); first = r .first; last = r .last } ≡ joinIn (now (t .entry)) j (e .first) (e .last) k ⌝ }
+    ensures { λ r. ⌜ record { table = now (t .exit); first = r .first; last = r .last } ≡ linkIn (now (t .entry)) j (e .first) (e .last) k ⌝ }
 {
     let l = e.last;
     put(t, j, k, 0);
@@ -201,25 +202,25 @@ pub fn find(t: &[[u32; 12]], z: u32, i: u32, a: u32, b: u32, c: u32) -> u32
 }
 
 // Number k joins its bucket.
-fn shelve(t: &mut [[u32; 12]], k: u32)
-    ensures { λ _. ⌜ now (t .exit) ≡ shelveIn (now (t .entry)) k ⌝ }
+fn bucket_insert(t: &mut [[u32; 12]], k: u32)
+    ensures { λ _. ⌜ now (t .exit) ≡ insertIn (now (t .entry)) k ⌝ }
 {
     let h = bucket_at(t, k);
     let f = get(t, 10, h);
     let l = get(t, 11, h);
-    let e = join(t, 8, Ends { first: f, last: l }, k);
+    let e = link_last(t, 8, Ends { first: f, last: l }, k);
     put(t, 10, h, e.first);
     put(t, 11, h, e.last);
 }
 
 // It leaves it.
-fn unshelve(t: &mut [[u32; 12]], k: u32)
-    ensures { λ _. ⌜ now (t .exit) ≡ unshelveIn (now (t .entry)) k ⌝ }
+fn bucket_remove(t: &mut [[u32; 12]], k: u32)
+    ensures { λ _. ⌜ now (t .exit) ≡ removeIn (now (t .entry)) k ⌝ }
 {
     let h = bucket_at(t, k);
     let f = get(t, 10, h);
     let l = get(t, 11, h);
-    let e = leave(t, 8, Ends { first: f, last: l }, k);
+    let e = unlink(t, 8, Ends { first: f, last: l }, k);
     put(t, 10, h, e.first);
     put(t, 11, h, e.last);
 }
@@ -263,7 +264,7 @@ fn orphan(t: &mut [[u32; 12]], e: Ends, c: u32) -> Ends
     if get(t, 5, c) != 0 {
         return e;
     }
-    join(t, 6, e, c)
+    link_last(t, 6, e, c)
 }
 
 // The children x and y of a node that is no more.
@@ -283,8 +284,8 @@ fn orphans(t: &mut [[u32; 12]], e: Ends, x: u32, y: u32) -> Ends
 fn release(t: &mut [[u32; 12]], e: Ends, k: u32) -> Ends
     ensures { λ r. ⌜ record { table = now (t .exit); first = r .first; last = r .last } ≡ releaseIn (now (t .entry)) (e .first) (e .last) k ⌝ }
 {
-    let f = leave(t, 6, e, k);
-    unshelve(t, k);
+    let f = unlink(t, 6, e, k);
+    bucket_remove(t, k);
     let x = get(t, 1, k);
     let y = get(t, 2, k);
     orphans(t, f, x, y)
@@ -302,7 +303,7 @@ fn adopt(t: &mut [[u32; 12]], e: Ends, c: u32) -> Ends
     if p != 0 {
         return e;
     }
-    leave(t, 6, e, c)
+    unlink(t, 6, e, c)
 }
 
 // The record of number k gets a node.
@@ -324,8 +325,8 @@ fn place(t: &mut [[u32; 12]], e: Ends, k: u32, i: u32, a: u32, b: u32, c: u32) -
     let f = adopt(t, e, a);
     let g = adopt(t, f, b);
     note(t, k, i, a, b, c);
-    shelve(t, k);
-    join(t, 6, g, k)
+    bucket_insert(t, k);
+    link_last(t, 6, g, k)
 }
 
 // Of z numbers given out k is reused, or it is the next.

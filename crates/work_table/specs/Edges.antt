@@ -2,13 +2,13 @@
 use mathlib.Core.Bool.{cond, _||_}
 use Prim.Native.Nat.{ℕ}
 use lib.Dec.{ltb, eqb}
-use Rattle.lists.specs.Lists.{differ}
+use Rattle.theory_lists.specs.Lists.{differ}
 use Rattle.work_table.specs.declared.Edge.{Edge}
-use Rattle.work_table.specs.declared.Row.{Row}
+use Rattle.work_table.specs.declared.NodeRecord.{NodeRecord}
 
 -- the children of the node of level i that e stands for; x: the record of its number. Inside brackets `(A)` both are e again
-abbrev pub firstEdge : Row → ℕ → Edge → Edge
-firstEdge x i e = cond (eqb (e .number) 0 || ltb i (x .level)) e (record { number = x .first; turned = e .turned })
+abbrev pub firstEdge : NodeRecord → ℕ → Edge → Edge
+firstEdge x i e = cond (eqb (e .number) 0 || ltb i (x .level)) e (record { number = x .first; complement = e .complement })
 
-abbrev pub secondEdge : Row → ℕ → Edge → Edge
-secondEdge x i e = cond (eqb (e .number) 0 || ltb i (x .level)) e (record { number = x .second; turned = differ (x .complement) (e .turned) })
+abbrev pub secondEdge : NodeRecord → ℕ → Edge → Edge
+secondEdge x i e = cond (eqb (e .number) 0 || ltb i (x .level)) e (record { number = x .second; complement = differ (x .complement) (e .complement) })

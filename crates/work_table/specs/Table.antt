@@ -11,24 +11,32 @@ use borrow.Author.Tests.{ne-eqb, lt-ltb, le-ltb}
 use lib.Dec.{ltb, eqb}
 use lib.ListN.{length, getD, set, drop, replicate, drop-of-length-le, List·getD-eq-default}
 use mathlib.Core.Logic.{⊎-elim}
-use Rattle.lists.specs.Lists.{decide-le}
-use Rattle.work_table.specs.declared.Row.{Row}
+use Rattle.theory_lists.specs.Lists.{decide-le}
+use Rattle.work_table.specs.declared.NodeRecord.{NodeRecord}
 
-abbrev pub noRow : Row
-noRow = record { level = 0; first = 0; second = 0; complement = false; stamp = 0; parents = 0 }
+abbrev pub noNodeRecord : NodeRecord
+noNodeRecord = record { level = 0; first = 0; second = 0; complement = false; stamp = 0; parents = 0 }
 
 -- a record of the lent table, and back
-abbrev pub rowOf : List ℕ → Row
-rowOf a = record { level = getD a 0 0; first = getD a 1 0; second = getD a 2 0; complement = not (eqb (getD a 3 0) 0); stamp = getD a 4 0; parents = getD a 5 0 }
+abbrev pub recordOf : List ℕ → NodeRecord
+recordOf a = record {
+  level = getD a 0 0;
+  first = getD a 1 0;
+  second = getD a 2 0;
+  complement = not (eqb (getD a 3 0) 0);
+  stamp = getD a 4 0;
+  parents
+      = getD a 5 0;
+}
 
-abbrev pub listOf : Row → List ℕ
+abbrev pub listOf : NodeRecord → List ℕ
 listOf x = x .level ∷ x .first ∷ x .second ∷ cond (x .complement) 1 0 ∷ x .stamp ∷ x .parents ∷ []
 
 -- the record of number k in a table of z numbers
-abbrev pub getIn : List (List ℕ) → ℕ → ℕ → Row
-getIn t z k = cond (eqb k 0 || ltb z k) noRow (rowOf (getD t (k - 1) []))
+abbrev pub getIn : List (List ℕ) → ℕ → ℕ → NodeRecord
+getIn t z k = cond (eqb k 0 || ltb z k) noNodeRecord (recordOf (getD t (k - 1) []))
 
-abbrev pub putAt : List (List ℕ) → ℕ → Row → List (List ℕ)
+abbrev pub putAt : List (List ℕ) → ℕ → NodeRecord → List (List ℕ)
 putAt t k x = cond (eqb k 0) t (set t (k - 1) (listOf x))
 
 -- one parent more or less
@@ -44,7 +52,7 @@ abbrev pub countAt : List (List ℕ) → ℕ → ℕ → Bool → List (List ℕ
 countAt t z k more = cond (eqb k 0 || ltb z k) t (set t (k - 1) (countedList (getD t (k - 1) []) more))
 
 -- the number k is given to x: the children of the record that had it lose a parent, those of x get one
-unfoldable pub storeAt : List (List ℕ) → ℕ → ℕ → Row → List (List ℕ)
+unfoldable pub storeAt : List (List ℕ) → ℕ → ℕ → NodeRecord → List (List ℕ)
 storeAt t z k x =
     let old = getIn t z k in
     countAt (countAt (countAt (countAt (putAt t k x) z (old .first) false) z (old .second) false) z (x .first) true) z (x .second) true
@@ -64,40 +72,41 @@ set-past (r ∷ t) zero x h = absurd (not-suc-le-zero h)
 set-past (r ∷ t) (suc i) x h = ap (λ (l : List (List ℕ)). r ∷ l) (set-past t i x (omega (arith, h)))
 
 module _ (t : List (List ℕ)) where
-  pub get-none : (z k : ℕ) → k ≡ 0 → noRow ≡ getIn t z k
+  pub get-none : (z k : ℕ) → k ≡ 0 → noNodeRecord ≡ getIn t z k
   get-none z k e = rw e refl
 
-  pub get-above : (z k : ℕ) → (k ≡ 0 → ⊥) → z < k → noRow ≡ getIn t z k
+  pub get-above : (z k : ℕ) → (k ≡ 0 → ⊥) → z < k → noNodeRecord ≡ getIn t z k
   get-above z k h l = rw (ne-eqb k 0 h, lt-ltb z k l) refl
 
-  pub get-here : (z k : ℕ) → (k ≡ 0 → ⊥) → k ≤ z → rowOf (getD t (k - 1) []) ≡ getIn t z k
+  pub get-here : (z k : ℕ) → (k ≡ 0 → ⊥) → k ≤ z → recordOf (getD t (k - 1) []) ≡ getIn t z k
   get-here z k h l = rw (ne-eqb k 0 h, le-ltb z k l) refl
 
-  pub get-past : (z k : ℕ) → (k ≡ 0 → ⊥) → k ≤ z → length t ≤ k - 1 → noRow ≡ getIn t z k
-  get-past z k h l p = ap rowOf (sym (List·getD-eq-default t [] p)) ∙ get-here z k h l
+  pub get-past : (z k : ℕ) → (k ≡ 0 → ⊥) → k ≤ z → length t ≤ k - 1 → noNodeRecord ≡ getIn t z k
+  get-past z k h l p = ap recordOf (sym (List·getD-eq-default t [] p)) ∙ get-here z k h l
 
-  pub put-none : (k : ℕ) (x : Row) → k ≡ 0 → t ≡ putAt t k x
+  pub put-none : (k : ℕ) (x : NodeRecord) → k ≡ 0 → t ≡ putAt t k x
   put-none k x e = rw e refl
 
-  pub put-here : (k : ℕ) (x : Row) (b : ℕ) → (k ≡ 0 → ⊥) → b ≡ cond (x .complement) 1 0
+  pub put-here : (k : ℕ) (x : NodeRecord) (b : ℕ) → (k ≡ 0 → ⊥) → b ≡ cond (x .complement) 1 0
       → set t (k - 1) (x .level ∷ x .first ∷ x .second ∷ b ∷ x .stamp ∷ x .parents ∷ []) ≡ putAt t k x
   put-here k x b h e = rw (e, ne-eqb k 0 h) refl
 
-  pub put-past : (k : ℕ) (x : Row) → (k ≡ 0 → ⊥) → length t ≤ k - 1 → t ≡ putAt t k x
+  pub put-past : (k : ℕ) (x : NodeRecord) → (k ≡ 0 → ⊥) → length t ≤ k - 1 → t ≡ putAt t k x
   put-past k x h p = rw (ne-eqb k 0 h) (sym (set-past t (k - 1) (listOf x) p))
 
 -- what `store` does, call by call
-pub store-made : (t b c d e f : List (List ℕ)) (z k : ℕ) (x old : Row) → old ≡ getIn t z k → b ≡ putAt t k x
+pub store-correct : (t b c d e f : List (List ℕ)) (z k : ℕ) (x old : NodeRecord) → old ≡ getIn t z k → b ≡ putAt t k x
     → c ≡ countAt b z (old .first) false → d ≡ countAt c z (old .second) false
     → e ≡ countAt d z (x .first) true → f ≡ countAt e z (x .second) true → f ≡ storeAt t z k x
 unfolding storeAt
-store-made t b c d e f z k x old oe be ce de ee fe =
+store-correct t b c d e f z k x old oe be ce de ee fe =
     fe
     ∙ ap (λ (l : List (List ℕ)). countAt l z (x .second) true) (ee
     ∙ ap (λ (l : List (List ℕ)). countAt l z (x .first) true) (de
     ∙ ap (λ (l : List (List ℕ)). countAt l z (old .second) false) (ce
     ∙ ap (λ (l : List (List ℕ)). countAt l z (old .first) false) be)))
-    ∙ ap (λ (o : Row). countAt (countAt (countAt (countAt (putAt t k x) z (o .first) false) z (o .second) false) z (x .first) true) z (x .second) true) oe
+    ∙ ap (λ (o : NodeRecord). countAt (countAt (countAt (countAt (putAt t k x) z (o .first) false) z (o .second) false) z (x .first) true) z
+    (x .second) true) oe
 
 pub count-none : (t : List (List ℕ)) (z k : ℕ) (more : Bool) → k ≡ 0 → t ≡ countAt t z k more
 count-none t z k more e = rw e refl
@@ -105,7 +114,8 @@ count-none t z k more e = rw e refl
 pub count-above : (t : List (List ℕ)) (z k : ℕ) (more : Bool) → (k ≡ 0 → ⊥) → z < k → t ≡ countAt t z k more
 count-above t z k more h l = rw (ne-eqb k 0 h, lt-ltb z k l) refl
 
-pub count-here : (t : List (List ℕ)) (z k : ℕ) (more : Bool) → (k ≡ 0 → ⊥) → k ≤ z → set t (k - 1) (countedList (getD t (k - 1) []) more) ≡ countAt t z k more
+pub count-here : (t : List (List ℕ)) (z k : ℕ) (more : Bool) → (k ≡ 0 → ⊥) → k ≤ z → set t (k - 1) (countedList (getD t (k - 1) []) more)
+    ≡ countAt t z k more
 count-here t z k more h l = rw (ne-eqb k 0 h, le-ltb z k l) refl
 
 pub count-past : (t : List (List ℕ)) (z k : ℕ) (more : Bool) → (k ≡ 0 → ⊥) → k ≤ z → length t ≤ k - 1 → t ≡ countAt t z k more
@@ -152,5 +162,6 @@ clear-all t i m h l =
 pub clear-least : (t : List (List ℕ)) (m : ℕ) → clearTo t (min m (length t)) ≡ clearTo t m
 clear-least t m = ⊎-elim
     (λ (h : m ≤ length t). let e : min m (length t) ≡ m = omega (arith, h) in ap (clearTo t) e)
-    (λ (h : length t < m). let e : min m (length t) ≡ length t = omega (arith, h) in ap (clearTo t) e ∙ clear-all t (length t) m (omega arith) (omega (arith, h)))
+    (λ (h : length t < m). let e : min m (length t) ≡ length t = omega (arith, h) in ap (clearTo t) e
+    ∙ clear-all t (length t) m (omega arith) (omega (arith, h)))
     (decide-le m (length t))

@@ -6,27 +6,29 @@ use mathlib.Core.List.{List, [], _∷_, map}
 use Prim.Native.Nat.{ℕ, zero, suc, _+_, _-_, min, _<_, _≤_}
 use native.Mathlib.Omega.{arith}
 use lib.Dec.{ltb, eqb}
-use lib.ListN.{length, getD, set, take, drop, replicate, length-set, length-map, length-take, length-append, length-replicate, length-drop, getD-replicate, List·getD-append, List·getD-map, List·getD-eq-default}
+use lib.ListN.{length, getD, set, take, drop, replicate, length-set, length-map, length-take, length-append, length-replicate, length-drop}
+use lib.ListN.{getD-replicate, List·getD-append, List·getD-map, List·getD-eq-default}
 use lib.Seq.{take-at, take-set-lt, set-getD, getD-take, getD-set-same, getD-set-other}
 use borrow.Author.Tests.{ne-eqb, eq-eqb, lt-ltb}
-use Rattle.lists.specs.Lists.{bit, decide-eq, decide-le}
-use Rattle.lists.specs.Maps.{map-replicate}
-use Rattle.reading.specs.Limits.{tableLimit}
-use Rattle.reading.specs.LimitLaws.{few-parents}
-use Rattle.reading.specs.Nodes.{Node, newNode, noNode, node}
-use Rattle.reading.specs.ParentCounts.{edges, parents, parents-set, parents-most, parents-fresh, edges-parents}
-use Rattle.work_table.specs.declared.Row.{Row}
-use Rattle.work_table.specs.Table.{noRow, rowOf, listOf, getIn, putAt, countedTo, countedList, countAt, storeAt, noRecord, clearTo, get-above, get-here, put-none, put-here, count-none, count-above, count-here}
+use Rattle.theory_lists.specs.Lists.{bit, decide-eq, decide-le}
+use Rattle.theory_lists.specs.Maps.{map-replicate}
+use Rattle.theory_reading.specs.Limits.{tableLimit}
+use Rattle.theory_reading.specs.LimitLaws.{few-parents}
+use Rattle.theory_reading.specs.Nodes.{Node, newNode, noNode, node}
+use Rattle.theory_reading.specs.ParentCounts.{edges, parents, parents-set, parents-most, parents-fresh, edges-parents}
+use Rattle.work_table.specs.declared.NodeRecord.{NodeRecord}
+use Rattle.work_table.specs.Table.{noNodeRecord, recordOf, listOf, getIn, putAt, countedTo, countedList, countAt, storeAt, noRecord, clearTo}
+use Rattle.work_table.specs.Table.{get-above, get-here, put-none, put-here, count-none, count-above, count-here}
 
 -- ---- The records as the theory's table -------------------------------------------------------
 
 -- a row without the count of its parents
-abbrev pub rowNode : Row → Node
-rowNode x = newNode (x .level) (x .first) (x .second) (x .complement) (x .stamp)
+abbrev pub recordNode : NodeRecord → Node
+recordNode x = newNode (x .level) (x .first) (x .second) (x .complement) (x .stamp)
 
 -- a record of the lent table, as the theory has it
 abbrev pub nodeOf : List ℕ → Node
-nodeOf a = rowNode (rowOf a)
+nodeOf a = recordNode (recordOf a)
 
 -- the theory's table of the first z records
 abbrev pub tableOf : List (List ℕ) → ℕ → List Node
@@ -37,37 +39,46 @@ pub table-length : (t : List (List ℕ)) (z : ℕ) → z ≤ length t → length
 table-length t z h = ap suc (length-map (take z t) nodeOf ∙ length-take z t ∙ omega (arith, h))
 
 -- Each number has the record that code reads, 0 and those above the size have none.
-pub table-node : (t : List (List ℕ)) (z k : ℕ) → node (tableOf t z) k ≡ rowNode (getIn t z k)
+pub table-node : (t : List (List ℕ)) (z k : ℕ) → node (tableOf t z) k ≡ recordNode (getIn t z k)
 table-node t z zero = refl
 table-node t z (suc k) = List·getD-map nodeOf (take z t) k [] ∙ ⊎-elim inside above (decide-le (suc k) z)
   where
-    inside : suc k ≤ z → nodeOf (getD (take z t) k []) ≡ rowNode (getIn t z (suc k))
+    inside : suc k ≤ z → nodeOf (getD (take z t) k []) ≡ recordNode (getIn t z (suc k))
     inside h =
         let e : k ≡ suc k - 1 = omega arith in
-        ap nodeOf (getD-take z t k [] h ∙ ap (λ (i : ℕ). getD t i []) e) ∙ ap rowNode (get-here t z (suc k) (λ i. omega (arith, i)) h)
+        ap nodeOf (getD-take z t k [] h ∙ ap (λ (i : ℕ). getD t i []) e) ∙ ap recordNode (get-here t z (suc k) (λ i. omega (arith, i)) h)
 
-    above : z < suc k → nodeOf (getD (take z t) k []) ≡ rowNode (getIn t z (suc k))
+    above : z < suc k → nodeOf (getD (take z t) k []) ≡ recordNode (getIn t z (suc k))
     above h =
         let s : length (take z t) ≤ k = omega (arith, length-take z t, h) in
-        ap nodeOf (List·getD-eq-default (take z t) [] s) ∙ ap rowNode (get-above t z (suc k) (λ i. omega (arith, i)) h)
+        ap nodeOf (List·getD-eq-default (take z t) [] s) ∙ ap recordNode (get-above t z (suc k) (λ i. omega (arith, i)) h)
 
 -- ---- One record ------------------------------------------------------------------------------
 
-row-list : (x : Row) → rowOf (listOf x) ≡ x
-row-list x = ap (λ (b : Bool). record { level = x .level; first = x .first; second = x .second; complement = b; stamp = x .stamp; parents = x .parents }) (same (x .complement))
+record-list : (x : NodeRecord) → recordOf (listOf x) ≡ x
+record-list x = ap (λ (b : Bool). record {
+  level = x .level;
+  first = x .first;
+  second = x .second;
+  complement = b;
+  stamp = x .stamp;
+  parents = x
+      .parents;
+}) (same (x .complement))
   where
     same : (b : Bool) → not (eqb (cond b 1 0) 0) ≡ b
     same true = refl
     same false = refl
 
 get-same : (t u : List (List ℕ)) (z k : ℕ) → ((k ≡ 0 → ⊥) → getD t (k - 1) [] ≡ getD u (k - 1) []) → getIn t z k ≡ getIn u z k
-get-same t u z k h = ⊎-elim (λ e. rw e refl) (λ n. ap (λ (a : List ℕ). cond (eqb k 0 || ltb z k) noRow (rowOf a)) (h n)) (decide-eq k 0)
+get-same t u z k h = ⊎-elim (λ e. rw e refl) (λ n. ap (λ (a : List ℕ). cond (eqb k 0 || ltb z k) noNodeRecord (recordOf a)) (h n)) (decide-eq k 0)
 
-put-set : (t : List (List ℕ)) (k : ℕ) (x : Row) → (k ≡ 0 → ⊥) → putAt t k x ≡ set t (k - 1) (listOf x)
+put-set : (t : List (List ℕ)) (k : ℕ) (x : NodeRecord) → (k ≡ 0 → ⊥) → putAt t k x ≡ set t (k - 1) (listOf x)
 put-set t k x h = sym (put-here t k x (cond (x .complement) 1 0) h refl)
 
-length-put : (t : List (List ℕ)) (k : ℕ) (x : Row) → length (putAt t k x) ≡ length t
-length-put t k x = ⊎-elim (λ e. ap length (sym (put-none t k x e))) (λ n. ap length (put-set t k x n) ∙ length-set t (k - 1) (listOf x)) (decide-eq k 0)
+length-put : (t : List (List ℕ)) (k : ℕ) (x : NodeRecord) → length (putAt t k x) ≡ length t
+length-put t k x = ⊎-elim (λ e. ap length (sym (put-none t k x e))) (λ n. ap length (put-set t k x n) ∙ length-set t (k - 1) (listOf x))
+    (decide-eq k 0)
 
 pred-same : (k j : ℕ) → (k ≡ 0 → ⊥) → (j ≡ 0 → ⊥) → j - 1 ≡ k - 1 → k ≡ j
 pred-same zero j n m e = absurd (n refl)
@@ -75,23 +86,24 @@ pred-same (suc k) zero n m e = absurd (m refl)
 pred-same (suc k) (suc j) n m e = omega (arith, e)
 
 -- the other numbers keep their records
-get-other : (t : List (List ℕ)) (z k j : ℕ) (x : Row) → (k ≡ j → ⊥) → getIn (putAt t k x) z j ≡ getIn t z j
+get-other : (t : List (List ℕ)) (z k j : ℕ) (x : NodeRecord) → (k ≡ j → ⊥) → getIn (putAt t k x) z j ≡ getIn t z j
 get-other t z k j x d = ⊎-elim none some (decide-eq k 0)
   where
     none : k ≡ 0 → getIn (putAt t k x) z j ≡ getIn t z j
     none e = ap (λ (u : List (List ℕ)). getIn u z j) (sym (put-none t k x e))
 
     some : (k ≡ 0 → ⊥) → getIn (putAt t k x) z j ≡ getIn t z j
-    some n = get-same (putAt t k x) t z j (λ m. ap (λ (u : List (List ℕ)). getD u (j - 1) []) (put-set t k x n) ∙ getD-set-other t (k - 1) (j - 1) (listOf x) [] (λ e. d (pred-same k j n m e)))
+    some n = get-same (putAt t k x) t z j (λ m. ap (λ (u : List (List ℕ)). getD u (j - 1) []) (put-set t k x n)
+        ∙ getD-set-other t (k - 1) (j - 1) (listOf x) [] (λ e. d (pred-same k j n m e)))
 
 -- the number has the record that was put
-get-put : (t : List (List ℕ)) (z k : ℕ) (x : Row) → z ≤ length t → (k ≡ 0 → ⊥) → k ≤ z → getIn (putAt t k x) z k ≡ x
+get-put : (t : List (List ℕ)) (z k : ℕ) (x : NodeRecord) → z ≤ length t → (k ≡ 0 → ⊥) → k ≤ z → getIn (putAt t k x) z k ≡ x
 get-put t z k x r n h =
     let i : k - 1 < length t = omega (arith, r, n, h) in
     sym (get-here (putAt t k x) z k n h)
-    ∙ ap (λ (u : List (List ℕ)). rowOf (getD u (k - 1) [])) (put-set t k x n)
-    ∙ ap rowOf (getD-set-same t (k - 1) (listOf x) [] i)
-    ∙ row-list x
+    ∙ ap (λ (u : List (List ℕ)). recordOf (getD u (k - 1) [])) (put-set t k x n)
+    ∙ ap recordOf (getD-set-same t (k - 1) (listOf x) [] i)
+    ∙ record-list x
 
 map-set : (f : List ℕ → Node) (l : List (List ℕ)) (i : ℕ) (a : List ℕ) → map f (set l i a) ≡ set (map f l) i (f a)
 map-set f [] i a = refl
@@ -107,11 +119,11 @@ table-set t z (suc k) a n h =
     ∙ ap (map nodeOf) (take-set-lt z t k a h)
     ∙ map-set nodeOf (take z t) k a)
 
-table-put : (t : List (List ℕ)) (z k : ℕ) (x : Row) → (k ≡ 0 → ⊥) → k ≤ z → tableOf (putAt t k x) z ≡ set (tableOf t z) k (rowNode x)
+table-put : (t : List (List ℕ)) (z k : ℕ) (x : NodeRecord) → (k ≡ 0 → ⊥) → k ≤ z → tableOf (putAt t k x) z ≡ set (tableOf t z) k (recordNode x)
 table-put t z k x n h =
     ap (λ (u : List (List ℕ)). tableOf u z) (put-set t k x n)
     ∙ table-set t z k (listOf x) n h
-    ∙ ap (λ (y : Row). set (tableOf t z) k (rowNode y)) (row-list x)
+    ∙ ap (λ (y : NodeRecord). set (tableOf t z) k (recordNode y)) (record-list x)
 
 -- ---- One parent more or less -----------------------------------------------------------------
 
@@ -126,7 +138,7 @@ table-count t z k b = count-ways k z
     (λ n l. ap (λ (u : List (List ℕ)). tableOf u z) (sym (count-above t z k b n l)))
     (λ n l. ap (λ (u : List (List ℕ)). tableOf u z) (sym (count-here t z k b n l))
     ∙ table-set t z k (countedList (getD t (k - 1) []) b) n l
-    ∙ ap (set (tableOf t z) k) (sym (table-node t z k ∙ ap rowNode (sym (get-here t z k n l))))
+    ∙ ap (set (tableOf t z) k) (sym (table-node t z k ∙ ap recordNode (sym (get-here t z k n l))))
     ∙ set-getD (tableOf t z) k noNode)
 
 length-count : (t : List (List ℕ)) (z k : ℕ) (b : Bool) → length (countAt t z k b) ≡ length t
@@ -136,13 +148,14 @@ length-count t z k b = count-ways k z
     (λ n l. ap length (sym (count-here t z k b n l)) ∙ length-set t (k - 1) (countedList (getD t (k - 1) []) b))
 
 -- the number's own count
-counted-here : (t : List (List ℕ)) (z k : ℕ) (b : Bool) → z ≤ length t → (k ≡ 0 → ⊥) → k ≤ z → getIn (countAt t z k b) z k .parents ≡ countedTo (getIn t z k .parents) b
+counted-here : (t : List (List ℕ)) (z k : ℕ) (b : Bool) → z ≤ length t → (k ≡ 0 → ⊥) → k ≤ z → getIn (countAt t z k b) z k .parents
+    ≡ countedTo (getIn t z k .parents) b
 counted-here t z k b r n h =
     let i : k - 1 < length t = omega (arith, r, n, h) in
-    ap (λ (x : Row). x .parents) (sym (get-here (countAt t z k b) z k n h))
-    ∙ ap (λ (u : List (List ℕ)). rowOf (getD u (k - 1) []) .parents) (sym (count-here t z k b n h))
-    ∙ ap (λ (a : List ℕ). rowOf a .parents) (getD-set-same t (k - 1) (countedList (getD t (k - 1) []) b) [] i)
-    ∙ ap (λ (x : Row). countedTo (x .parents) b) (get-here t z k n h)
+    ap (λ (x : NodeRecord). x .parents) (sym (get-here (countAt t z k b) z k n h))
+    ∙ ap (λ (u : List (List ℕ)). recordOf (getD u (k - 1) []) .parents) (sym (count-here t z k b n h))
+    ∙ ap (λ (a : List ℕ). recordOf a .parents) (getD-set-same t (k - 1) (countedList (getD t (k - 1) []) b) [] i)
+    ∙ ap (λ (x : NodeRecord). countedTo (x .parents) b) (get-here t z k n h)
 
 -- another number keeps its record
 counted-other : (t : List (List ℕ)) (z k j : ℕ) (b : Bool) → (k ≡ j → ⊥) → getIn (countAt t z k b) z j ≡ getIn t z j
@@ -150,7 +163,8 @@ counted-other t z k j b d = count-ways k z
     (λ e. ap (λ (u : List (List ℕ)). getIn u z j) (sym (count-none t z k b e)))
     (λ n l. ap (λ (u : List (List ℕ)). getIn u z j) (sym (count-above t z k b n l)))
     (λ n l. ap (λ (u : List (List ℕ)). getIn u z j) (sym (count-here t z k b n l))
-    ∙ get-same (set t (k - 1) (countedList (getD t (k - 1) []) b)) t z j (λ m. getD-set-other t (k - 1) (j - 1) (countedList (getD t (k - 1) []) b) [] (λ e. d (pred-same k j n m e))))
+    ∙ get-same (set t (k - 1) (countedList (getD t (k - 1) []) b)) t z j
+    (λ m. getD-set-other t (k - 1) (j - 1) (countedList (getD t (k - 1) []) b) [] (λ e. d (pred-same k j n m e))))
 
 -- how one parent more shows in the counts
 count-more : (t : List (List ℕ)) (z k j : ℕ) → z ≤ length t → (j ≡ 0 → ⊥) → j ≤ z → getIn t z j .parents < 4294967295
@@ -161,7 +175,7 @@ count-more t z k j r n h l = ⊎-elim here other (decide-eq k j)
     here e = rw (e, eq-eqb j j refl) (counted-here t z j true r n h ∙ rw (lt-ltb (getIn t z j .parents) 4294967295 l) refl)
 
     other : (k ≡ j → ⊥) → getIn (countAt t z k true) z j .parents ≡ getIn t z j .parents + bit (eqb k j)
-    other d = rw (ne-eqb k j d) (ap (λ (x : Row). x .parents) (counted-other t z k j true d) ∙ omega arith)
+    other d = rw (ne-eqb k j d) (ap (λ (x : NodeRecord). x .parents) (counted-other t z k j true d) ∙ omega arith)
 
 -- how one parent less shows in the counts
 count-less : (t : List (List ℕ)) (z k j : ℕ) → z ≤ length t → (j ≡ 0 → ⊥) → j ≤ z → bit (eqb k j) ≤ getIn t z j .parents
@@ -177,7 +191,8 @@ count-less t z k j r n h l = ⊎-elim here other (decide-eq k j)
     other : (k ≡ j → ⊥) → getIn t z j .parents ≡ getIn (countAt t z k false) z j .parents + bit (eqb k j)
     other d =
         let o : bit (eqb k j) ≡ 0 = ap bit (ne-eqb k j d) in
-        let p : getIn (countAt t z k false) z j .parents ≡ getIn t z j .parents = ap (λ (x : Row). x .parents) (counted-other t z k j false d) in
+        let p : getIn (countAt t z k false) z j .parents ≡ getIn t z j .parents = ap (λ (x : NodeRecord). x .parents) (counted-other t z k j false d)
+        in
         omega (arith, o, p)
 
 -- ---- Storing ---------------------------------------------------------------------------------
@@ -188,29 +203,33 @@ pub record Held (t : List (List ℕ)) (z : ℕ) : Type 0 where
   pub counts : (k : ℕ) → (k ≡ 0 → ⊥) → k ≤ z → getIn t z k .parents ≡ parents (tableOf t z) k
 
 -- A storing keeps the length.
-pub length-store : (t : List (List ℕ)) (z k : ℕ) (x : Row) → length (storeAt t z k x) ≡ length t
+pub length-store : (t : List (List ℕ)) (z k : ℕ) (x : NodeRecord) → length (storeAt t z k x) ≡ length t
 unfolding storeAt
 length-store t z k x =
     let t₀ = putAt t k x in
     let t₁ = countAt t₀ z (getIn t z k .first) false in
     let t₂ = countAt t₁ z (getIn t z k .second) false in
     let t₃ = countAt t₂ z (x .first) true in
-    length-count t₃ z (x .second) true ∙ length-count t₂ z (x .first) true ∙ length-count t₁ z (getIn t z k .second) false ∙ length-count t₀ z (getIn t z k .first) false ∙ length-put t k x
+    length-count t₃ z (x .second) true ∙ length-count t₂ z (x .first) true ∙ length-count t₁ z (getIn t z k .second) false
+    ∙ length-count t₀ z (getIn t z k .first) false ∙ length-put t k x
 
 -- A storing sets the record of the number in the theory's table.
-pub store-table : (t : List (List ℕ)) (z k : ℕ) (x : Row) → (k ≡ 0 → ⊥) → k ≤ z → tableOf (storeAt t z k x) z ≡ set (tableOf t z) k (rowNode x)
+pub store-table : (t : List (List ℕ)) (z k : ℕ) (x : NodeRecord) → (k ≡ 0 → ⊥) → k ≤ z → tableOf (storeAt t z k x) z
+    ≡ set (tableOf t z) k (recordNode x)
 unfolding storeAt
 store-table t z k x n h =
     let t₀ = putAt t k x in
     let t₁ = countAt t₀ z (getIn t z k .first) false in
     let t₂ = countAt t₁ z (getIn t z k .second) false in
     let t₃ = countAt t₂ z (x .first) true in
-    table-count t₃ z (x .second) true ∙ table-count t₂ z (x .first) true ∙ table-count t₁ z (getIn t z k .second) false ∙ table-count t₀ z (getIn t z k .first) false ∙ table-put t z k x n h
+    table-count t₃ z (x .second) true ∙ table-count t₂ z (x .first) true ∙ table-count t₁ z (getIn t z k .second) false
+    ∙ table-count t₀ z (getIn t z k .first) false ∙ table-put t z k x n h
 
 -- the counts after two parents less and two more
 count-four : (t : List (List ℕ)) (z a b c d j : ℕ) → z ≤ length t → (j ≡ 0 → ⊥) → j ≤ z
     → bit (eqb a j) + bit (eqb b j) ≤ getIn t z j .parents → bit (eqb c j) + bit (eqb d j) ≤ 2 → getIn t z j .parents + 2 < 4294967295
-    → getIn (countAt (countAt (countAt (countAt t z a false) z b false) z c true) z d true) z j .parents + (bit (eqb a j) + bit (eqb b j)) ≡ getIn t z j .parents + (bit (eqb c j) + bit (eqb d j))
+    → getIn (countAt (countAt (countAt (countAt t z a false) z b false) z c true) z d true) z j .parents + (bit (eqb a j) + bit (eqb b j))
+    ≡ getIn t z j .parents + (bit (eqb c j) + bit (eqb d j))
 count-four t z a b c d j r n h enough few most =
     let t₁ = countAt t z a false in
     let t₂ = countAt t₁ z b false in
@@ -221,7 +240,8 @@ count-four t z a b c d j r n h enough few most =
     let e₁ : getIn t z j .parents ≡ getIn t₁ z j .parents + bit (eqb a j) = count-less t z a j r n h (omega (arith, enough)) in
     let e₂ : getIn t₁ z j .parents ≡ getIn t₂ z j .parents + bit (eqb b j) = count-less t₁ z b j r₁ n h (omega (arith, enough, e₁)) in
     let e₃ : getIn t₃ z j .parents ≡ getIn t₂ z j .parents + bit (eqb c j) = count-more t₂ z c j r₂ n h (omega (arith, most, e₁, e₂)) in
-    let e₄ : getIn (countAt t₃ z d true) z j .parents ≡ getIn t₃ z j .parents + bit (eqb d j) = count-more t₃ z d j r₃ n h (omega (arith, most, few, e₁, e₂, e₃)) in
+    let e₄ : getIn (countAt t₃ z d true) z j .parents ≡ getIn t₃ z j .parents + bit (eqb d j) = count-more t₃ z d j r₃ n h
+    (omega (arith, most, few, e₁, e₂, e₃)) in
     omega (arith, e₁, e₂, e₃, e₄)
 
 edges-most : (j : ℕ) (y : Node) → edges j y ≤ 2
@@ -229,7 +249,8 @@ unfolding parents
 edges-most j y = omega (arith, parents-most (y ∷ []) j)
 
 -- A storing keeps the counts right, if the new record starts with the count of the old one.
-pub held-store : (t : List (List ℕ)) (z k : ℕ) (x : Row) → Held t z → z ≤ tableLimit → (k ≡ 0 → ⊥) → k ≤ z → x .parents ≡ getIn t z k .parents → Held (storeAt t z k x) z
+pub held-store : (t : List (List ℕ)) (z k : ℕ) (x : NodeRecord) → Held t z → z ≤ tableLimit → (k ≡ 0 → ⊥) → k ≤ z → x .parents ≡ getIn t z k .parents
+    → Held (storeAt t z k x) z
 unfolding storeAt
 held-store t z k x held small n h same = record { room = omega (arith, held .room, length-store t z k x); counts = right }
   where
@@ -237,29 +258,35 @@ held-store t z k x held small n h same = record { room = omega (arith, held .roo
     put j m l = ⊎-elim here other (decide-eq k j) ∙ held .counts j m l
       where
         here : k ≡ j → getIn (putAt t k x) z j .parents ≡ getIn t z j .parents
-        here e = subst (λ (i : ℕ). getIn (putAt t k x) z i .parents ≡ getIn t z i .parents) e (ap (λ (y : Row). y .parents) (get-put t z k x (held .room) n h) ∙ same)
+        here e = subst (λ (i : ℕ). getIn (putAt t k x) z i .parents ≡ getIn t z i .parents) e
+            (ap (λ (y : NodeRecord). y .parents) (get-put t z k x (held .room) n h) ∙ same)
 
         other : (k ≡ j → ⊥) → getIn (putAt t k x) z j .parents ≡ getIn t z j .parents
-        other d = ap (λ (y : Row). y .parents) (get-other t z k j x d)
+        other d = ap (λ (y : NodeRecord). y .parents) (get-other t z k j x d)
 
     right : (j : ℕ) → (j ≡ 0 → ⊥) → j ≤ z → getIn (storeAt t z k x) z j .parents ≡ parents (tableOf (storeAt t z k x) z) j
     right j m l =
         let long : length (tableOf t z) ≡ suc z = table-length t z (held .room) in
-        let old : edges j (node (tableOf t z) k) ≡ edges j (rowNode (getIn t z k)) = ap (edges j) (table-node t z k) in
+        let old : edges j (node (tableOf t z) k) ≡ edges j (recordNode (getIn t z k)) = ap (edges j) (table-node t z k) in
         let p : getIn (putAt t k x) z j .parents ≡ parents (tableOf t z) j = put j m l in
         let most : getIn (putAt t k x) z j .parents + 2 < 4294967295 = omega (arith, p, parents-most (tableOf t z) j, long, small, few-parents) in
-        let enough : edges j (rowNode (getIn t z k)) ≤ getIn (putAt t k x) z j .parents = omega (arith, p, old, edges-parents (tableOf t z) k j m) in
-        let moved : getIn (storeAt t z k x) z j .parents + edges j (rowNode (getIn t z k)) ≡ getIn (putAt t k x) z j .parents + edges j (rowNode x)
-        = count-four (putAt t k x) z (getIn t z k .first) (getIn t z k .second) (x .first) (x .second) j (omega (arith, held .room, length-put t k x)) m l enough (edges-most j (rowNode x)) most in
-        let sets : parents (set (tableOf t z) k (rowNode x)) j + edges j (node (tableOf t z) k) ≡ parents (tableOf t z) j + edges j (rowNode x) = parents-set (tableOf t z) k j (rowNode x) (omega (arith, long, h)) in
-        let e : getIn (storeAt t z k x) z j .parents ≡ parents (set (tableOf t z) k (rowNode x)) j = omega (arith, p, old, moved, sets) in
+        let enough : edges j (recordNode (getIn t z k)) ≤ getIn (putAt t k x) z j .parents = omega (arith, p, old, edges-parents (tableOf t z) k j m)
+        in
+        let moved : getIn (storeAt t z k x) z j .parents + edges j (recordNode (getIn t z k))
+        ≡ getIn (putAt t k x) z j .parents + edges j (recordNode x)
+        = count-four (putAt t k x) z (getIn t z k .first) (getIn t z k .second) (x .first) (x .second) j (omega (arith, held .room, length-put t k x))
+        m l enough (edges-most j (recordNode x)) most in
+        let sets : parents (set (tableOf t z) k (recordNode x)) j + edges j (node (tableOf t z) k)
+        ≡ parents (tableOf t z) j + edges j (recordNode x) = parents-set (tableOf t z) k j (recordNode x) (omega (arith, long, h)) in
+        let e : getIn (storeAt t z k x) z j .parents ≡ parents (set (tableOf t z) k (recordNode x)) j = omega (arith, p, old, moved, sets) in
         e ∙ ap (λ (u : List Node). parents u j) (sym (store-table t z k x n h))
 
 -- ---- Clearing --------------------------------------------------------------------------------
 
 -- Clearing keeps the length.
 pub length-clear : (t : List (List ℕ)) (m : ℕ) → length (clearTo t m) ≡ length t
-length-clear t m = length-append (replicate (min m (length t)) noRecord) (drop m t) ∙ omega (arith, length-replicate (min m (length t)) noRecord, length-drop m t)
+length-clear t m = length-append (replicate (min m (length t)) noRecord) (drop m t)
+    ∙ omega (arith, length-replicate (min m (length t)) noRecord, length-drop m t)
 
 clear-room : (t : List (List ℕ)) (z : ℕ) → z ≤ length t → length (replicate (min z (length t)) noRecord) ≡ z
 clear-room t z h = length-replicate (min z (length t)) noRecord ∙ omega (arith, h)
@@ -281,6 +308,7 @@ held-clear t z h = record { room = omega (arith, h, length-clear t z); counts = 
     right k n l =
         let i : k - 1 < length (replicate (min z (length t)) noRecord) = omega (arith, clear-room t z h, n, l) in
         let j : k - 1 < min z (length t) = omega (arith, h, n, l) in
-        ap (λ (x : Row). x .parents) (sym (get-here (clearTo t z) z k n l))
-        ∙ ap (λ (a : List ℕ). rowOf a .parents) (List·getD-append (replicate (min z (length t)) noRecord) (drop z t) [] (k - 1) i ∙ getD-replicate (min z (length t)) (k - 1) noRecord [] j)
+        ap (λ (x : NodeRecord). x .parents) (sym (get-here (clearTo t z) z k n l))
+        ∙ ap (λ (a : List ℕ). recordOf a .parents) (List·getD-append (replicate (min z (length t)) noRecord) (drop z t) [] (k - 1) i
+        ∙ getD-replicate (min z (length t)) (k - 1) noRecord [] j)
         ∙ sym (ap (λ (u : List Node). parents u k) (clear-table t z h) ∙ parents-fresh (suc z) k n)

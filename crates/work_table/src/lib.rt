@@ -3,8 +3,8 @@ ghost use mathlib.Core.Path.{_≡_};
 ghost use mathlib.Core.Bool.{cond, _||_};
 ghost use lib.Dec.{eqb, ltb};
 ghost use Prim.Native.Nat.{min};
-ghost use Rattle.lists.specs.Lists.{differ};
-ghost use Rattle.work_table.specs.Table.{noRow, getIn, putAt, countedTo, countAt, storeAt, clearTo};
+ghost use Rattle.theory_lists.specs.Lists.{differ};
+ghost use Rattle.work_table.specs.Table.{noNodeRecord, getIn, putAt, countedTo, countAt, storeAt, clearTo};
 ghost use Rattle.work_table.specs.Edges.{firstEdge, secondEdge};
 
 // ---- Limits, by the names of the definitions
@@ -23,7 +23,7 @@ pub const WORD_LIMIT: u64 = 1 << OPTION_LIMIT;
 
 // A record of the table: the level (0: none), the children, the edge to the second complemented, how often the number was given out, and how
 // many records have it as a child.
-pub struct Row {
+pub struct NodeRecord {
     pub level: u32,
     pub first: u32,
     pub second: u32,
@@ -32,10 +32,10 @@ pub struct Row {
     pub parents: u32,
 }
 
-fn no_row() -> Row
-    ensures { λ x. ⌜ x ≡ noRow ⌝ }
+fn no_record() -> NodeRecord
+    ensures { λ x. ⌜ x ≡ noNodeRecord ⌝ }
 {
-    Row {
+    NodeRecord {
         level: 0,
         first: 0,
         second: 0,
@@ -46,21 +46,21 @@ fn no_row() -> Row
 }
 
 // THE RECORD of the number k in a table of z numbers.
-pub fn get(t: &[[u32; 6]], z: u32, k: u32) -> Row
+pub fn get(t: &[[u32; 6]], z: u32, k: u32) -> NodeRecord
     ensures { λ x. ⌜ x ≡ getIn (now (t .entry)) z k ⌝ }
 {
     if k == 0 {
-        return no_row();
+        return no_record();
     }
     if z < k {
-        return no_row();
+        return no_record();
     }
     let i = (k - 1) as usize;
     if t.len() <= i {
-        return no_row();
+        return no_record();
     }
     let a = t[i];
-    Row {
+    NodeRecord {
         level: a[0],
         first: a[1],
         second: a[2],
@@ -77,7 +77,7 @@ pub fn bit(c: bool) -> u32
     if c { 1 } else { 0 }
 }
 
-fn put(t: &mut [[u32; 6]], k: u32, x: Row)
+fn put(t: &mut [[u32; 6]], k: u32, x: NodeRecord)
     ensures { λ _. ⌜ now (t .exit) ≡ putAt (now (t .entry)) k x ⌝ }
 {
     if k == 0 {
@@ -123,7 +123,7 @@ fn counted(p: u32, more: bool) -> u32
 }
 
 // The number k is given to the record x.
-pub fn store(t: &mut [[u32; 6]], z: u32, k: u32, x: Row)
+pub fn store(t: &mut [[u32; 6]], z: u32, k: u32, x: NodeRecord)
     ensures { λ _. ⌜ now (t .exit) ≡ storeAt (now (t .entry)) z k x ⌝ }
 {
     let old = get(t, z, k);
@@ -158,7 +158,7 @@ pub fn least(a: usize, b: usize) -> usize
 // What a node stands for: a number (0: the terminal), turned about or not.
 pub struct Edge {
     pub number: u32,
-    pub turned: bool,
+    pub complement: bool,
 }
 
 // a, turned about if t
@@ -179,7 +179,7 @@ pub fn skips(k: u32, i: u32, l: u32) -> bool
 }
 
 // The first child of the node of level i that e stands for; x: its record
-pub fn first_edge(x: Row, i: u32, e: Edge) -> Edge
+pub fn first_edge(x: NodeRecord, i: u32, e: Edge) -> Edge
     ensures { λ r. ⌜ r ≡ firstEdge x i e ⌝ }
 {
     if skips(e.number, i, x.level) {
@@ -187,12 +187,12 @@ pub fn first_edge(x: Row, i: u32, e: Edge) -> Edge
     }
     Edge {
         number: x.first,
-        turned: e.turned,
+        complement: e.complement,
     }
 }
 
 // Its second child.
-pub fn second_edge(x: Row, i: u32, e: Edge) -> Edge
+pub fn second_edge(x: NodeRecord, i: u32, e: Edge) -> Edge
     ensures { λ r. ⌜ r ≡ secondEdge x i e ⌝ }
 {
     if skips(e.number, i, x.level) {
@@ -200,6 +200,6 @@ pub fn second_edge(x: Row, i: u32, e: Edge) -> Edge
     }
     Edge {
         number: x.second,
-        turned: differs(x.complement, e.turned),
+        complement: differs(x.complement, e.complement),
     }
 }

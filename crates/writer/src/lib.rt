@@ -4,14 +4,14 @@ ghost use mathlib.Core.Bool.{cond};
 ghost use lib.Dec.{eqb};
 ghost use lib.ListN.{getD, replicate};
 ghost use Prim.Native.Nat.{_+_, _≤_, _^_};
-ghost use Rattle.reading.specs.Limits.{optionLimit, truthTableMost, levelLimit, truthLimit};
-ghost use Rattle.writing.specs.Run.{whole, inputEnded, outputFull};
-ghost use Rattle.writing.specs.Calls.{truthAt, Writes};
-ghost use Rattle.engine.specs.Engine.{sameBytes, allBytes, alikeBytes, againHalf, walkIn, bodyIn, streamIn};
-ghost use Rattle.meeting.specs.Cite.{halfOf, penOf, walkedOf, writtenOf, writingOf};
+ghost use Rattle.theory_reading.specs.Limits.{optionLimit, truthTableMost, levelLimit, truthLimit};
+ghost use Rattle.theory_writing.specs.Run.{whole, inputEnded, outputFull};
+ghost use Rattle.theory_writing.specs.Calls.{truthAt, Writes};
+ghost use Rattle.theory_engine.specs.Engine.{sameBytes, allBytes, alikeBytes, againHalf, walkIn, bodyIn, streamIn};
+ghost use Rattle.meeting.specs.Abstraction.{halfOf, progressOf, walkedOf, writtenOf, writingOf};
 use checker::early;
 use meeting::Half;
-use meeting::Pen;
+use meeting::Progress;
 use meeting::Walked;
 use meeting::Writing;
 use meeting::Written;
@@ -21,14 +21,14 @@ use meeting::ending_of;
 use meeting::half_of;
 use meeting::kept;
 use meeting::numbered;
-use meeting::pen_after;
-use meeting::pen_of;
+use meeting::progress_after;
+use meeting::progress_of;
 use meeting::second;
 use pending_text::Sent;
 use pending_text::WAITING_LIMIT;
 use pending_text::push;
 use pending_text::push_number;
-use pending_text::push_turn;
+use pending_text::push_tilde;
 use pending_text::send;
 use pending_text::wait;
 use scanner::Cause;
@@ -140,40 +140,41 @@ fn walk(
     t: &mut [[u32; 12]],
     out: &mut [u8],
     w: &mut [u8],
-    pen: Pen,
+    progress: Progress,
 ) -> Walked
     requires { ⌜ (d ≤ truthTableMost) × ((i + d ≤ levelLimit) × (at + 2 ^ d ≤ truthLimit)) ⌝ }
-    ensures { λ r. ⌜ walkedOf r (now (t .exit)) (now (out .exit)) (now (w .exit)) ≡ walkIn (now (v .entry)) size d i at m (now (t .entry)) (now (out .entry)) (now (w .entry)) (penOf pen) ⌝ }
+    ensures { λ r. ⌜ walkedOf r (now (t .exit)) (now (out .exit)) (now (w .exit))
+        ≡ walkIn (now (v .entry)) size d i at m (now (t .entry)) (now (out .entry)) (now (w .entry)) (progressOf progress) ⌝ }
 {
     if d == 0 {
-        return kept(constant(truth(v, at)), pen);
+        return kept(constant(truth(v, at)), progress);
     }
     if all_bytes(v, 0, d, at) {
-        return kept(constant(false), pen);
+        return kept(constant(false), progress);
     }
     if all_bytes(v, 255, d, at) {
-        return kept(constant(true), pen);
+        return kept(constant(true), progress);
     }
     let e = d - 1;
     let j = i + 1;
     let mid = at + (1usize << e);
     let p = push(w, m, b'(');
-    let a = walk(v, size, e, j, at, p, t, out, w, pen);
-    let x = pen_of(a);
+    let a = walk(v, size, e, j, at, p, t, out, w, progress);
+    let x = progress_of(a);
     if x.full {
         return a;
     }
     let h = half_of(a);
     let s = truth(v, mid);
-    let turned = differs(h.complement, s);
+    let complement = differs(h.complement, s);
     let q = wait(w, p, h.wrote, h.skipped, h.number);
-    let r = push_turn(w, q, turned);
-    if is_again(v, turned, e, at, mid, h) {
+    let r = push_tilde(w, q, complement);
+    if is_again(v, complement, e, at, mid, h) {
         let b = kept(numbered(h.number, h.stamp, h.skipped, s, false), x);
-        return second(size, i, r, turned, h, b, t, out, w);
+        return second(size, i, r, complement, h, b, t, out, w);
     }
     let b = walk(v, size, e, j, mid, r, t, out, w, x);
-    second(size, i, r, turned, h, b, t, out, w)
+    second(size, i, r, complement, h, b, t, out, w)
 }
 
 // ---- The whole stream
@@ -189,20 +190,28 @@ fn body(
     x: Sent,
 ) -> Sent
     requires { ⌜ n ≤ truthTableMost ⌝ }
-    ensures { λ r. ⌜ record { written = r .written; full = r .full; output = now (out .exit); waits = now (w .exit) } ≡ bodyIn n size (now (v .entry)) (now (t .entry)) (record { written = x .written; full = x .full; output = now (out .entry); waits = now (w .entry) }) ⌝ }
+    ensures { λ r. ⌜ record { written = r .written; full = r .full; output = now (out .exit); waits = now (w .exit) }
+        ≡ bodyIn n size (now (v .entry)) (now (t .entry)) (record {
+          written = x .written;
+          full = x .full;
+          output = now (out .entry);
+          waits = now
+              (w .entry);
+        }) ⌝ }
 {
     let full = x.full;
     if full {
         return x;
     }
-    let m = push_turn(w, 0, truth(v, 0));
-    let r = walk(v, size, n, 1, 0, m, t, out, w, pen_after(x));
+    let m = push_tilde(w, 0, truth(v, 0));
+    let r = walk(v, size, n, 1, 0, m, t, out, w, progress_after(x));
     done(m, r, out, w)
 }
 
 fn stream(n: u32, size: u32, v: &[u8], t: &mut [[u32; 12]], out: &mut [u8], w: &mut [u8]) -> Sent
     requires { ⌜ n ≤ truthTableMost ⌝ }
-    ensures { λ r. ⌜ record { written = r .written; full = r .full; output = now (out .exit); waits = now (w .exit) } ≡ streamIn n size (now (v .entry)) (now (t .entry)) (now (out .entry)) (now (w .entry)) ⌝ }
+    ensures { λ r. ⌜ record { written = r .written; full = r .full; output = now (out .exit); waits = now (w .exit) }
+        ≡ streamIn n size (now (v .entry)) (now (t .entry)) (now (out .entry)) (now (w .entry)) ⌝ }
 {
     let a = push_number(w, 0, size);
     let b = push(w, a, b'\n');
@@ -214,7 +223,12 @@ fn stream(n: u32, size: u32, v: &[u8], t: &mut [[u32; 12]], out: &mut [u8], w: &
 
 fn answer(n: u32, covered: u64, x: Sent) -> Written
     requires { ⌜ n ≤ optionLimit ⌝ }
-    ensures { λ r. ⌜ writtenOf r ≡ record { written = x .written; covered = covered; ending = cond (x .full) outputFull (cond (eqb covered (2 ^ n)) whole inputEnded) } ⌝ }
+    ensures { λ r. ⌜ writtenOf r ≡ record {
+      written = x .written;
+      covered = covered;
+      ending = cond (x .full) outputFull
+          (cond (eqb covered (2 ^ n)) whole inputEnded);
+    } ⌝ }
 {
     Written {
         bytes: x.written,
@@ -225,7 +239,8 @@ fn answer(n: u32, covered: u64, x: Sent) -> Written
 
 // WRITING the stream of a truth table: causes 1, 3, 4 and 6.
 pub fn write(n: u32, size: u32, v: &[u8], out: &mut [u8], t: &mut [[u32; 12]]) -> Writing
-    ensures { λ r. ⌜ Writes (replicate 12 0) n size (now (v .entry)) (now (out .entry)) (now (t .entry)) (record { answer = writingOf r; table = now (t .exit); output = now (out .exit) }) ⌝ }
+    ensures { λ r. ⌜ Writes (replicate 12 0) n size (now (v .entry)) (now (out .entry)) (now (t .entry))
+        (record { answer = writingOf r; table = now (t .exit); output = now (out .exit) }) ⌝ }
 {
     if n < TRUTH_TABLE_LEAST {
         return Writing::Refused(early(Cause::OptionCount));

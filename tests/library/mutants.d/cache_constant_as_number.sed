@@ -1,2 +1,2 @@
 # crates/operation_cache/src/lib.rt
-/^fn recall_row/,/^}/s/^        return told_as(constant(v));/        return told_as(numbered(0, 0, 1, v, false));/
+/^fn recall_entry/,/^}/s/^        return told_as(constant(v));/        return told_as(numbered(0, 0, 1, v, false));/

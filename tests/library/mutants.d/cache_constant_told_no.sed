@@ -1,2 +1,2 @@
 # crates/operation_cache/src/lib.rt
-/^fn recall_row/,/^}/s/told_as(constant(v))/told_as(constant(false))/
+/^fn recall_entry/,/^}/s/told_as(constant(v))/told_as(constant(false))/

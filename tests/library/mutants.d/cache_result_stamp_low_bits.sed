@@ -1,2 +1,2 @@
 # crates/operation_cache/src/lib.rt
-/^fn recall_row/,/^}/s/^    if stamp_of(t, k) != g {/    if stamp_of(t, k) % 8 != g % 8 {/
+/^fn recall_entry/,/^}/s/^    if stamp_of(t, k) != g {/    if stamp_of(t, k) % 8 != g % 8 {/

@@ -1,2 +1,2 @@
 # crates/operation_cache/src/lib.rt
-/^fn recall_row/,/^}/s/numbered(k, g, above/numbered(k, 0, above/
+/^fn recall_entry/,/^}/s/numbered(k, g, above/numbered(k, 0, above/

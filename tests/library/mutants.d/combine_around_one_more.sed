@@ -1,2 +1,2 @@
-# crates/feeds/src/lib.rt
+# crates/operands/src/lib.rt
 /^fn settle/,/^}/s/b\.deep != i as usize/b.deep != i as usize + 1/

@@ -1,2 +1,2 @@
 # crates/edges/src/lib.rt
-/^pub fn is_fixed/,/^}/s/^        operate(op, !x\.turned, y\.turned),/        operate(op, x.turned, y.turned),/
+/^pub fn is_fixed/,/^}/s/^        operate(op, !x\.complement, y\.complement),/        operate(op, x.complement, y.complement),/

@@ -1,2 +1,2 @@
 # crates/edges/src/lib.rt
-/^fn beside/,/^}/s/turned: e\.turned,/turned: x.turned,/
+/^fn beside/,/^}/s/complement: e\.complement,/complement: x.complement,/

@@ -1,2 +1,2 @@
-# crates/feeds/src/lib.rt
-/^pub fn turn_of/,/^}/s/return b\.turned;/return f.turned;/
+# crates/operands/src/lib.rt
+/^pub fn first_value/,/^}/s/return b\.complement;/return f.complement;/

@@ -1,2 +1,2 @@
 # crates/work_table/src/lib.rt
-s/turned: differs(x.complement, e.turned),/turned: e.turned,/
+s/complement: differs(x.complement, e.complement),/complement: e.complement,/

@@ -1,2 +1,2 @@
 # crates/writer/src/lib.rt
-/^fn walk/,/^}/s/^    let r = push_turn(w, q, turned);/    let r = push_turn(w, q, turned \&\& !h.wrote);/
+/^fn walk/,/^}/s/^    let r = push_tilde(w, q, complement);/    let r = push_tilde(w, q, complement \&\& !h.wrote);/

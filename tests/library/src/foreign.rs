@@ -96,7 +96,7 @@ pub struct Ref {
 pub struct Open {
     first: Ref,
     second: bool,
-    turned: bool,
+    complement: bool,
 }
 
 impl Debug for Open {
@@ -104,9 +104,9 @@ impl Debug for Open {
         let Open {
             first: Ref { number, stamp },
             second,
-            turned,
+            complement,
         } = self;
-        write!(formatter, "{number}/{stamp}/{second}/{turned}")
+        write!(formatter, "{number}/{stamp}/{second}/{complement}")
     }
 }
 
@@ -123,7 +123,7 @@ pub struct Opens {
 #[derive(Clone, Copy)]
 pub struct Place {
     pub at: usize,
-    mark: u32,
+    context: u32,
     last: Ref,
     opens: Opens,
 }
@@ -137,7 +137,7 @@ impl Place {
 
 impl PartialEq for Place {
     fn eq(&self, other: &Place) -> bool {
-        (self.at, self.mark, self.last) == (other.at, other.mark, other.last)
+        (self.at, self.context, self.last) == (other.at, other.context, other.last)
             && self.open() == other.open()
     }
 }
@@ -146,12 +146,12 @@ impl Eq for Place {}
 
 impl Debug for Place {
     fn fmt(&self, formatter: &mut Formatter) -> std::fmt::Result {
-        let Place { at, mark, last, .. } = self;
+        let Place { at, context, last, .. } = self;
         let Ref { number, stamp } = last;
         let open = self.open();
         write!(
             formatter,
-            "at {at}, mark {mark}, last {number} {stamp}, open {open:?}"
+            "at {at}, context {context}, last {number} {stamp}, open {open:?}"
         )
     }
 }
@@ -297,7 +297,7 @@ const _: () = {
     assert!(offset_of!(Written, byte) == 8 && offset_of!(Written, written) == 16);
     assert!(offset_of!(Written, covered) == 24 && offset_of!(Written, ending) == 32);
     assert!(offset_of!(Written, spare) == 36);
-    assert!(size_of::<Place>() == 416 && offset_of!(Place, mark) == 8);
+    assert!(size_of::<Place>() == 416 && offset_of!(Place, context) == 8);
     assert!(offset_of!(Place, last) == 12 && offset_of!(Place, opens) == 24);
     assert!(size_of::<Opens>() == 392 && offset_of!(Opens, depth) == 384);
     assert!(size_of::<Open>() == 12 && offset_of!(Open, second) == 8);

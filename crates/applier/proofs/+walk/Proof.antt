@@ -23,22 +23,23 @@ use Rattle.work_table.proofs.differs.Reads as differs
 use Rattle.meeting.proofs.half_of.Reads as half-of
 use Rattle.meeting.proofs.kept.Reads as kept
 use Rattle.meeting.proofs.numbered.Reads as numbered
-use Rattle.meeting.proofs.pen_of.Reads as pen-of
+use Rattle.meeting.proofs.progress_of.Reads as progress-of
 use Rattle.meeting.proofs.second.Reads as second
 use Rattle.pending_text.proofs.push.Reads as push
-use Rattle.pending_text.proofs.push_turn.Reads as push-turn
+use Rattle.pending_text.proofs.push_tilde.Reads as push-tilde
 use Rattle.pending_text.proofs.wait.Reads as wait
 use Rattle.applier.proofs.+walk.{statement}
 use Rattle.applier.proofs.+walk.Tie.{close}
 use mathlib.Core.Path.{sym, ap, _∙_}
 use native.Mathlib.Omega.{arith}
 use Prim.Native.Nat.{ℕ, _<_, _-_}
-use Rattle.writing.specs.Run.{operate}
-use Rattle.engine.specs.Memo.{slotOf}
-use Rattle.engine.specs.RecallMade.{recall-word, recall-constant}
-use Rattle.meeting.specs.Cite.{halfOf, penOf, walkedOf}
-use Rattle.applier.specs.Cite.{recalledOf}
-use Rattle.applier.specs.WalkMade.{pair, one-down, one-asks, half-asks, kept-in, constant-in, again-in, pair-told, pair-full, pair-on, pair-again}
+use Rattle.theory_writing.specs.Run.{operate}
+use Rattle.theory_engine.specs.Memo.{slotOf}
+use Rattle.theory_engine.specs.RecallCorrect.{recall-word, recall-constant}
+use Rattle.meeting.specs.Abstraction.{halfOf, progressOf, walkedOf}
+use Rattle.applier.specs.Abstraction.{recalledOf}
+use Rattle.applier.specs.WalkCorrect.{pair, one-down, one-asks, half-asks, kept-in, constant-in, again-in, pair-told, pair-full, pair-on}
+use Rattle.applier.specs.WalkCorrect.{pair-again}
 
 abbrev μ : Measures 6 walk-kinds.ps ℕ
 μ κs a = a .1 .1 .0
@@ -77,8 +78,8 @@ module _ (t : ℕ) where
     first-edge.Learnt,
     below t,
     walk.Post,
-    pen-of.Asked,
-    pen-of.Learnt,
+    progress-of.Asked,
+    progress-of.Learnt,
     half-of.Asked,
     half-of.Learnt,
     both-pass.Asked,
@@ -89,8 +90,8 @@ module _ (t : ℕ) where
     differs.Learnt,
     wait.Asked,
     wait.Learnt,
-    push-turn.Asked,
-    push-turn.Learnt,
+    push-tilde.Asked,
+    push-tilde.Learnt,
     is-alike.Asked,
     is-alike.Learnt,
     numbered.Asked,
@@ -117,8 +118,10 @@ module _ (t : ℕ) where
       let c3 = c2 .before in
       let c6 = c3 .before .before .before in
       let a = c6 .args in
-      constant-in (c .kept .result) (c1 .constant .result) (a .pen) (c2 .operate .result) (a .t .now) (a .out .now) (a .w .now) (a .c .now) (c .kept .ensures) (c1 .constant .ensures)
-      ∙ recall-word slotOf (operate (a .op)) (a .size) (a .d) (a .i) (a .m) (pair (a .x) (a .t1 .now) (a .y) (a .t2 .now)) (a .c .now) (a .t .now) (a .out .now) (a .w .now) (penOf (a .pen)) (c2 .operate .result) (c3 .if1 .taken) (c2 .operate .ensures)
+      constant-in (c .kept .result) (c1 .constant .result) (a .progress) (c2 .operate .result) (a .t .now) (a .out .now) (a .w .now) (a .c .now)
+      (c .kept .ensures) (c1 .constant .ensures)
+      ∙ recall-word slotOf (operate (a .op)) (a .size) (a .d) (a .i) (a .m) (pair (a .x) (a .t1 .now) (a .y) (a .t2 .now)) (a .c .now) (a .t .now)
+      (a .out .now) (a .w .now) (progressOf (a .progress)) (c2 .operate .result) (c3 .if1 .taken) (c2 .operate .ensures)
 
   is-fixed-requires : walk-lts.Need-is-fixed-requires K (at t) walk.Post
   is-fixed-requires c κs = tt
@@ -141,8 +144,11 @@ module _ (t : ℕ) where
       let c5 = c4 .before in
       let c8 = c5 .before .before .before in
       let a = c8 .args in
-      constant-in (c .kept2 .result) (c1 .constant2 .result) (a .pen) (c2 .operate2 .result) (a .t .now) (a .out .now) (a .w .now) (a .c .now) (c .kept2 .ensures) (c1 .constant2 .ensures)
-      ∙ recall-constant slotOf (operate (a .op)) (a .size) (a .d - 1) (a .i) (a .m) (pair (a .x) (a .t1 .now) (a .y) (a .t2 .now)) (a .c .now) (a .t .now) (a .out .now) (a .w .now) (penOf (a .pen)) (a .d) (c2 .operate2 .result) (one-down (a .d) (c5 .if1 .left)) (sym (c4 .is-fixed .ensures (a .t1 .now) (a .t2 .now)) ∙ c3 .if2 .taken) (c2 .operate2 .ensures)
+      constant-in (c .kept2 .result) (c1 .constant2 .result) (a .progress) (c2 .operate2 .result) (a .t .now) (a .out .now) (a .w .now) (a .c .now)
+      (c .kept2 .ensures) (c1 .constant2 .ensures)
+      ∙ recall-constant slotOf (operate (a .op)) (a .size) (a .d - 1) (a .i) (a .m) (pair (a .x) (a .t1 .now) (a .y) (a .t2 .now)) (a .c .now)
+      (a .t .now) (a .out .now) (a .w .now) (progressOf (a .progress)) (a .d) (c2 .operate2 .result) (one-down (a .d) (c5 .if1 .left))
+      (sym (c4 .is-fixed .ensures (a .t1 .now) (a .t2 .now)) ∙ c3 .if2 .taken) (c2 .operate2 .ensures)
 
   get-requires : walk-lts.Need-get-requires K (at t) walk.Post
   get-requires c κs = tt
@@ -185,9 +191,12 @@ module _ (t : ℕ) where
       let c12 = c11 .before in
       let c15 = c12 .before .before .before in
       let a = c15 .args in
-      kept-in (c .kept3 .result) (c1 .half-told .result) (a .pen) (a .t .now) (a .out .now) (a .w .now) (a .c .now) (c .kept3 .ensures)
-      ∙ pair-told (a .op) (a .size) (a .d - 1) (a .i) (a .m) (a .x) (a .y) (a .t1 .now) (a .t2 .now) (a .c .now) (a .t .now) (a .out .now) (a .w .now) (penOf (a .pen)) (a .d) (one-down (a .d) (c12 .if1 .left)) (sym (c11 .is-fixed .ensures (a .t1 .now) (a .t2 .now)) ∙ c10 .if2 .left)
-      (c9 .get .result) (c8 .get2 .result) (c9 .get .ensures) (c8 .get2 .ensures) (c7 .key-of .result) (c7 .key-of .ensures) (c6 .slot .result) (c6 .slot .ensures) (c3 .recall .result) (c3 .recall .ensures)
+      kept-in (c .kept3 .result) (c1 .half-told .result) (a .progress) (a .t .now) (a .out .now) (a .w .now) (a .c .now) (c .kept3 .ensures)
+      ∙ pair-told (a .op) (a .size) (a .d - 1) (a .i) (a .m) (a .x) (a .y) (a .t1 .now) (a .t2 .now) (a .c .now) (a .t .now) (a .out .now) (a .w .now)
+      (progressOf (a .progress)) (a .d) (one-down (a .d) (c12 .if1 .left))
+      (sym (c11 .is-fixed .ensures (a .t1 .now) (a .t2 .now)) ∙ c10 .if2 .left)
+      (c9 .get .result) (c8 .get2 .result) (c9 .get .ensures) (c8 .get2 .ensures) (c7 .key-of .result) (c7 .key-of .ensures) (c6 .slot .result)
+      (c6 .slot .ensures) (c3 .recall .result) (c3 .recall .ensures)
       (c1 .half-told .result) (c1 .half-told .ensures) (c2 .if3 .taken)
 
   sub-e : walk-lts.Need-sub-e K (at t) walk.Post
@@ -212,12 +221,13 @@ module _ (t : ℕ) where
 
   walk-requires : walk-lts.Need-walk-requires K (at t) walk.Post
   walk-requires c κs =
-      let c20 = c .before .before .before .before .before .before .before .before .before .before .before .before .before .before .before .before .before .before .before .before in
+      let c20 = c .before .before .before .before .before .before .before .before .before .before .before .before .before .before .before .before
+      .before .before .before .before in
       let c23 = c20 .before .before .before in
       let a = c23 .args in half-asks (a .d) (a .i) t (c23 .pre) (c20 .if1 .left)
 
-  pen-of-requires : walk-lts.Need-pen-of-requires K (at t) walk.Post
-  pen-of-requires c κs = tt
+  progress-of-requires : walk-lts.Need-progress-of-requires K (at t) walk.Post
+  progress-of-requires c κs = tt
 
   same-length-3 : walk-lts.Need-same-length-3 K (at t) walk.Post
   same-length-3 c = search needs
@@ -252,9 +262,16 @@ module _ (t : ℕ) where
       let c29 = c28 .before in
       let c32 = c29 .before .before .before in
       let a = c32 .args in
-      pair-full (a .op) (a .size) (a .d - 1) (a .i) (a .m) (a .x) (a .y) (a .t1 .now) (a .t2 .now) (a .c .now) (a .t .now) (a .out .now) (a .w .now) (penOf (a .pen)) (a .d) (one-down (a .d) (c29 .if1 .left)) (sym (c28 .is-fixed .ensures (a .t1 .now) (a .t2 .now)) ∙ c27 .if2 .left)
-      (c26 .get .result) (c25 .get2 .result) (c26 .get .ensures) (c25 .get2 .ensures) (c24 .key-of .result) (c24 .key-of .ensures) (c23 .slot .result) (c23 .slot .ensures) (c20 .recall .result) (c20 .recall .ensures)
-      (c19 .if3 .left) (c14 .first-edge .result) (c13 .first-edge2 .result) (record { bytes = c17 .push .last .0; count = c17 .push .result }) (recalledOf (c8 .walk .result) (c8 .walk .last .1 .1 .1 .1 .1 .1 .1 .1 .1 .0) (c8 .walk .last .1 .1 .1 .1 .1 .1 .1 .1 .1 .1 .0) (c8 .walk .last .1 .1 .1 .1 .1 .1 .1 .1 .1 .1 .1 .0) (c8 .walk .last .1 .1 .1 .1 .1 .1 .1 .1 .1 .1 .1 .1 .0)) (c14 .first-edge .ensures) (c13 .first-edge2 .ensures) (c17 .push .ensures) (c8 .walk .ensures) (penOf (c1 .pen-of .result)) (ap penOf (c1 .pen-of .ensures)) (c .if4 .taken)
+      pair-full (a .op) (a .size) (a .d - 1) (a .i) (a .m) (a .x) (a .y) (a .t1 .now) (a .t2 .now) (a .c .now) (a .t .now) (a .out .now) (a .w .now)
+      (progressOf (a .progress)) (a .d) (one-down (a .d) (c29 .if1 .left))
+      (sym (c28 .is-fixed .ensures (a .t1 .now) (a .t2 .now)) ∙ c27 .if2 .left)
+      (c26 .get .result) (c25 .get2 .result) (c26 .get .ensures) (c25 .get2 .ensures) (c24 .key-of .result) (c24 .key-of .ensures) (c23 .slot .result)
+      (c23 .slot .ensures) (c20 .recall .result) (c20 .recall .ensures)
+      (c19 .if3 .left) (c14 .first-edge .result) (c13 .first-edge2 .result) (record { bytes = c17 .push .last .0; count = c17 .push .result })
+      (recalledOf (c8 .walk .result) (c8 .walk .last .1 .1 .1 .1 .1 .1 .1 .1 .1 .0) (c8 .walk .last .1 .1 .1 .1 .1 .1 .1 .1 .1 .1 .0)
+      (c8 .walk .last .1 .1 .1 .1 .1 .1 .1 .1 .1 .1 .1 .0) (c8 .walk .last .1 .1 .1 .1 .1 .1 .1 .1 .1 .1 .1 .1 .0)) (c14 .first-edge .ensures)
+      (c13 .first-edge2 .ensures) (c17 .push .ensures) (c8 .walk .ensures) (progressOf (c1 .progress-of .result))
+      (ap progressOf (c1 .progress-of .ensures)) (c .if4 .taken)
 
   half-of-requires : walk-lts.Need-half-of-requires K (at t) walk.Post
   half-of-requires c κs = tt
@@ -277,8 +294,8 @@ module _ (t : ℕ) where
   wait-requires : walk-lts.Need-wait-requires K (at t) walk.Post
   wait-requires c κs = tt
 
-  push-turn-requires : walk-lts.Need-push-turn-requires K (at t) walk.Post
-  push-turn-requires c κs = tt
+  push-tilde-requires : walk-lts.Need-push-tilde-requires K (at t) walk.Post
+  push-tilde-requires c κs = tt
 
   is-alike-requires : walk-lts.Need-is-alike-requires K (at t) walk.Post
   is-alike-requires c κs = tt
@@ -295,13 +312,15 @@ module _ (t : ℕ) where
   same-length-7 : walk-lts.Need-same-length-7 K (at t) walk.Post
   same-length-7 c =
       let c4 = c .before .before .before .before in
-      let c34 = c4 .before .before .before .before .before .before .before .before .before .before .before .before .before .before .before .before .before .before .before .before .before .before .before .before .before .before .before .before .before .before in
+      let c34 = c4 .before .before .before .before .before .before .before .before .before .before .before .before .before .before .before .before
+      .before .before .before .before .before .before .before .before .before .before .before .before .before .before in
       c4 .t2 .given ∙ c34 .t .given
 
   same-length-8 : walk-lts.Need-same-length-8 K (at t) walk.Post
   same-length-8 c =
       let c3 = c .before .before .before in
-      let c33 = c3 .before .before .before .before .before .before .before .before .before .before .before .before .before .before .before .before .before .before .before .before .before .before .before .before .before .before .before .before .before .before in
+      let c33 = c3 .before .before .before .before .before .before .before .before .before .before .before .before .before .before .before .before
+      .before .before .before .before .before .before .before .before .before .before .before .before .before .before in
       c3 .out2 .given ∙ c33 .out .given
 
   same-length-9 : walk-lts.Need-same-length-9 K (at t) walk.Post
@@ -315,7 +334,8 @@ module _ (t : ℕ) where
 
   same-length-10 : walk-lts.Need-same-length-10 K (at t) walk.Post
   same-length-10 c =
-      let c29 = c .before .before .before .before .before .before .before .before .before .before .before .before .before .before .before .before .before .before .before .before .before .before .before .before .before .before .before .before .before in
+      let c29 = c .before .before .before .before .before .before .before .before .before .before .before .before .before .before .before .before
+      .before .before .before .before .before .before .before .before .before .before .before .before .before in
       c29 .c .given
 
   returns-5 : walk-lts.Need-returns-5 K (at t) walk.Post
@@ -350,16 +370,36 @@ module _ (t : ℕ) where
       let c56 = c55 .before in
       let c59 = c56 .before .before .before in
       let a = c59 .args in
-      pair-again (a .op) (a .size) (a .d - 1) (a .i) (a .m) (a .x) (a .y) (a .t1 .now) (a .t2 .now) (a .c .now) (a .t .now) (a .out .now) (a .w .now) (penOf (a .pen)) (a .d) (one-down (a .d) (c56 .if1 .left)) (sym (c55 .is-fixed .ensures (a .t1 .now) (a .t2 .now)) ∙ c54 .if2 .left)
-      (c53 .get .result) (c52 .get2 .result) (c53 .get .ensures) (c52 .get2 .ensures) (c51 .key-of .result) (c51 .key-of .ensures) (c50 .slot .result) (c50 .slot .ensures) (c47 .recall .result) (c47 .recall .ensures)
-      (c46 .if3 .left) (c41 .first-edge .result) (c40 .first-edge2 .result) (record { bytes = c44 .push .last .0; count = c44 .push .result }) (recalledOf (c35 .walk .result) (c35 .walk .last .1 .1 .1 .1 .1 .1 .1 .1 .1 .0) (c35 .walk .last .1 .1 .1 .1 .1 .1 .1 .1 .1 .1 .0) (c35 .walk .last .1 .1 .1 .1 .1 .1 .1 .1 .1 .1 .1 .0) (c35 .walk .last .1 .1 .1 .1 .1 .1 .1 .1 .1 .1 .1 .1 .0)) (c41 .first-edge .ensures) (c40 .first-edge2 .ensures) (c44 .push .ensures) (c35 .walk .ensures)
-      (halfOf (c26 .half-of .result)) (penOf (c28 .pen-of .result)) (c25 .both-pass .result) (c24 .second-edge .result) (c23 .second-edge2 .result) (c22 .operate3 .result) (c21 .differs .result) (record { bytes = c19 .wait .last .0; count = c19 .wait .result }) (record { bytes = c15 .push-turn .last .0; count = c15 .push-turn .result }) (recalledOf (c9 .kept4 .result) (c35 .walk .last .1 .1 .1 .1 .1 .1 .1 .1 .1 .0) (c35 .walk .last .1 .1 .1 .1 .1 .1 .1 .1 .1 .1 .0) (c15 .push-turn .last .0) (c35 .walk .last .1 .1 .1 .1 .1 .1 .1 .1 .1 .1 .1 .1 .0)) (walkedOf (c5 .second .result) (c5 .second .last .1 .1 .1 .1 .1 .1 .0) (c5 .second .last .1 .1 .1 .1 .1 .1 .1 .0) (c5 .second .last .1 .1 .1 .1 .1 .1 .1 .1 .0))
-      (ap halfOf (c26 .half-of .ensures)) (ap penOf (c28 .pen-of .ensures)) (c27 .if4 .left) (c25 .both-pass .ensures) (c24 .second-edge .ensures) (c23 .second-edge2 .ensures) (c22 .operate3 .ensures) (c21 .differs .ensures) (c19 .wait .ensures) (c15 .push-turn .ensures) (c5 .second .ensures)
-      (c12 .is-alike .result) (c12 .is-alike .ensures) (c11 .if5 .taken) (again-in (c9 .kept4 .result) (c10 .numbered .result) (c26 .half-of .result) (c28 .pen-of .result) (c22 .operate3 .result) (c35 .walk .last .1 .1 .1 .1 .1 .1 .1 .1 .1 .0) (c35 .walk .last .1 .1 .1 .1 .1 .1 .1 .1 .1 .1 .0) (c15 .push-turn .last .0) (c35 .walk .last .1 .1 .1 .1 .1 .1 .1 .1 .1 .1 .1 .1 .0) (c9 .kept4 .ensures) (c10 .numbered .ensures))
+      pair-again (a .op) (a .size) (a .d - 1) (a .i) (a .m) (a .x) (a .y) (a .t1 .now) (a .t2 .now) (a .c .now) (a .t .now) (a .out .now) (a .w .now)
+      (progressOf (a .progress)) (a .d) (one-down (a .d) (c56 .if1 .left))
+      (sym (c55 .is-fixed .ensures (a .t1 .now) (a .t2 .now)) ∙ c54 .if2 .left)
+      (c53 .get .result) (c52 .get2 .result) (c53 .get .ensures) (c52 .get2 .ensures) (c51 .key-of .result) (c51 .key-of .ensures) (c50 .slot .result)
+      (c50 .slot .ensures) (c47 .recall .result) (c47 .recall .ensures)
+      (c46 .if3 .left) (c41 .first-edge .result) (c40 .first-edge2 .result) (record { bytes = c44 .push .last .0; count = c44 .push .result })
+      (recalledOf (c35 .walk .result) (c35 .walk .last .1 .1 .1 .1 .1 .1 .1 .1 .1 .0) (c35 .walk .last .1 .1 .1 .1 .1 .1 .1 .1 .1 .1 .0)
+      (c35 .walk .last .1 .1 .1 .1 .1 .1 .1 .1 .1 .1 .1 .0) (c35 .walk .last .1 .1 .1 .1 .1 .1 .1 .1 .1 .1 .1 .1 .0)) (c41 .first-edge .ensures)
+      (c40 .first-edge2 .ensures) (c44 .push .ensures) (c35 .walk .ensures)
+      (halfOf (c26 .half-of .result)) (progressOf (c28 .progress-of .result)) (c25 .both-pass .result) (c24 .second-edge .result)
+      (c23 .second-edge2 .result) (c22 .operate3 .result) (c21 .differs .result)
+      (record { bytes = c19 .wait .last .0; count = c19 .wait .result })
+      (record { bytes = c15 .push-tilde .last .0; count = c15 .push-tilde .result })
+      (recalledOf (c9 .kept4 .result) (c35 .walk .last .1 .1 .1 .1 .1 .1 .1 .1 .1 .0) (c35 .walk .last .1 .1 .1 .1 .1 .1 .1 .1 .1 .1 .0)
+      (c15 .push-tilde .last .0) (c35 .walk .last .1 .1 .1 .1 .1 .1 .1 .1 .1 .1 .1 .1 .0))
+      (walkedOf (c5 .second .result) (c5 .second .last .1 .1 .1 .1 .1 .1 .0) (c5 .second .last .1 .1 .1 .1 .1 .1 .1 .0)
+      (c5 .second .last .1 .1 .1 .1 .1 .1 .1 .1 .0))
+      (ap halfOf (c26 .half-of .ensures)) (ap progressOf (c28 .progress-of .ensures)) (c27 .if4 .left) (c25 .both-pass .ensures)
+      (c24 .second-edge .ensures) (c23 .second-edge2 .ensures) (c22 .operate3 .ensures) (c21 .differs .ensures) (c19 .wait .ensures)
+      (c15 .push-tilde .ensures) (c5 .second .ensures)
+      (c12 .is-alike .result) (c12 .is-alike .ensures) (c11 .if5 .taken)
+      (again-in (c9 .kept4 .result) (c10 .numbered .result) (c26 .half-of .result) (c28 .progress-of .result) (c22 .operate3 .result)
+      (c35 .walk .last .1 .1 .1 .1 .1 .1 .1 .1 .1 .0) (c35 .walk .last .1 .1 .1 .1 .1 .1 .1 .1 .1 .1 .0) (c15 .push-tilde .last .0)
+      (c35 .walk .last .1 .1 .1 .1 .1 .1 .1 .1 .1 .1 .1 .1 .0) (c9 .kept4 .ensures) (c10 .numbered .ensures))
 
   walk-requires-2 : walk-lts.Need-walk-requires-2 K (at t) walk.Post
   walk-requires-2 c κs =
-      let c49 = c .before .before .before .before .before .before .before .before .before .before .before .before .before .before .before .before .before .before .before .before .before .before .before .before .before .before .before .before .before .before .before .before .before .before .before .before .before .before .before .before .before .before .before .before .before .before .before .before .before in
+      let c49 = c .before .before .before .before .before .before .before .before .before .before .before .before .before .before .before .before
+      .before .before .before .before .before .before .before .before .before .before .before .before .before .before .before .before .before
+      .before .before .before .before .before .before .before .before .before .before .before .before .before .before .before .before in
       let c52 = c49 .before .before .before in
       let a = c52 .args in half-asks (a .d) (a .i) t (c52 .pre) (c49 .if1 .left)
 
@@ -373,14 +413,16 @@ module _ (t : ℕ) where
   same-length-11 c =
       let c7 = c .before .before .before .before .before .before .before in
       let c17 = c7 .before .before .before .before .before .before .before .before .before .before in
-      let c46 = c17 .before .before .before .before .before .before .before .before .before .before .before .before .before .before .before .before .before .before .before .before .before .before .before .before .before .before .before .before .before in
+      let c46 = c17 .before .before .before .before .before .before .before .before .before .before .before .before .before .before .before .before
+      .before .before .before .before .before .before .before .before .before .before .before .before .before in
       c7 .t4 .given ∙ c17 .t3 .given ∙ c46 .t .given
 
   same-length-12 : walk-lts.Need-same-length-12 K (at t) walk.Post
   same-length-12 c =
       let c6 = c .before .before .before .before .before .before in
       let c16 = c6 .before .before .before .before .before .before .before .before .before .before in
-      let c45 = c16 .before .before .before .before .before .before .before .before .before .before .before .before .before .before .before .before .before .before .before .before .before .before .before .before .before .before .before .before .before in
+      let c45 = c16 .before .before .before .before .before .before .before .before .before .before .before .before .before .before .before .before
+      .before .before .before .before .before .before .before .before .before .before .before .before .before in
       c6 .out4 .given ∙ c16 .out3 .given ∙ c45 .out .given
 
   same-length-13 : walk-lts.Need-same-length-13 K (at t) walk.Post
@@ -396,7 +438,8 @@ module _ (t : ℕ) where
   same-length-14 : walk-lts.Need-same-length-14 K (at t) walk.Post
   same-length-14 c =
       let c12 = c .before .before .before .before .before .before .before .before .before .before .before .before in
-      let c41 = c12 .before .before .before .before .before .before .before .before .before .before .before .before .before .before .before .before .before .before .before .before .before .before .before .before .before .before .before .before .before in
+      let c41 = c12 .before .before .before .before .before .before .before .before .before .before .before .before .before .before .before .before
+      .before .before .before .before .before .before .before .before .before .before .before .before .before in
       c .c3 .given ∙ c12 .c2 .given ∙ c41 .c .given
 
   returns-6 : walk-lts.Need-returns-6 K (at t) walk.Post
@@ -431,11 +474,26 @@ module _ (t : ℕ) where
       let c68 = c67 .before in
       let c71 = c68 .before .before .before in
       let a = c71 .args in
-      pair-on (a .op) (a .size) (a .d - 1) (a .i) (a .m) (a .x) (a .y) (a .t1 .now) (a .t2 .now) (a .c .now) (a .t .now) (a .out .now) (a .w .now) (penOf (a .pen)) (a .d) (one-down (a .d) (c68 .if1 .left)) (sym (c67 .is-fixed .ensures (a .t1 .now) (a .t2 .now)) ∙ c66 .if2 .left)
-      (c65 .get .result) (c64 .get2 .result) (c65 .get .ensures) (c64 .get2 .ensures) (c63 .key-of .result) (c63 .key-of .ensures) (c62 .slot .result) (c62 .slot .ensures) (c59 .recall .result) (c59 .recall .ensures)
-      (c58 .if3 .left) (c53 .first-edge .result) (c52 .first-edge2 .result) (record { bytes = c56 .push .last .0; count = c56 .push .result }) (recalledOf (c47 .walk .result) (c47 .walk .last .1 .1 .1 .1 .1 .1 .1 .1 .1 .0) (c47 .walk .last .1 .1 .1 .1 .1 .1 .1 .1 .1 .1 .0) (c47 .walk .last .1 .1 .1 .1 .1 .1 .1 .1 .1 .1 .1 .0) (c47 .walk .last .1 .1 .1 .1 .1 .1 .1 .1 .1 .1 .1 .1 .0)) (c53 .first-edge .ensures) (c52 .first-edge2 .ensures) (c56 .push .ensures) (c47 .walk .ensures)
-      (halfOf (c38 .half-of .result)) (penOf (c40 .pen-of .result)) (c37 .both-pass .result) (c36 .second-edge .result) (c35 .second-edge2 .result) (c34 .operate3 .result) (c33 .differs .result) (record { bytes = c31 .wait .last .0; count = c31 .wait .result }) (record { bytes = c27 .push-turn .last .0; count = c27 .push-turn .result }) (recalledOf (c18 .walk2 .result) (c18 .walk2 .last .1 .1 .1 .1 .1 .1 .1 .1 .1 .0) (c18 .walk2 .last .1 .1 .1 .1 .1 .1 .1 .1 .1 .1 .0) (c18 .walk2 .last .1 .1 .1 .1 .1 .1 .1 .1 .1 .1 .1 .0) (c18 .walk2 .last .1 .1 .1 .1 .1 .1 .1 .1 .1 .1 .1 .1 .0)) (walkedOf (c8 .second2 .result) (c8 .second2 .last .1 .1 .1 .1 .1 .1 .0) (c8 .second2 .last .1 .1 .1 .1 .1 .1 .1 .0) (c8 .second2 .last .1 .1 .1 .1 .1 .1 .1 .1 .0))
-      (ap halfOf (c38 .half-of .ensures)) (ap penOf (c40 .pen-of .ensures)) (c39 .if4 .left) (c37 .both-pass .ensures) (c36 .second-edge .ensures) (c35 .second-edge2 .ensures) (c34 .operate3 .ensures) (c33 .differs .ensures) (c31 .wait .ensures) (c27 .push-turn .ensures) (c8 .second2 .ensures)
+      pair-on (a .op) (a .size) (a .d - 1) (a .i) (a .m) (a .x) (a .y) (a .t1 .now) (a .t2 .now) (a .c .now) (a .t .now) (a .out .now) (a .w .now)
+      (progressOf (a .progress)) (a .d) (one-down (a .d) (c68 .if1 .left))
+      (sym (c67 .is-fixed .ensures (a .t1 .now) (a .t2 .now)) ∙ c66 .if2 .left)
+      (c65 .get .result) (c64 .get2 .result) (c65 .get .ensures) (c64 .get2 .ensures) (c63 .key-of .result) (c63 .key-of .ensures) (c62 .slot .result)
+      (c62 .slot .ensures) (c59 .recall .result) (c59 .recall .ensures)
+      (c58 .if3 .left) (c53 .first-edge .result) (c52 .first-edge2 .result) (record { bytes = c56 .push .last .0; count = c56 .push .result })
+      (recalledOf (c47 .walk .result) (c47 .walk .last .1 .1 .1 .1 .1 .1 .1 .1 .1 .0) (c47 .walk .last .1 .1 .1 .1 .1 .1 .1 .1 .1 .1 .0)
+      (c47 .walk .last .1 .1 .1 .1 .1 .1 .1 .1 .1 .1 .1 .0) (c47 .walk .last .1 .1 .1 .1 .1 .1 .1 .1 .1 .1 .1 .1 .0)) (c53 .first-edge .ensures)
+      (c52 .first-edge2 .ensures) (c56 .push .ensures) (c47 .walk .ensures)
+      (halfOf (c38 .half-of .result)) (progressOf (c40 .progress-of .result)) (c37 .both-pass .result) (c36 .second-edge .result)
+      (c35 .second-edge2 .result) (c34 .operate3 .result) (c33 .differs .result)
+      (record { bytes = c31 .wait .last .0; count = c31 .wait .result })
+      (record { bytes = c27 .push-tilde .last .0; count = c27 .push-tilde .result })
+      (recalledOf (c18 .walk2 .result) (c18 .walk2 .last .1 .1 .1 .1 .1 .1 .1 .1 .1 .0) (c18 .walk2 .last .1 .1 .1 .1 .1 .1 .1 .1 .1 .1 .0)
+      (c18 .walk2 .last .1 .1 .1 .1 .1 .1 .1 .1 .1 .1 .1 .0) (c18 .walk2 .last .1 .1 .1 .1 .1 .1 .1 .1 .1 .1 .1 .1 .0))
+      (walkedOf (c8 .second2 .result) (c8 .second2 .last .1 .1 .1 .1 .1 .1 .0) (c8 .second2 .last .1 .1 .1 .1 .1 .1 .1 .0)
+      (c8 .second2 .last .1 .1 .1 .1 .1 .1 .1 .1 .0))
+      (ap halfOf (c38 .half-of .ensures)) (ap progressOf (c40 .progress-of .ensures)) (c39 .if4 .left) (c37 .both-pass .ensures)
+      (c36 .second-edge .ensures) (c35 .second-edge2 .ensures) (c34 .operate3 .ensures) (c33 .differs .ensures) (c31 .wait .ensures)
+      (c27 .push-tilde .ensures) (c8 .second2 .ensures)
       (c24 .is-alike .result) (c24 .is-alike .ensures) (c23 .if5 .left) (c18 .walk2 .ensures) (c1 .note .last .0) (c1 .note .ensures)
 
 pub +walk-spec : {M : Type 1} → statement M
@@ -465,7 +523,7 @@ pub +walk-spec : {M : Type 1} → statement M
     (first-edge-requires t)
     (first-edge-requires-2 t)
     (walk-requires t)
-    (pen-of-requires t)
+    (progress-of-requires t)
     (same-length-3 t)
     (same-length-4 t)
     (same-length-5 t)
@@ -478,7 +536,7 @@ pub +walk-spec : {M : Type 1} → statement M
     (operate-requires-3 t)
     (differs-requires t)
     (wait-requires t)
-    (push-turn-requires t)
+    (push-tilde-requires t)
     (is-alike-requires t)
     (numbered-requires t)
     (kept-requires-4 t)

@@ -1,7 +1,7 @@
 -- The block is made of what was reached and its edge.
 -- Assumes nothing.
 use mathlib.Core.Path.{ap}
-use Rattle.reader.specs.Lent.{opensIn}
+use Rattle.reader.specs.OpenCells.{opensIn}
 use Rattle.work_table.specs.declared.Edge.{Edge}
 use borrow.Author.Needs.{needs}
 use Rattle.blocks.proofs.block_of.Statement.{statement}
@@ -13,7 +13,15 @@ edge-of-requires c κs = search needs
 returns : tie.Need-returns
 returns c =
     let r = c .before .before .args .r in
-    ap (λ (e : Edge). record { cursor = record { run = r .run; opens = opensIn (c .before .before .args .o .now) (r .depth) }; from = r .from; deep = r .deep; number = e .number; turned = e .turned; halted = r .halted }) (c .before .edge-of .ensures)
+    ap (λ (e : Edge). record {
+      cursor = record { run = r .run; opens = opensIn (c .before .before .args .o .now) (r .depth) };
+      from = r .from;
+      deep =
+          r .deep;
+      number = e .number;
+      complement = e .complement;
+      halted = r .halted;
+    }) (c .before .edge-of .ensures)
 
 pub block-of-spec : {M : Type 1} → statement M
 block-of-spec =

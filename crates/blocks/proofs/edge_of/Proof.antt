@@ -2,7 +2,7 @@
 -- Assumes nothing.
 use mathlib.Core.Path.{ap, _∙_}
 use mathlib.Core.Bool.{Bool}
-use Rattle.lists.specs.Lists.{differ}
+use Rattle.theory_lists.specs.Lists.{differ}
 use borrow.Author.Needs.{needs}
 use Rattle.blocks.proofs.edge_of.Statement.{statement}
 use Rattle.blocks.proofs.edge_of.Tie as tie
@@ -17,7 +17,8 @@ returns : tie.Need-returns
 returns c =
     let a = c .before .before .before .before .args in
     let parityof = c .before .before .before .parity-of in
-    ap (λ (b : Bool). record { number = a .r .run .last .number; turned = b }) (c .differs .ensures ∙ ap (λ (p : Bool). differ p (a .r .run .complement)) (parityof .ensures))
+    ap (λ (b : Bool). record { number = a .r .run .last .number; complement = b })
+    (c .differs .ensures ∙ ap (λ (p : Bool). differ p (a .r .run .complement)) (parityof .ensures))
 
 pub edge-of-spec : {M : Type 1} → statement M
 edge-of-spec =

@@ -3,7 +3,7 @@
 use mathlib.Core.Path.{refl, sym, ap, _∙_}
 use lib.Dec.{eqb}
 use borrow.Author.Tests.{ne-eqb, eq-eqb, not-true, not-false}
-use Rattle.work_table.specs.declared.Row.{Row}
+use Rattle.work_table.specs.declared.NodeRecord.{NodeRecord}
 use borrow.Author.Needs.{needs}
 use Rattle.blocks.proofs.is_whole.Statement.{statement}
 use Rattle.blocks.proofs.is_whole.Tie as tie
@@ -34,7 +34,7 @@ returns-4 c =
     let if3 = c .before .before .before .before .if3 in
     let a = c .before .before .before .before .before .before .before .before .before .before .args in
     rw (if1 .left, eq-eqb _ _ (if2 .left), sym (hasended .ensures) ∙ not-false _ (if3 .left))
-    (ap (λ (x : Row). eqb (x .stamp) (a .r .run .last .stamp)) (c .before .before .get .ensures))
+    (ap (λ (x : NodeRecord). eqb (x .stamp) (a .r .run .last .stamp)) (c .before .before .get .ensures))
 
 pub is-whole-spec : {M : Type 1} → statement M
 is-whole-spec =

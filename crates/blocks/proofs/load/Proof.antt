@@ -1,7 +1,7 @@
--- The loop reads the stream to its end, and what is loaded is made of what it reaches (`load-made`).
+-- The loop reads the stream to its end, and what is loaded is made of what it reaches (`load-correct`).
 -- Assumes nothing.
 use native.Mathlib.Omega.{arith}
-use Rattle.blocks.specs.Load.{load-options, load-table, load-made}
+use Rattle.blocks.specs.Load.{load-options, load-table, load-correct}
 use borrow.Author.Needs.{needs}
 use Rattle.blocks.proofs.load.Statement.{statement}
 use Rattle.blocks.proofs.load.Tie as tie
@@ -20,7 +20,8 @@ not-loaded-requires-2 c κs = search needs
 returns-2 : tie.Need-returns-2
 returns-2 c =
     let a = c .before .before .before .before .args in
-    load-table (a .n) (a .s .now) (a .t .now) _ (omega (arith, c .before .before .if1 .left)) (c .before .if2 .taken) (c .not-loaded2 .ensures (a .t .now))
+    load-table (a .n) (a .s .now) (a .t .now) _ (omega (arith, c .before .before .if1 .left)) (c .before .if2 .taken)
+    (c .not-loaded2 .ensures (a .t .now))
 
 first-cursor-requires : tie.Need-first-cursor-requires
 first-cursor-requires c κs = search needs
@@ -48,7 +49,8 @@ returns-3 c =
     let firstcursor = c .before .before .before .before .before .before .before .first-cursor in
     let readon = c .before .before .before .before .before .before .read-on in
     let iswhole = c .before .before .before .is-whole in
-    load-made (a .n) (a .s .now) (a .t .now) (omega (arith, if1 .left)) (omega (arith, if2 .left)) (firstcursor .result) (firstcursor .ensures) _ _ (readon .ensures)
+    load-correct (a .n) (a .s .now) (a .t .now) (omega (arith, if1 .left)) (omega (arith, if2 .left)) (firstcursor .result) (firstcursor .ensures) _ _
+    (readon .ensures)
     _ (c .before .block-of .ensures) _ (c .checked-at .ensures) _ (iswhole .ensures)
 
 pub load-spec : {M : Type 1} → statement M

@@ -1,6 +1,6 @@
 -- The block is made of what the loop reaches with the covered count as its stop (`next-called`).
 -- Assumes nothing.
-use Rattle.reader.specs.Lent.{cursorIn}
+use Rattle.reader.specs.OpenCells.{cursorIn}
 use Rattle.blocks.specs.Blocks.{next-called}
 use borrow.Author.Needs.{needs}
 use Rattle.blocks.proofs.next_block.Statement.{statement}
@@ -18,7 +18,8 @@ same-length c = search needs
 returns : tie.Need-returns
 returns c =
     let a = c .before .before .before .before .before .before .before .before .args in
-    next-called (a .n) (a .s .now) (cursorIn (a .c) (a .o .now)) (a .t .now) _ _ _ (c .before .before .before .read-on .ensures) (c .block-of .ensures)
+    next-called (a .n) (a .s .now) (cursorIn (a .c) (a .o .now)) (a .t .now) _ _ _ (c .before .before .before .read-on .ensures)
+    (c .block-of .ensures)
 
 pub next-block-spec : {M : Type 1} → statement M
 next-block-spec =

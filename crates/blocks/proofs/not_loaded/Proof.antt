@@ -2,7 +2,7 @@
 -- Assumes nothing.
 use mathlib.Core.Path.{ap₂}
 use mathlib.Core.Bool.{false}
-use Rattle.reading.specs.Causes as C
+use Rattle.theory_reading.specs.Causes as C
 use Rattle.reader.specs.declared.Cursor.{Cursor}
 use borrow.Author.Needs.{needs}
 use Rattle.blocks.proofs.not_loaded.Statement.{statement}
@@ -15,7 +15,15 @@ early-requires : tie.Need-early-requires
 early-requires c κs = search needs
 
 returns : tie.Need-returns
-returns c = λ t. ap₂ (λ (e : C.Refusal) (k : Cursor). record { answer = C.refused e; whole = false; size = k .run .size; number = 0; turned = false; table = t }) (c .early .ensures) (c .before .first-cursor .ensures)
+returns c = λ t. ap₂ (λ (e : C.Refusal) (k : Cursor). record {
+  answer = C.refused e;
+  whole = false;
+  size = k .run .size;
+  number = 0;
+  complement =
+      false;
+  table = t;
+}) (c .early .ensures) (c .before .first-cursor .ensures)
 
 pub not-loaded-spec : {M : Type 1} → statement M
 not-loaded-spec =

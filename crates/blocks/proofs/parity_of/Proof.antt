@@ -1,4 +1,4 @@
--- After i turns p is the parity of the first i open nodes: one more counts if the place is in its second child. It ends after all, or at the limit.
+-- After i iterations p is the parity of the first i open nodes: one more counts if the place is in its second child. It ends after all, or at the limit.
 -- Assumes nothing.
 use mathlib.Core.Path.{_≡_, sym, ap, _∙_}
 use mathlib.Core.Logic.{⊎-elim}
@@ -7,11 +7,11 @@ use Prim.Native.Nat.{ℕ, _+_, _-_, _≤_}
 use native.Mathlib.Omega.{arith}
 use lib.ListN.{getD}
 use borrow.Author.Tests.{eq-eqb, ne-eqb}
-use Rattle.lists.specs.Lists.{differ}
-use Rattle.reading.specs.Limits.{openLimit}
-use Rattle.reading.specs.Covered.{parity}
-use Rattle.scanner.specs.Cite.{insideOpen, opensOf}
-use Rattle.reader.specs.Lent.{nodesIn, node-at}
+use Rattle.theory_lists.specs.Lists.{differ}
+use Rattle.theory_reading.specs.Limits.{openLimit}
+use Rattle.theory_reading.specs.Covered.{parity}
+use Rattle.scanner.specs.Abstraction.{insideOpen, opensOf}
+use Rattle.reader.specs.OpenCells.{nodesIn, node-at}
 use Rattle.blocks.specs.Blocks.{deep-past, deep-all, parity-none, parity-more}
 use Rattle.scanner.specs.declared.Open.{Open}
 use borrow.Author.Needs.{needs}
@@ -61,12 +61,14 @@ loop-again c =
     let inv = l .inv in
     let ns = nodesIn (a .o .now) in
     let i = l .i in
-    let more : (b : Bool) → getD ns i insideOpen .second ≡ b → cond b (differ (getD ns i insideOpen .turned) (l .p)) (l .p) ≡ parity (opensOf ns (i + 1))
+    let more : (b : Bool) → getD ns i insideOpen .second ≡ b → cond b (differ (getD ns i insideOpen .complement) (l .p)) (l .p)
+    ≡ parity (opensOf ns (i + 1))
     = λ b e. rw (inv .1 .1) (parity-more ns i b e) in
     let here = node-at (a .o .now) i in
     let now : c .if2 .p ≡ parity (opensOf ns (i + 1))
     = ⊎-elim
-    (λ w. w .2 ∙ w .1 .ensures ∙ ap (λ (e : Open). differ (e .turned) (l .p)) here ∙ more true (sym (ap (λ (e : Open). e .second) here) ∙ ap not (ne-eqb _ _ (w .0 .taken))))
+    (λ w. w .2 ∙ w .1 .ensures ∙ ap (λ (e : Open). differ (e .complement) (l .p)) here
+    ∙ more true (sym (ap (λ (e : Open). e .second) here) ∙ ap not (ne-eqb _ _ (w .0 .taken))))
     (λ w. w .1 ∙ more false (sym (ap (λ (e : Open). e .second) here) ∙ ap not (eq-eqb _ _ (w .0 .left)))) (c .if2 .came) in
     (omega (arith, c .before .before .before .loop-test .taken), (omega (arith, inv .1 .0, c .before .before .if1 .left), now))
 
@@ -74,7 +76,8 @@ returns-2 : tie.Need-returns-2 Inv-loop μ-loop
 returns-2 c =
     let a = c .before .before .args in
     let l = c .before .loop in
-    l .inv .1 .1 ∙ ap (λ (k : ℕ). parity (opensOf (nodesIn (a .o .now)) k)) (deep-all (a .d) (l .i) (l .inv .0) (l .inv .1 .0) (omega (arith, c .loop-test .left)))
+    l .inv .1 .1 ∙ ap (λ (k : ℕ). parity (opensOf (nodesIn (a .o .now)) k))
+    (deep-all (a .d) (l .i) (l .inv .0) (l .inv .1 .0) (omega (arith, c .loop-test .left)))
 
 pub parity-of-spec : {M : Type 1} → statement M
 parity-of-spec =

@@ -2,10 +2,10 @@
 -- Assumes nothing.
 use mathlib.Core.Path.{ap}
 use native.Mathlib.Omega.{arith}
-use Rattle.reading.specs.Limits.{wordLimit}
-use Rattle.reading.specs.Causes as C
+use Rattle.theory_reading.specs.Limits.{wordLimit}
+use Rattle.theory_reading.specs.Causes as C
 use Rattle.reader.specs.ReadOn.{read-begun}
-use Rattle.checker.specs.CheckMade.{cleared-after, all-reads, check-options, check-table, check-made}
+use Rattle.checker.specs.CheckCorrect.{cleared-after, all-reads, check-options, check-table, check-correct}
 use borrow.Author.Needs.{needs}
 use Rattle.checker.proofs.check.Statement.{statement}
 use Rattle.checker.proofs.check.Tie as tie
@@ -24,7 +24,8 @@ early-requires-2 c κs = search needs
 returns-2 : tie.Need-returns-2
 returns-2 c =
     let a = c .before .before .before .before .args in
-    check-table (a .n) (a .s .now) (a .t .now) _ (omega (arith, c .before .before .if1 .left)) (c .before .if2 .taken) (ap C.refused (c .early2 .ensures))
+    check-table (a .n) (a .s .now) (a .t .now) _ (omega (arith, c .before .before .if1 .left)) (c .before .if2 .taken)
+    (ap C.refused (c .early2 .ensures))
 
 first-cursor-requires : tie.Need-first-cursor-requires
 first-cursor-requires c κs = search needs
@@ -50,8 +51,10 @@ returns-3 c =
     let readon = c .before .before .before .before .before .read-on in
     let t0 = c .before .before .before .before .t in
     let few = if1 .left in
-    let reached = read-begun (a .n) (a .s .now) (omega (arith, few)) wordLimit (omega arith) (firstcursor .result) (a .t .now) (omega (arith, if2 .left)) (firstcursor .ensures) _ _ (readon .ensures) in
-    check-made (a .n) (a .s .now) (a .t .now) _ _ _ _ (omega (arith, few)) (omega (arith, if2 .left)) (all-reads (a .n) (a .s .now) _ _ (omega (arith, few)) reached) (c .checked-at .ensures)
+    let reached = read-begun (a .n) (a .s .now) (omega (arith, few)) wordLimit (omega arith) (firstcursor .result) (a .t .now)
+    (omega (arith, if2 .left)) (firstcursor .ensures) _ _ (readon .ensures) in
+    check-correct (a .n) (a .s .now) (a .t .now) _ _ _ _ (omega (arith, few)) (omega (arith, if2 .left))
+    (all-reads (a .n) (a .s .now) _ _ (omega (arith, few)) reached) (c .checked-at .ensures)
     (cleared-after _ _ _ _ _ reached (a .t .now) (t0 .given) _ (c .before .before .clear .ensures))
 
 pub check-spec : {M : Type 1} → statement M

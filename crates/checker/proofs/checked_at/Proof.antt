@@ -2,8 +2,8 @@
 -- Assumes nothing.
 use mathlib.Core.Path.{refl, ap, _∙_}
 use mathlib.Core.Bool.{Bool, cond}
-use Rattle.reading.specs.Causes as C
-use Rattle.reading.specs.Calls as R
+use Rattle.theory_reading.specs.Causes as C
+use Rattle.theory_reading.specs.Calls as R
 use borrow.Author.Needs.{needs}
 use Rattle.checker.proofs.checked_at.Statement.{statement}
 use Rattle.checker.proofs.checked_at.Tie as tie
@@ -14,13 +14,14 @@ late-requires c κs = search needs
 returns : tie.Need-returns
 returns c = ap C.refused (c .late .ensures) ∙ rw (c .before .if1 .taken) refl
 
-is-mark-requires : tie.Need-is-mark-requires
-is-mark-requires c κs = search needs
+is-context-requires : tie.Need-is-context-requires
+is-context-requires c κs = search needs
 
 returns-2 : tie.Need-returns-2
 returns-2 c =
     let a = c .before .before .before .args in
-    ap (λ (t : Bool). C.done (record { size = a .r .run .size; covered = a .r .run .covered; extent = cond t R.complete R.cut })) (c .is-mark .ensures) ∙ rw (c .before .before .if1 .left) refl
+    ap (λ (t : Bool). C.done (record { size = a .r .run .size; covered = a .r .run .covered; extent = cond t R.complete R.cut }))
+    (c .is-context .ensures) ∙ rw (c .before .before .if1 .left) refl
 
 pub checked-at-spec : {M : Type 1} → statement M
-checked-at-spec = tie.close (tie.spec late-requires returns is-mark-requires returns-2)
+checked-at-spec = tie.close (tie.spec late-requires returns is-context-requires returns-2)

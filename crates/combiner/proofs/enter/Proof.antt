@@ -2,8 +2,8 @@
 use borrow.Author.Tests.{not-true, not-false}
 use Rattle.blocks.specs.Blocks.{blockIn}
 use Rattle.blocks.specs.Load.{loadIn}
-use Rattle.feeds.specs.Cite.{begunFrom}
-use Rattle.combiner.specs.CallMade.{enter-text, enter-blind, enter-root}
+use Rattle.operands.specs.Abstraction.{begunFrom}
+use Rattle.combiner.specs.CallCorrect.{enter-text, enter-blind, enter-root}
 use borrow.Author.Needs.{needs}
 use Rattle.combiner.proofs.enter.Statement.{statement}
 use Rattle.combiner.proofs.enter.Tie as tie
@@ -15,13 +15,29 @@ same-length : tie.Need-same-length
 same-length c = search needs
 
 returns : tie.Need-returns
-returns c = enter-text (c .before .before .before .before .before .before .args .v) (c .before .before .before .before .before .before .args .s .now) (blockIn (c .before .before .before .before .before .before .args .l .block) (c .before .before .before .before .before .before .args .o .now)) (loadIn (c .before .before .before .before .before .before .args .l) (c .before .before .before .before .before .before .args .t .now)) (begunFrom (c .before .before .before .before .before .before .args .n) (c .before .before .before .before .before .before .args .s .now) (c .before .before .before .before .before .before .args .o .now) (c .before .before .before .before .before .before .args .t .now)) _ (not-true (c .before .before .before .before .before .before .args .l .whole) (c .before .before .before .before .if1 .taken)) (c .before .begin .ensures)
+returns c = enter-text (c .before .before .before .before .before .before .args .v) (c .before .before .before .before .before .before .args .s .now)
+    (blockIn (c .before .before .before .before .before .before .args .l .block) (c .before .before .before .before .before .before .args .o .now))
+    (loadIn (c .before .before .before .before .before .before .args .l) (c .before .before .before .before .before .before .args .t .now))
+    (begunFrom (c .before .before .before .before .before .before .args .n) (c .before .before .before .before .before .before .args .s .now)
+    (c .before .before .before .before .before .before .args .o .now) (c .before .before .before .before .before .before .args .t .now)) _
+    (not-true (c .before .before .before .before .before .before .args .l .whole) (c .before .before .before .before .if1 .taken))
+    (c .before .begin .ensures)
 
 returns-2 : tie.Need-returns-2
-returns-2 c = enter-blind (c .before .before .before .before .args .v) (c .before .before .before .before .args .s .now) (blockIn (c .before .before .before .before .args .l .block) (c .before .before .before .before .args .o .now)) (loadIn (c .before .before .before .before .args .l) (c .before .before .before .before .args .t .now)) (begunFrom (c .before .before .before .before .args .n) (c .before .before .before .before .args .s .now) (c .before .before .before .before .args .o .now) (c .before .before .before .before .args .t .now)) (not-false (c .before .before .before .before .args .l .whole) (c .before .before .if1 .left)) (c .if2 .taken)
+returns-2 c = enter-blind (c .before .before .before .before .args .v) (c .before .before .before .before .args .s .now)
+    (blockIn (c .before .before .before .before .args .l .block) (c .before .before .before .before .args .o .now))
+    (loadIn (c .before .before .before .before .args .l) (c .before .before .before .before .args .t .now))
+    (begunFrom (c .before .before .before .before .args .n) (c .before .before .before .before .args .s .now)
+    (c .before .before .before .before .args .o .now) (c .before .before .before .before .args .t .now))
+    (not-false (c .before .before .before .before .args .l .whole) (c .before .before .if1 .left)) (c .if2 .taken)
 
 returns-3 : tie.Need-returns-3
-returns-3 c = enter-root (c .before .before .before .before .args .v) (c .before .before .before .before .args .s .now) (blockIn (c .before .before .before .before .args .l .block) (c .before .before .before .before .args .o .now)) (loadIn (c .before .before .before .before .args .l) (c .before .before .before .before .args .t .now)) (begunFrom (c .before .before .before .before .args .n) (c .before .before .before .before .args .s .now) (c .before .before .before .before .args .o .now) (c .before .before .before .before .args .t .now)) (not-false (c .before .before .before .before .args .l .whole) (c .before .before .if1 .left)) (c .if2 .left)
+returns-3 c = enter-root (c .before .before .before .before .args .v) (c .before .before .before .before .args .s .now)
+    (blockIn (c .before .before .before .before .args .l .block) (c .before .before .before .before .args .o .now))
+    (loadIn (c .before .before .before .before .args .l) (c .before .before .before .before .args .t .now))
+    (begunFrom (c .before .before .before .before .args .n) (c .before .before .before .before .args .s .now)
+    (c .before .before .before .before .args .o .now) (c .before .before .before .before .args .t .now))
+    (not-false (c .before .before .before .before .args .l .whole) (c .before .before .if1 .left)) (c .if2 .left)
 
 pub enter-spec : {M : Type 1} → statement M
 enter-spec = tie.close (tie.spec begin-requires same-length returns returns-2 returns-3)

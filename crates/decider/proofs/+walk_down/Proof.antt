@@ -5,8 +5,8 @@ use Prim.Native.Nat.{ℕ, _<_}
 use native.Mathlib.Omega.{arith}
 use borrow.Fn.Kinds.{In}
 use borrow.Fn.PlainCycle.{Measures, is, falls, and}
-use Rattle.reading.specs.Calls.{verdictOf}
-use Rattle.reading.specs.Deciding.{options}
+use Rattle.theory_reading.specs.Calls.{verdictOf}
+use Rattle.theory_reading.specs.Deciding.{options}
 use Rattle.work_table.specs.TableLaws.{tableOf}
 use Rattle.decider.specs.WalkLaws.{walk-terminal, walk-over, walk-low, walk-high}
 use borrow.Author.Needs.{needs}
@@ -96,7 +96,8 @@ module _ (t : ℕ) where
       let c7 = c5 .before .before in
       let a = c7 .args in
       c .walk-down .ensures
-      ∙ ap verdictOf (walk-low (a .t .now) (a .z) (a .i) (a .e) (c3 .get .result) (c5 .if1 .left) (c3 .get .ensures) (a .m) (a .w) (c4 .if2 .left) (c7 .pre .1 .0)
+      ∙ ap verdictOf (walk-low (a .t .now) (a .z) (a .i) (a .e) (c3 .get .result) (c5 .if1 .left) (c3 .get .ensures) (a .m) (a .w) (c4 .if2 .left)
+      (c7 .pre .1 .0)
       (c1 .first-edge .result) (c1 .first-edge .ensures) (c2 .if3 .taken))
 
   sub-walk-down-2 : walk-down-lts.Need-sub-walk-down-2 K (at t) walk-down.Post
@@ -121,7 +122,8 @@ module _ (t : ℕ) where
       let c7 = c5 .before .before in
       let a = c7 .args in
       c .walk-down2 .ensures
-      ∙ ap verdictOf (walk-high (a .t .now) (a .z) (a .i) (a .e) (c3 .get .result) (c5 .if1 .left) (c3 .get .ensures) (a .m) (a .w) (c4 .if2 .left) (c7 .pre .1 .0)
+      ∙ ap verdictOf (walk-high (a .t .now) (a .z) (a .i) (a .e) (c3 .get .result) (c5 .if1 .left) (c3 .get .ensures) (a .m) (a .w) (c4 .if2 .left)
+      (c7 .pre .1 .0)
       (c1 .second-edge .result) (c1 .second-edge .ensures) (omega (arith, c2 .if3 .left)))
 
 pub +walk-down-spec : {M : Type 1} → statement M

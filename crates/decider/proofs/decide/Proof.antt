@@ -3,16 +3,16 @@
 use mathlib.Core.Path.{sym, ap, _∙_}
 use Prim.Native.Nat.{_≤_}
 use native.Mathlib.Omega.{arith}
-use Rattle.lists.specs.Powers.{shifted}
-use Rattle.reading.specs.Limits.{optionLimit, wordLimit}
-use Rattle.reading.specs.Calls.{notYet}
-use Rattle.reading.specs.Causes as C
+use Rattle.theory_lists.specs.Powers.{shifted}
+use Rattle.theory_reading.specs.Limits.{optionLimit, wordLimit}
+use Rattle.theory_reading.specs.Calls.{notYet}
+use Rattle.theory_reading.specs.Causes as C
 use Rattle.reader.specs.Loop.{stands-covered}
 use Rattle.reader.specs.ReadOn.{read-called, read-begun}
-use Rattle.checker.specs.CheckMade.{cleared-after, halted-reads, all-reads}
+use Rattle.checker.specs.CheckCorrect.{cleared-after, halted-reads, all-reads}
 use Rattle.blocks.specs.Blocks.{word-passed}
 use Rattle.decider.specs.Answers.{verdictsOf}
-use Rattle.decider.specs.DecideMade.{word-most, passed-bounds, word-not, decide-options, decide-table, decide-word, decide-made}
+use Rattle.decider.specs.DecideCorrect.{word-most, passed-bounds, word-not, decide-options, decide-table, decide-word, decide-correct}
 use borrow.Author.Needs.{needs}
 use Rattle.decider.proofs.decide.Statement.{statement}
 use Rattle.decider.proofs.decide.Tie as tie
@@ -31,7 +31,8 @@ early-requires-2 c κs = search needs
 returns-2 : tie.Need-returns-2
 returns-2 c =
     let a = c .before .before .before .before .args in
-    decide-table (a .n) (a .s .now) (a .t .now) (a .w) _ (omega (arith, c .before .before .if1 .left)) (c .before .if2 .taken) (ap C.refused (c .early2 .ensures))
+    decide-table (a .n) (a .s .now) (a .t .now) (a .w) _ (omega (arith, c .before .before .if1 .left)) (c .before .if2 .taken)
+    (ap C.refused (c .early2 .ensures))
 
 shl-if3 : tie.Need-shl-if3
 shl-if3 c = search needs
@@ -44,7 +45,8 @@ returns-3 c =
     let if1 = c .before .before .before .if1 in
     let a = c .before .before .before .before .before .args in
     let few = if1 .left in
-    decide-word (a .n) (a .s .now) (a .t .now) (a .w) _ (omega (arith, few)) (omega (arith, c .before .before .if2 .left)) (omega (arith, c .before .if3 .taken, shifted (a .n) (omega (arith, few)))) (ap C.refused (c .early3 .ensures))
+    decide-word (a .n) (a .s .now) (a .t .now) (a .w) _ (omega (arith, few)) (omega (arith, c .before .before .if2 .left))
+    (omega (arith, c .before .if3 .taken, shifted (a .n) (omega (arith, few)))) (ap C.refused (c .early3 .ensures))
 
 first-cursor-requires : tie.Need-first-cursor-requires
 first-cursor-requires c κs = search needs
@@ -72,8 +74,9 @@ returns-4 c =
     let if4 = c .before .before .before .before .if4 in
     let t0 = c .before .before .before .before .before .t in
     let few : a .n ≤ optionLimit = omega (arith, if1 .left) in let n = a .n in let s = a .s .now in let t = a .t .now in let w = a .w in
-    let reached = read-begun n s few w (word-most n w few (omega (arith, if3 .left, shifted n (omega (arith, few))))) (firstcursor .result) t (omega (arith, if2 .left)) (firstcursor .ensures) _ _ (readon .ensures) in
-    decide-made n s t w _ _ _ _ notYet few (omega (arith, if2 .left)) (omega (arith, if3 .left, shifted n (omega (arith, few))))
+    let reached = read-begun n s few w (word-most n w few (omega (arith, if3 .left, shifted n (omega (arith, few))))) (firstcursor .result) t
+    (omega (arith, if2 .left)) (firstcursor .ensures) _ _ (readon .ensures) in
+    decide-correct n s t w _ _ _ _ notYet few (omega (arith, if2 .left)) (omega (arith, if3 .left, shifted n (omega (arith, few))))
     (halted-reads n s w _ _ reached (if4 .taken)) (word-not n s t w _ _ reached (if4 .taken)) (c .decided-at .ensures)
     (cleared-after _ _ _ _ _ reached t (t0 .given) _ (c .before .before .clear .ensures))
 
@@ -86,7 +89,9 @@ word-at-requires c κs =
     let if3 = c .before .before .before .before .before .before .before .before .if3 in
     let readon = c .before .before .before .before .read-on in
     let few : a .n ≤ optionLimit = omega (arith, if1 .left) in
-    let reached = read-begun (a .n) (a .s .now) few (a .w) (word-most (a .n) (a .w) few (omega (arith, if3 .left, shifted (a .n) (omega (arith, few))))) (firstcursor .result) (a .t .now) (omega (arith, if2 .left)) (firstcursor .ensures) _ _ (readon .ensures) in
+    let reached = read-begun (a .n) (a .s .now) few (a .w) (word-most (a .n) (a .w) few
+    (omega (arith, if3 .left, shifted (a .n) (omega (arith, few))))) (firstcursor .result) (a .t .now) (omega (arith, if2 .left))
+    (firstcursor .ensures) _ _ (readon .ensures) in
     let b = passed-bounds (a .n) (a .s .now) (a .w) _ _ reached (c .before .before .if4 .left) in (few, (b .0, b .1))
 
 read-on-requires-2 : tie.Need-read-on-requires-2
@@ -103,21 +108,29 @@ same-length-2 c = search needs
 
 returns-5 : tie.Need-returns-5
 returns-5 c =
-    let a = c .before .before .before .before .before .before .before .before .before .before .before .before .before .before .before .before .before .before .before .before .before .before .args in
-    let if1 = c .before .before .before .before .before .before .before .before .before .before .before .before .before .before .before .before .before .before .before .before .if1 in
-    let firstcursor = c .before .before .before .before .before .before .before .before .before .before .before .before .before .before .before .first-cursor in
-    let if2 = c .before .before .before .before .before .before .before .before .before .before .before .before .before .before .before .before .before .before .before .if2 in
+    let a = c .before .before .before .before .before .before .before .before .before .before .before .before .before .before .before .before .before
+    .before .before .before .before .before .args in
+    let if1 = c .before .before .before .before .before .before .before .before .before .before .before .before .before .before .before .before
+    .before .before .before .before .if1 in
+    let firstcursor = c .before .before .before .before .before .before .before .before .before .before .before .before .before .before .before
+    .first-cursor in
+    let if2 = c .before .before .before .before .before .before .before .before .before .before .before .before .before .before .before .before
+    .before .before .before .if2 in
     let readon = c .before .before .before .before .before .before .before .before .before .before .before .before .before .before .read-on in
     let readon2 = c .before .before .before .before .before .read-on2 in
     let wordat = c .before .before .before .before .before .before .before .before .before .word-at in
-    let if3 = c .before .before .before .before .before .before .before .before .before .before .before .before .before .before .before .before .before .before .if3 in
+    let if3 = c .before .before .before .before .before .before .before .before .before .before .before .before .before .before .before .before
+    .before .before .if3 in
     let if4 = c .before .before .before .before .before .before .before .before .before .before .before .before .if4 in
     let t3 = c .before .before .before .before .t3 in
     let t0 = c .before .before .before .before .before .before .before .before .before .before .before .before .before .t in
     let few : a .n ≤ optionLimit = omega (arith, if1 .left) in let n = a .n in let s = a .s .now in let t = a .t .now in let w = a .w in
-    let reached = read-begun n s few w (word-most n w few (omega (arith, if3 .left, shifted n (omega (arith, few))))) (firstcursor .result) t (omega (arith, if2 .left)) (firstcursor .ensures) _ _ (readon .ensures) in
-    let ended = read-called n s few wordLimit (omega arith) _ _ (reached .stands) (stands-covered n s few _ _ _ (reached .stands)) _ _ (readon2 .ensures) in
-    decide-made n s t w _ _ _ _ (verdictsOf (wordat .result)) few (omega (arith, if2 .left)) (omega (arith, if3 .left, shifted n (omega (arith, few))))
+    let reached = read-begun n s few w (word-most n w few (omega (arith, if3 .left, shifted n (omega (arith, few))))) (firstcursor .result) t
+    (omega (arith, if2 .left)) (firstcursor .ensures) _ _ (readon .ensures) in
+    let ended = read-called n s few wordLimit (omega arith) _ _ (reached .stands) (stands-covered n s few _ _ _ (reached .stands)) _ _
+    (readon2 .ensures) in
+    decide-correct n s t w _ _ _ _ (verdictsOf (wordat .result)) few (omega (arith, if2 .left))
+    (omega (arith, if3 .left, shifted n (omega (arith, few))))
     (all-reads n s _ _ few ended) (λ _. word-passed n s w _ _ reached (if4 .left) ∙ sym (wordat .ensures)) (c .decided-at2 .ensures)
     (cleared-after _ _ _ _ _ ended t (t3 .given ∙ t0 .given) _ (c .before .before .clear2 .ensures))
 

@@ -1,7 +1,7 @@
 -- The fault that the loop met, or the verdict.
 -- Assumes nothing.
 use mathlib.Core.Path.{refl, ap, _∙_}
-use Rattle.reading.specs.Causes as C
+use Rattle.theory_reading.specs.Causes as C
 use borrow.Author.Needs.{needs}
 use Rattle.decider.proofs.decided_at.Statement.{statement}
 use Rattle.decider.proofs.decided_at.Tie as tie

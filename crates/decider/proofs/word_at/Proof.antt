@@ -3,9 +3,9 @@
 use mathlib.Core.Path.{ap₂, _∙_}
 use Prim.Native.Nat.{ℕ, _-_, _+_}
 use native.Mathlib.Omega.{arith}
-use Rattle.reading.specs.Calls.{verdictOf}
-use Rattle.reading.specs.Deciding.{complemented, options}
-use Rattle.reading.specs.TableWalk.{rowWalk}
+use Rattle.theory_reading.specs.Calls.{verdictOf}
+use Rattle.theory_reading.specs.Deciding.{complemented, options}
+use Rattle.theory_reading.specs.TableWalk.{tableWalk}
 use Rattle.work_table.specs.TableLaws.{tableOf}
 use Rattle.work_table.specs.declared.Edge.{Edge}
 use borrow.Author.Needs.{needs}
@@ -40,7 +40,9 @@ returns c =
     let below = c .before .before .before .below in
     let r = a .r in
     c .walk-down .ensures
-    ∙ ap₂ (λ (m : ℕ) (e : Edge). verdictOf (complemented (e .turned) (rowWalk (tableOf (a .t .now) (r .run .size)) (r .deep + 1) (e .number) (options m (a .w - r .from))))) (below .ensures) (c .before .before .edge-of .ensures)
+    ∙ ap₂ (λ (m : ℕ) (e : Edge). verdictOf (complemented (e .complement)
+    (tableWalk (tableOf (a .t .now) (r .run .size)) (r .deep + 1) (e .number) (options m (a .w - r .from))))) (below .ensures)
+    (c .before .before .edge-of .ensures)
 
 pub word-at-spec : {M : Type 1} → statement M
 word-at-spec =

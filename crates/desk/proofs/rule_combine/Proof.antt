@@ -25,7 +25,9 @@ same-length-4 c = search needs
 
 returns : tie.Need-returns
 returns c = let a = c .before .before .before .before .before .before .before .before .before .before .before .before .before .before .args in
-    combine-numbers (c .written-numbers .result) _ _ _ _ _ (a .n) (a .op) (a .size) (a .stream1 .now) (a .stream2 .now) (a .output .now) (a .table1 .now) (a .table2 .now) (a .table3 .now) (c .written-numbers .ensures) (c .before .before .before .before .before .before .combine .ensures)
+    combine-numbers (c .written-numbers .result) _ _ _ _ _ (a .n) (a .op) (a .size) (a .stream1 .now) (a .stream2 .now) (a .output .now)
+    (a .table1 .now) (a .table2 .now) (a .table3 .now) (c .written-numbers .ensures)
+    (c .before .before .before .before .before .before .combine .ensures)
 
 pub rule-combine-spec : {M : Type 1} → statement M
 rule-combine-spec =

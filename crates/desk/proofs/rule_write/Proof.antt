@@ -19,7 +19,8 @@ same-length-2 c = search needs
 
 returns : tie.Need-returns
 returns c = let a = c .before .before .before .before .before .before .before .before .before .args in
-    write-numbers (c .written-numbers .result) _ _ _ (a .n) (a .size) (a .truths .now) (a .output .now) (a .table .now) (c .written-numbers .ensures) (c .before .before .before .before .write .ensures)
+    write-numbers (c .written-numbers .result) _ _ _ (a .n) (a .size) (a .truths .now) (a .output .now) (a .table .now) (c .written-numbers .ensures)
+    (c .before .before .before .before .write .ensures)
 
 pub rule-write-spec : {M : Type 1} → statement M
 rule-write-spec =

@@ -1,7 +1,7 @@
 -- Both tests in their order. Assumes nothing.
 use mathlib.Core.Path.{refl, sym}
 use borrow.Author.Tests.{not-true, not-false}
-use Rattle.combining.specs.EdgeMade.{and-none}
+use Rattle.theory_combining.specs.EdgeCorrect.{and-none}
 use borrow.Author.Needs.{needs}
 use Rattle.edges.proofs.both_pass.Statement.{statement}
 use Rattle.edges.proofs.both_pass.Tie as tie
@@ -16,7 +16,12 @@ skips-requires-2 : tie.Need-skips-requires-2
 skips-requires-2 c κs = search needs
 
 returns-2 : tie.Need-returns-2
-returns-2 c = rw (sym (c .before .before .skips .ensures), not-false (c .before .before .skips .result) (c .before .if1 .left), sym (c .skips2 .ensures)) (and-none (c .skips2 .result))
+returns-2 c = rw (
+  sym (c .before .before .skips .ensures),
+  not-false (c .before .before .skips .result) (c .before .if1 .left),
+  sym
+      (c .skips2 .ensures),
+) (and-none (c .skips2 .result))
 
 pub both-pass-spec : {M : Type 1} → statement M
 both-pass-spec = tie.close (tie.spec skips-requires returns skips-requires-2 returns-2)

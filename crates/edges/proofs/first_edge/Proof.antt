@@ -1,7 +1,7 @@
 -- The first child of the node, in the same table. Assumes nothing.
 use mathlib.Core.Path.{ap, _∙_}
-use Rattle.combining.specs.EdgeMade.{first-child}
-use Rattle.edges.specs.Cite.{edgeIn}
+use Rattle.theory_combining.specs.EdgeCorrect.{first-child}
+use Rattle.edges.specs.Abstraction.{edgeIn}
 use Rattle.edges.specs.declared.Edge.{Edge}
 use borrow.Author.Needs.{needs}
 use Rattle.edges.proofs.first_edge.Statement.{statement}
@@ -21,7 +21,8 @@ returns c = λ t e.
     let b = c .before .before in
     let a = b .before .args in
     ap (λ (y : Edge). edgeIn y t) (c .beside .ensures)
-    ∙ first-child t (a .x .size) (a .i) (record { number = a .x .number; turned = a .x .turned }) (a .r) e (b .bare .result) (c .before .first-edge .result) (b .bare .ensures) (c .before .first-edge .ensures)
+    ∙ first-child t (a .x .size) (a .i) (record { number = a .x .number; complement = a .x .complement }) (a .r) e (b .bare .result)
+    (c .before .first-edge .result) (b .bare .ensures) (c .before .first-edge .ensures)
 
 pub first-edge-spec : {M : Type 1} → statement M
 first-edge-spec = tie.close (tie.spec bare-requires first-edge-requires beside-requires returns)

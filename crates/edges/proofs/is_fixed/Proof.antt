@@ -5,25 +5,44 @@ use Rattle.edges.proofs.is_fixed.Statement.{statement}
 use Rattle.edges.proofs.is_fixed.Tie as tie
 use mathlib.Core.Path.{refl, sym, _∙_}
 use borrow.Author.Tests.{ne-eqb}
-use Rattle.writing.specs.Run.{operate}
-use Rattle.edges.specs.Cite.{edgeIn}
-use Rattle.combining.specs.EdgeMade.{fixed-two}
+use Rattle.theory_writing.specs.Run.{operate}
+use Rattle.edges.specs.Abstraction.{edgeIn}
+use Rattle.theory_combining.specs.EdgeCorrect.{fixed-two}
 use borrow.Author.Tests.{not-true, not-false}
 
 is-settled-requires : tie.Need-is-settled-requires
 is-settled-requires c κs = search needs
 
 returns : tie.Need-returns
-returns c = λ t u. (rw (sym (c .before .is-settled .ensures u), not-true (c .before .is-settled .result) (c .if1 .taken)) refl) ∙ fixed-two (operate (c .before .before .args .op)) (edgeIn (c .before .before .args .x) t) (edgeIn (c .before .before .args .y) u)
+returns c = λ t u. (rw (sym (c .before .is-settled .ensures u), not-true (c .before .is-settled .result) (c .if1 .taken)) refl)
+    ∙ fixed-two (operate (c .before .before .args .op)) (edgeIn (c .before .before .args .x) t) (edgeIn (c .before .before .args .y) u)
 
 returns-2 : tie.Need-returns-2
-returns-2 c = λ t u. (rw (sym (c .before .before .before .is-settled .ensures u), not-false (c .before .before .before .is-settled .result) (c .before .before .if1 .left), c .if2 .taken) refl) ∙ fixed-two (operate (c .before .before .before .before .args .op)) (edgeIn (c .before .before .before .before .args .x) t) (edgeIn (c .before .before .before .before .args .y) u)
+returns-2 c = λ t u. (rw (
+  sym (c .before .before .before .is-settled .ensures u),
+  not-false (c .before .before .before .is-settled .result)
+      (c .before .before .if1 .left),
+  c .if2 .taken,
+) refl) ∙ fixed-two (operate (c .before .before .before .before .args .op))
+    (edgeIn (c .before .before .before .before .args .x) t) (edgeIn (c .before .before .before .before .args .y) u)
 
 is-settled-requires-2 : tie.Need-is-settled-requires-2
 is-settled-requires-2 c κs = search needs
 
 returns-3 : tie.Need-returns-3
-returns-3 c = λ t u. (rw (sym (c .before .before .before .before .before .before .is-settled .ensures u), not-false (c .before .before .before .before .before .before .is-settled .result) (c .before .before .before .before .before .if1 .left), ne-eqb (c .before .before .before .before .before .before .before .args .x .number) 0 (c .before .before .before .if2 .left), sym (c .before .is-settled2 .ensures u), not-true (c .before .is-settled2 .result) (c .if3 .taken)) refl) ∙ fixed-two (operate (c .before .before .before .before .before .before .before .args .op)) (edgeIn (c .before .before .before .before .before .before .before .args .x) t) (edgeIn (c .before .before .before .before .before .before .before .args .y) u)
+returns-3 c = λ t u. (rw (
+  sym (c .before .before .before .before .before .before .is-settled .ensures u),
+  not-false
+      (c .before .before .before .before .before .before .is-settled .result) (c .before .before .before .before .before .if1 .left),
+  ne-eqb
+      (c .before .before .before .before .before .before .before .args .x .number) 0 (c .before .before .before .if2 .left),
+  sym
+      (c .before .is-settled2 .ensures u),
+  not-true (c .before .is-settled2 .result) (c .if3 .taken),
+) refl)
+    ∙ fixed-two (operate (c .before .before .before .before .before .before .before .args .op))
+    (edgeIn (c .before .before .before .before .before .before .before .args .x) t)
+    (edgeIn (c .before .before .before .before .before .before .before .args .y) u)
 
 operate-requires : tie.Need-operate-requires
 operate-requires c κs = search needs
@@ -35,7 +54,24 @@ differs-requires : tie.Need-differs-requires
 differs-requires c κs = search needs
 
 returns-4 : tie.Need-returns-4
-returns-4 c = λ t u. (rw (sym (c .before .before .before .before .before .before .before .before .before .before .is-settled .ensures u), not-false (c .before .before .before .before .before .before .before .before .before .before .is-settled .result) (c .before .before .before .before .before .before .before .before .before .if1 .left), ne-eqb (c .before .before .before .before .before .before .before .before .before .before .before .args .x .number) 0 (c .before .before .before .before .before .before .before .if2 .left), sym (c .before .before .before .before .before .is-settled2 .ensures u), not-false (c .before .before .before .before .before .is-settled2 .result) (c .before .before .before .before .if3 .left), c .differs .ensures, c .before .before .before .operate .ensures, c .before .operate2 .ensures) refl) ∙ fixed-two (operate (c .before .before .before .before .before .before .before .before .before .before .before .args .op)) (edgeIn (c .before .before .before .before .before .before .before .before .before .before .before .args .x) t) (edgeIn (c .before .before .before .before .before .before .before .before .before .before .before .args .y) u)
+returns-4 c = λ t u. (rw (
+  sym (c .before .before .before .before .before .before .before .before .before .before .is-settled .ensures u),
+  not-false
+      (c .before .before .before .before .before .before .before .before .before .before .is-settled .result)
+      (c .before .before .before .before .before .before .before .before .before .if1 .left),
+  ne-eqb
+      (c .before .before .before .before .before .before .before .before .before .before .before .args .x .number) 0
+      (c .before .before .before .before .before .before .before .if2 .left),
+  sym (c .before .before .before .before .before .is-settled2 .ensures u),
+  not-false (c .before .before .before .before .before .is-settled2 .result) (c .before .before .before .before .if3 .left),
+  c .differs .ensures,
+  c
+      .before .before .before .operate .ensures,
+  c .before .operate2 .ensures,
+) refl)
+    ∙ fixed-two (operate (c .before .before .before .before .before .before .before .before .before .before .before .args .op))
+    (edgeIn (c .before .before .before .before .before .before .before .before .before .before .before .args .x) t)
+    (edgeIn (c .before .before .before .before .before .before .before .before .before .before .before .args .y) u)
 
 pub is-fixed-spec : {M : Type 1} → statement M
 is-fixed-spec =

@@ -5,8 +5,8 @@ use Rattle.edges.proofs.operate.Statement.{statement}
 use Rattle.edges.proofs.operate.Tie as tie
 use mathlib.Core.Path.{refl}
 use native.Mathlib.Omega.{arith}
-use Rattle.combining.specs.EdgeMade.{digit-most}
-use Rattle.writing.specs.Run.{operate}
+use Rattle.theory_combining.specs.EdgeCorrect.{digit-most}
+use Rattle.theory_writing.specs.Run.{operate}
 
 digit-requires : tie.Need-digit-requires
 digit-requires c κs = search needs

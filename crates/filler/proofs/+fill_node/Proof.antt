@@ -6,8 +6,8 @@ use native.Mathlib.Omega.{arith}
 use borrow.Fn.Kinds.{In}
 use borrow.Fn.PlainCycle.{Measures, is, falls, and}
 use Rattle.work_table.specs.TableLaws.{tableOf}
-use Rattle.lists.specs.Powers.{few-words, both-halves}
-use Rattle.filler.specs.TruthLaws.{put-one, put-made}
+use Rattle.theory_lists.specs.Powers.{few-words, both-halves}
+use Rattle.filler.specs.TruthLaws.{put-one, put-correct}
 use borrow.Author.Needs.{needs}
 use Rattle.filler.proofs.+fill_node.{statement}
 use Rattle.filler.proofs.+fill_node.Tie.{close}
@@ -56,7 +56,8 @@ module _ (t : ℕ) where
       let c4 = c2 .before .before in
       let c6 = c4 .before .before in
       let a = c6 .args in
-      put-one (a .m) (tableOf (a .t .now) (a .z)) (a .i) (a .e .number) (a .e .turned) (a .w) (a .v .now) _ (c4 .if1 .taken) (c2 .put-edge .ensures)
+      put-one (a .m) (tableOf (a .t .now) (a .z)) (a .i) (a .e .number) (a .e .complement) (a .w) (a .v .now) _ (c4 .if1 .taken)
+      (c2 .put-edge .ensures)
 
   get-requires : fill-node-lts.Need-get-requires K (at t) fill-node.Post
   get-requires c κs = search needs
@@ -121,7 +122,8 @@ module _ (t : ℕ) where
       let c11 = c10 .before in
       let c13 = c11 .before .before in
       let a = c13 .args in
-      put-made (a .m) (a .t .now) (a .z) (a .i) (c10 .get .result) (a .e) (c8 .first-edge .result) (c3 .second-edge .result) (a .w) _ (a .v .now) _ _ (c13 .pre .1 .0) (c11 .if1 .left)
+      put-correct (a .m) (a .t .now) (a .z) (a .i) (c10 .get .result) (a .e) (c8 .first-edge .result) (c3 .second-edge .result) (a .w) _ (a .v .now) _
+      _ (c13 .pre .1 .0) (c11 .if1 .left)
       (c10 .get .ensures) (c8 .first-edge .ensures) (c3 .second-edge .ensures) refl (c7 .fill-node .ensures) (c2 .fill-node2 .ensures)
 
 pub +fill-node-spec : {M : Type 1} → statement M

@@ -1,21 +1,22 @@
--- Each turn reads until more words are covered, and fills those of the node that was passed (`words-turn`); where reading halts all are filled.
+-- Each iteration reads until more words are covered, and fills those of the node that was passed (`words-iteration`); where reading halts all are filled.
 -- Assumes nothing.
 use mathlib.Core.Path.{_≡_, refl, _∙_}
 use mathlib.Core.Option.{none}
 use Prim.Native.Nat.{_-_, _≤_, _^_}
 use native.Mathlib.Omega.{arith}
 use lib.ListN.{length}
-use Rattle.reading.specs.Limits.{truthTableLeast, truthTableMost}
-use Rattle.reading.specs.Reading.{reading}
-use Rattle.reader.specs.Lent.{opensIn}
-use Rattle.filler.specs.FillMade.{FilledTo, filled-begun, words-whole, words-fit, words-shallow, words-turn, words-less}
+use Rattle.theory_reading.specs.Limits.{truthTableLeast, truthTableMost}
+use Rattle.theory_reading.specs.Reading.{reading}
+use Rattle.reader.specs.OpenCells.{opensIn}
+use Rattle.filler.specs.FillCorrect.{FilledTo, filled-begun, words-whole, words-fit, words-shallow, words-iteration, words-less}
 use borrow.Author.Needs.{needs}
 use Rattle.filler.proofs.fill_words.Statement.{statement}
 use Rattle.filler.proofs.fill_words.Tie as tie
 
 abbrev Inv-loop : tie.InvT-loop
 Inv-loop n s v₀ t₀ o₀ c₀ v t o c =
-    (truthTableLeast ≤ n) × ((n ≤ truthTableMost) × ((reading n s .fault ≡ none) × ((length v ≡ length v₀) × ((length t ≡ length t₀) × FilledTo n s (c .run) (opensIn o (c .depth)) t v))))
+    (truthTableLeast ≤ n) × ((n ≤ truthTableMost) × ((reading n s .fault ≡ none)
+    × ((length v ≡ length v₀) × ((length t ≡ length t₀) × FilledTo n s (c .run) (opensIn o (c .depth)) t v))))
 
 abbrev μ-loop : tie.MeasureT-loop
 μ-loop n s v₀ t₀ o₀ c₀ v t o c = 2 ^ n - c .run .covered
@@ -27,8 +28,23 @@ loop-holds : tie.Need-loop-holds Inv-loop μ-loop
 loop-holds c =
     let pre = c .before .before .before .pre in
     let a = c .before .before .before .args in
-    let p = pre in
-    (p .0, (p .1 .0, (p .1 .1 .1 .0, (refl, (refl, filled-begun (a .n) (a .s .now) (a .t .now) (a .v .now) (c .first-cursor .result) (p .1 .1 .0) (p .1 .1 .1 .1) (c .first-cursor .ensures))))))
+    let p = pre in (
+      p .0,
+      (
+        p .1 .0,
+        (
+          p .1 .1 .1 .0,
+          (
+            refl,
+            (
+              refl,
+              filled-begun (a .n) (a .s .now) (a .t .now) (a .v .now) (c .first-cursor .result) (p .1 .1 .0)
+                  (p .1 .1 .1 .1) (c .first-cursor .ensures),
+            ),
+          ),
+        ),
+      ),
+    )
 
 read-on-requires : tie.Need-read-on-requires Inv-loop μ-loop
 read-on-requires c κs = search needs
@@ -44,7 +60,8 @@ returns c =
     let l = c .before .before .before .before .before .before .loop in
     let a = c .before .before .before .before .before .before .before .before .before .before .args in
     let i = l .inv in let f = i .1 .1 .1 .1 .1 in (
-      words-whole (a .n) (a .s .now) (l .c .run) (opensIn (l .o) (l .c .depth)) (l .t) (l .v) f (omega (arith, i .1 .0)) _ _ (c .before .before .read-on .ensures) (c .if1 .taken) (i .1 .1 .0),
+      words-whole (a .n) (a .s .now) (l .c .run) (opensIn (l .o) (l .c .depth)) (l .t) (l .v) f (omega (arith, i .1 .0)) _ _
+          (c .before .before .read-on .ensures) (c .if1 .taken) (i .1 .1 .0),
       record { same = c .before .t .given ∙ i .1 .1 .1 .1 .0 },
     )
 
@@ -54,7 +71,11 @@ cast-i c =
     let a = c .before .before .before .before .before .before .before .before .before .before .before .args in
     let readon = c .before .before .before .read-on in
     let f = l .inv .1 .1 .1 .1 .1 in
-    omega (arith, words-shallow (a .n) (a .s .now) (l .c .run) (opensIn (l .o) (l .c .depth)) (l .t) (l .v) f (omega (arith, l .inv .1 .0)) _ _ (readon .ensures) (c .before .if1 .left))
+    omega (
+      arith,
+      words-shallow (a .n) (a .s .now) (l .c .run) (opensIn (l .o) (l .c .depth)) (l .t) (l .v) f (omega (arith, l .inv .1 .0)) _ _
+          (readon .ensures) (c .before .if1 .left),
+    )
 
 add-i : tie.Need-add-i Inv-loop μ-loop
 add-i c =
@@ -62,7 +83,11 @@ add-i c =
     let a = c .before .before .before .before .before .before .before .before .before .before .before .args in
     let readon = c .before .before .before .read-on in
     let f = l .inv .1 .1 .1 .1 .1 in
-    omega (arith, words-shallow (a .n) (a .s .now) (l .c .run) (opensIn (l .o) (l .c .depth)) (l .t) (l .v) f (omega (arith, l .inv .1 .0)) _ _ (readon .ensures) (c .before .if1 .left))
+    omega (
+      arith,
+      words-shallow (a .n) (a .s .now) (l .c .run) (opensIn (l .o) (l .c .depth)) (l .t) (l .v) f (omega (arith, l .inv .1 .0)) _ _
+          (readon .ensures) (c .before .if1 .left),
+    )
 
 below-requires : tie.Need-below-requires Inv-loop μ-loop
 below-requires c κs = search needs
@@ -77,22 +102,26 @@ fill-node-requires c κs =
     let readon = c .before .before .before .before .before .before .before .before .read-on in
     let if1 = c .before .before .before .before .before .before .if1 in
     let i = l .inv in let f = i .1 .1 .1 .1 .1 in
-    words-fit (a .n) (a .s .now) (l .c .run) (opensIn (l .o) (l .c .depth)) (l .t) (l .v) f (omega (arith, i .1 .0)) _ _ (readon .ensures) (if1 .left) (c .before .before .below .result) (i .1 .0) (c .before .before .below .ensures)
+    words-fit (a .n) (a .s .now) (l .c .run) (opensIn (l .o) (l .c .depth)) (l .t) (l .v) f (omega (arith, i .1 .0)) _ _ (readon .ensures) (if1 .left)
+    (c .before .before .below .result) (i .1 .0) (c .before .before .below .ensures)
 
 loop-less : tie.Need-loop-less Inv-loop μ-loop
 loop-less c =
     let l = c .before .before .before .before .before .before .before .before .before .before .before .before .before .before .before .loop in
-    let a = c .before .before .before .before .before .before .before .before .before .before .before .before .before .before .before .before .before .before .before .args in
+    let a = c .before .before .before .before .before .before .before .before .before .before .before .before .before .before .before .before .before
+    .before .before .args in
     let readon = c .before .before .before .before .before .before .before .before .before .before .before .read-on in
     let if1 = c .before .before .before .before .before .before .before .before .before .if1 in
     let f = l .inv .1 .1 .1 .1 .1 in
-    words-less (a .n) (a .s .now) (l .c .run) (opensIn (l .o) (l .c .depth)) (l .t) (l .v) f (omega (arith, l .inv .1 .0)) _ _ (readon .ensures) (if1 .left)
+    words-less (a .n) (a .s .now) (l .c .run) (opensIn (l .o) (l .c .depth)) (l .t) (l .v) f (omega (arith, l .inv .1 .0)) _ _ (readon .ensures)
+    (if1 .left)
 
 loop-again : tie.Need-loop-again Inv-loop μ-loop
 loop-again c =
     let l = c .before .before .before .before .before .before .before .before .before .before .before .before .before .before .before .loop in
     let t0 = c .before .before .before .before .before .before .before .before .before .before .t in
-    let a = c .before .before .before .before .before .before .before .before .before .before .before .before .before .before .before .before .before .before .before .args in
+    let a = c .before .before .before .before .before .before .before .before .before .before .before .before .before .before .before .before .before
+    .before .before .args in
     let readon = c .before .before .before .before .before .before .before .before .before .before .before .read-on in
     let if1 = c .before .before .before .before .before .before .before .before .before .if1 in
     let below = c .before .before .before .before .before .below in
@@ -107,7 +136,9 @@ loop-again c =
             c .before .v .given ∙ i .1 .1 .1 .0,
             (
               t0 .given ∙ i .1 .1 .1 .1 .0,
-              words-turn (a .n) (a .s .now) (l .c .run) (opensIn (l .o) (l .c .depth)) (l .t) (l .v) f (omega (arith, i .1 .0)) _ _ (readon .ensures) (if1 .left) (below .result) (edgeof .result) _ (i .0) (below .ensures) (edgeof .ensures) (c .before .before .fill-node .ensures),
+              words-iteration (a .n) (a .s .now) (l .c .run) (opensIn (l .o) (l .c .depth)) (l .t) (l .v) f (omega (arith, i .1 .0)) _ _
+                  (readon .ensures) (if1 .left) (below .result) (edgeof .result) _ (i .0) (below .ensures) (edgeof .ensures)
+                  (c .before .before .fill-node .ensures),
             ),
           ),
         ),

@@ -1,6 +1,6 @@
 -- Past the table nothing changes; else the byte of the word gets the bit of the word more,
 -- with a sum that wraps. Assumes nothing.
-use Rattle.filler.specs.TruthLaws.{word-past, word-made}
+use Rattle.filler.specs.TruthLaws.{word-past, word-correct}
 use borrow.Author.Needs.{needs}
 use Rattle.filler.proofs.put_word.Statement.{statement}
 use Rattle.filler.proofs.put_word.Tie as tie
@@ -27,7 +27,7 @@ same-length : tie.Need-same-length
 same-length c = search needs
 
 returns-2 : tie.Need-returns-2
-returns-2 c = let a = c .before .before .before .before .args in word-made (a .v .now) (a .w) _ (c .wrapping-add-u8 .ensures)
+returns-2 c = let a = c .before .before .before .before .args in word-correct (a .v .now) (a .w) _ (c .wrapping-add-u8 .ensures)
 
 pub put-word-spec : {M : Type 1} → statement M
 put-word-spec =

@@ -22,7 +22,9 @@ returns : tie.Need-returns
 returns c = rw (c .before .before .a .given .1, c .cause-number .ensures) refl
 
 returns-2 : tie.Need-returns-2
-returns-2 c = let x = c .before .before .a2 .given .0 .0 in rw (c .before .before .a2 .given .1) (ap (λ (k : ℕ). record { cause = 0; stream = 0; byte = 0; covered = x .covered; size = x .size; extent = k }) (c .flag .ensures ∙ extent-flag (x .complete)))
+returns-2 c = let x = c .before .before .a2 .given .0 .0 in rw (c .before .before .a2 .given .1)
+    (ap (λ (k : ℕ). record { cause = 0; stream = 0; byte = 0; covered = x .covered; size = x .size; extent = k })
+    (c .flag .ensures ∙ extent-flag (x .complete)))
 
 pub checked-numbers-spec : {M : Type 1} → statement M
 checked-numbers-spec =

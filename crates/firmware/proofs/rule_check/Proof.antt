@@ -16,7 +16,8 @@ same-length c = search needs
 returns : tie.Need-returns
 returns c =
     let a = c .before .before .before .before .before .args in
-    check-numbers (c .checked-numbers .result) _ _ (a .n) (a .stream .now) (a .table .now) (c .checked-numbers .ensures) (c .before .before .check .ensures)
+    check-numbers (c .checked-numbers .result) _ _ (a .n) (a .stream .now) (a .table .now) (c .checked-numbers .ensures)
+    (c .before .before .check .ensures)
 
 pub rule-check-spec : {M : Type 1} → statement M
 rule-check-spec = tie.close (tie.spec check-requires checked-numbers-requires same-length returns)

@@ -16,7 +16,8 @@ same-length c = search needs
 returns : tie.Need-returns
 returns c =
     let a = c .before .before .before .before .before .args in
-    decide-numbers (c .decided-numbers .result) _ _ (a .n) (a .stream .now) (a .word) (a .table .now) (c .decided-numbers .ensures) (c .before .before .decide .ensures)
+    decide-numbers (c .decided-numbers .result) _ _ (a .n) (a .stream .now) (a .word) (a .table .now) (c .decided-numbers .ensures)
+    (c .before .before .decide .ensures)
 
 pub rule-decide-spec : {M : Type 1} → statement M
 rule-decide-spec =

@@ -20,7 +20,8 @@ returns : tie.Need-returns
 returns c =
     let a = c .before .before .before .before .before .before .before .before .before .args in
     let fill = c .before .before .before .before .fill in
-    fill-numbers (c .filled-numbers .result) _ _ _ (a .n) (a .stream .now) (a .truths .now) (a .table .now) (c .filled-numbers .ensures) (fill .ensures)
+    fill-numbers (c .filled-numbers .result) _ _ _ (a .n) (a .stream .now) (a .truths .now) (a .table .now) (c .filled-numbers .ensures)
+    (fill .ensures)
 
 pub rule-fill-spec : {M : Type 1} → statement M
 rule-fill-spec =

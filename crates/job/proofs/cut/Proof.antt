@@ -21,7 +21,9 @@ shared-slice-read-if1 : tie.Need-shared-slice-read-if1 Inv-loop μ-loop
 shared-slice-read-if1 c = search needs
 
 returns : tie.Need-returns Inv-loop μ-loop
-returns c = let s = c .before .before .before .before .args .s .now in let j = c .before .before .before .loop .j in sym (c .before .before .before .loop .inv ∙ cut-here (c .before .before .before .before .args .c) s j (c .before .before .loop-test .taken) (c .if1 .taken))
+returns c = let s = c .before .before .before .before .args .s .now in let j = c .before .before .before .loop .j in sym
+    (c .before .before .before .loop .inv ∙ cut-here (c .before .before .before .before .args .c) s j (c .before .before .loop-test .taken)
+    (c .if1 .taken))
 
 add-j : tie.Need-add-j Inv-loop μ-loop
 add-j c = search needs
@@ -30,10 +32,12 @@ loop-less : tie.Need-loop-less Inv-loop μ-loop
 loop-less c = search needs
 
 loop-again : tie.Need-loop-again Inv-loop μ-loop
-loop-again c = let s = c .before .before .before .before .args .s .now in let j = c .before .before .before .loop .j in c .before .before .before .loop .inv ∙ cut-next (c .before .before .before .before .args .c) s j (c .before .before .loop-test .taken) (c .if1 .left)
+loop-again c = let s = c .before .before .before .before .args .s .now in let j = c .before .before .before .loop .j in c .before .before .before
+    .loop .inv ∙ cut-next (c .before .before .before .before .args .c) s j (c .before .before .loop-test .taken) (c .if1 .left)
 
 returns-2 : tie.Need-returns-2 Inv-loop μ-loop
-returns-2 c = let s = c .before .before .args .s .now in let j = c .before .loop .j in sym (c .before .loop .inv ∙ cut-end (c .before .before .args .c) s j (c .loop-test .left))
+returns-2 c = let s = c .before .before .args .s .now in let j = c .before .loop .j in sym
+    (c .before .loop .inv ∙ cut-end (c .before .before .args .c) s j (c .loop-test .left))
 
 pub cut-spec : {M : Type 1} → statement M
 cut-spec =

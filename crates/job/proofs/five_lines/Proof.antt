@@ -4,8 +4,8 @@ use borrow.Author.Needs.{needs}
 use Rattle.job.proofs.five_lines.Statement.{statement}
 use Rattle.job.proofs.five_lines.Tie as tie
 use native.Mathlib.Omega.{arith}
-use Rattle.reading.specs.Bytes.{lineFeed}
-use Rattle.job.specs.Cite.{lines-other}
+use Rattle.theory_reading.specs.Bytes.{lineFeed}
+use Rattle.job.specs.Abstraction.{lines-other}
 use Rattle.job.specs.Cuts.{cut-to}
 use Rattle.job.specs.Lining.{one-line, two-lines, three-lines, four-lines, more-lines, five-lines, lines-placed}
 use Prim.Native.Nat.{_+_}
@@ -17,7 +17,8 @@ other-requires : tie.Need-other-requires
 other-requires c κs = search needs
 
 returns : tie.Need-returns
-returns c = let s = c .before .before .before .before .args .s .now in lines-other s _ (c .other .ensures) (one-line s (c .before .before .cut .result) (c .before .before .cut .ensures) (c .before .if1 .taken))
+returns c = let s = c .before .before .before .before .args .s .now in lines-other s _ (c .other .ensures)
+    (one-line s (c .before .before .cut .result) (c .before .before .cut .ensures) (c .before .if1 .taken))
 
 add-cut : tie.Need-add-cut
 add-cut c = search needs
@@ -29,7 +30,10 @@ other-requires-2 : tie.Need-other-requires-2
 other-requires-2 c κs = search needs
 
 returns-2 : tie.Need-returns-2
-returns-2 c = let s = c .before .before .before .before .before .before .args .s .now in lines-other s _ (c .other2 .ensures) (two-lines s (c .before .before .before .before .cut .result) (c .before .before .cut2 .result) (c .before .before .before .before .cut .ensures, c .before .before .before .if1 .left) (c .before .before .cut2 .ensures) (c .before .if2 .taken))
+returns-2 c = let s = c .before .before .before .before .before .before .args .s .now in lines-other s _ (c .other2 .ensures)
+    (two-lines s (c .before .before .before .before .cut .result) (c .before .before .cut2 .result)
+    (c .before .before .before .before .cut .ensures, c .before .before .before .if1 .left) (c .before .before .cut2 .ensures)
+    (c .before .if2 .taken))
 
 add-cut-2 : tie.Need-add-cut-2
 add-cut-2 c = search needs
@@ -41,7 +45,14 @@ other-requires-3 : tie.Need-other-requires-3
 other-requires-3 c κs = search needs
 
 returns-3 : tie.Need-returns-3
-returns-3 c = let s = c .before .before .before .before .before .before .before .before .args .s .now in lines-other s _ (c .other3 .ensures) (three-lines s (c .before .before .before .before .before .before .cut .result) (c .before .before .before .before .cut2 .result) (c .before .before .cut3 .result) (c .before .before .before .before .before .before .cut .ensures, c .before .before .before .before .before .if1 .left) (c .before .before .before .before .cut2 .ensures, c .before .before .before .if2 .left) (c .before .before .cut3 .ensures) (c .before .if3 .taken))
+returns-3 c = let s = c .before .before .before .before .before .before .before .before .args .s .now in lines-other s _ (c .other3 .ensures)
+    (three-lines s (c .before .before .before .before .before .before .cut .result) (c .before .before .before .before .cut2 .result)
+    (c .before .before .cut3 .result) (
+      c .before .before .before .before .before .before .cut .ensures,
+      c .before .before .before .before .before .if1
+          .left,
+    ) (c .before .before .before .before .cut2 .ensures, c .before .before .before .if2 .left) (c .before .before .cut3 .ensures)
+    (c .before .if3 .taken))
 
 add-cut-3 : tie.Need-add-cut-3
 add-cut-3 c = search needs
@@ -53,7 +64,15 @@ other-requires-4 : tie.Need-other-requires-4
 other-requires-4 c κs = search needs
 
 returns-4 : tie.Need-returns-4
-returns-4 c = let s = c .before .before .before .before .before .before .before .before .before .before .args .s .now in lines-other s _ (c .other4 .ensures) (four-lines s (c .before .before .before .before .before .before .before .before .cut .result) (c .before .before .before .before .before .before .cut2 .result) (c .before .before .before .before .cut3 .result) (c .before .before .before .before .before .before .before .before .cut .ensures, c .before .before .before .before .before .before .before .if1 .left) (c .before .before .before .before .before .before .cut2 .ensures, c .before .before .before .before .before .if2 .left) (c .before .before .before .before .cut3 .ensures, c .before .before .before .if3 .left) (c .before .before .cut4 .result) (c .before .before .cut4 .ensures) (c .before .if4 .taken))
+returns-4 c = let s = c .before .before .before .before .before .before .before .before .before .before .args .s .now in lines-other s _
+    (c .other4 .ensures) (four-lines s (c .before .before .before .before .before .before .before .before .cut .result)
+    (c .before .before .before .before .before .before .cut2 .result) (c .before .before .before .before .cut3 .result) (
+      c .before .before .before .before .before .before .before .before .cut .ensures,
+      c .before .before .before .before .before .before .before .if1
+          .left,
+    ) (c .before .before .before .before .before .before .cut2 .ensures, c .before .before .before .before .before .if2 .left)
+    (c .before .before .before .before .cut3 .ensures, c .before .before .before .if3 .left) (c .before .before .cut4 .result)
+    (c .before .before .cut4 .ensures) (c .before .if4 .taken))
 
 add-cut-4 : tie.Need-add-cut-4
 add-cut-4 c = search needs
@@ -62,18 +81,58 @@ cut-requires-5 : tie.Need-cut-requires-5
 cut-requires-5 c κs = search needs
 
 add-if5 : tie.Need-add-if5
-add-if5 c = let s = c .before .before .before .before .before .before .before .before .before .before .args .s .now in omega (arith, c .cut5 .ensures, c .before .if4 .left, cut-to lineFeed s (c .before .before .cut4 .result + 1) (omega (arith, c .before .if4 .left)))
+add-if5 c = let s = c .before .before .before .before .before .before .before .before .before .before .args .s .now in omega
+    (arith, c .cut5 .ensures, c .before .if4 .left, cut-to lineFeed s (c .before .before .cut4 .result + 1) (omega (arith, c .before .if4 .left)))
 
 other-requires-5 : tie.Need-other-requires-5
 other-requires-5 c κs = search needs
 
 returns-5 : tie.Need-returns-5
-returns-5 c = let s = c .before .before .before .before .before .before .before .before .before .before .before .before .args .s .now in lines-other s _ (c .other5 .ensures) (more-lines s (c .before .before .before .before .before .before .before .before .before .before .cut .result) (c .before .before .before .before .before .before .before .before .cut2 .result) (c .before .before .before .before .before .before .cut3 .result) (c .before .before .before .before .before .before .before .before .before .before .cut .ensures, c .before .before .before .before .before .before .before .before .before .if1 .left) (c .before .before .before .before .before .before .before .before .cut2 .ensures, c .before .before .before .before .before .before .before .if2 .left) (c .before .before .before .before .before .before .cut3 .ensures, c .before .before .before .before .before .if3 .left) (c .before .before .before .before .cut4 .result) (c .before .before .before .before .cut4 .ensures, c .before .before .before .if4 .left) (c .before .before .cut5 .result) (c .before .before .cut5 .ensures) (c .before .if5 .taken))
+returns-5 c = let s = c .before .before .before .before .before .before .before .before .before .before .before .before .args .s .now in lines-other s
+    _ (c .other5 .ensures) (more-lines s (c .before .before .before .before .before .before .before .before .before .before .cut .result)
+    (c .before .before .before .before .before .before .before .before .cut2 .result)
+    (c .before .before .before .before .before .before .cut3 .result) (
+      c .before .before .before .before .before .before .before .before .before .before .cut .ensures,
+      c .before .before .before .before .before
+          .before .before .before .before .if1 .left,
+    ) (
+      c .before .before .before .before .before .before .before .before .cut2 .ensures,
+      c .before .before
+          .before .before .before .before .before .if2 .left,
+    ) (
+      c .before .before .before .before .before .before .cut3 .ensures,
+      c .before .before .before
+          .before .before .if3 .left,
+    ) (c .before .before .before .before .cut4 .result)
+    (c .before .before .before .before .cut4 .ensures, c .before .before .before .if4 .left) (c .before .before .cut5 .result)
+    (c .before .before .cut5 .ensures) (c .before .if5 .taken))
 
 returns-6 : tie.Need-returns-6
 returns-6 c = let s = c .before .before .before .before .before .before .before .before .before .before .before .args .s .now in (
-  five-lines s (c .before .before .before .before .before .before .before .before .before .cut .result) (c .before .before .before .before .before .before .before .cut2 .result) (c .before .before .before .before .before .cut3 .result) (c .before .before .before .before .before .before .before .before .before .cut .ensures, c .before .before .before .before .before .before .before .before .if1 .left) (c .before .before .before .before .before .before .before .cut2 .ensures, c .before .before .before .before .before .before .if2 .left) (c .before .before .before .before .before .cut3 .ensures, c .before .before .before .before .if3 .left) (c .before .before .before .cut4 .result) (c .before .before .before .cut4 .ensures, c .before .before .if4 .left) (c .before .cut5 .result) (c .before .cut5 .ensures) (c .if5 .left),
-  λ _. lines-placed s (c .before .before .before .before .before .before .before .before .before .cut .result) (c .before .before .before .before .before .before .before .cut2 .result) (c .before .before .before .before .before .cut3 .result) (c .before .before .before .before .before .before .before .before .before .cut .ensures, c .before .before .before .before .before .before .before .before .if1 .left) (c .before .before .before .before .before .before .before .cut2 .ensures, c .before .before .before .before .before .before .if2 .left) (c .before .before .before .before .before .cut3 .ensures, c .before .before .before .before .if3 .left) (c .before .before .before .cut4 .result) (c .before .before .before .cut4 .ensures, c .before .before .if4 .left) (c .before .cut5 .result) (c .before .cut5 .ensures),
+  five-lines s (c .before .before .before .before .before .before .before .before .before .cut .result)
+      (c .before .before .before .before .before .before .before .cut2 .result) (c .before .before .before .before .before .cut3 .result) (
+        c .before .before .before .before .before .before .before .before .before .cut .ensures,
+        c .before .before .before .before .before .before
+            .before .before .if1 .left,
+      ) (
+        c .before .before .before .before .before .before .before .cut2 .ensures,
+        c .before .before .before .before .before
+            .before .if2 .left,
+      ) (c .before .before .before .before .before .cut3 .ensures, c .before .before .before .before .if3 .left)
+      (c .before .before .before .cut4 .result) (c .before .before .before .cut4 .ensures, c .before .before .if4 .left) (c .before .cut5 .result)
+      (c .before .cut5 .ensures) (c .if5 .left),
+  λ _. lines-placed s (c .before .before .before .before .before .before .before .before .before .cut .result)
+      (c .before .before .before .before .before .before .before .cut2 .result) (c .before .before .before .before .before .cut3 .result) (
+        c .before .before .before .before .before .before .before .before .before .cut .ensures,
+        c .before .before .before .before .before .before
+            .before .before .if1 .left,
+      ) (
+        c .before .before .before .before .before .before .before .cut2 .ensures,
+        c .before .before .before .before .before
+            .before .if2 .left,
+      ) (c .before .before .before .before .before .cut3 .ensures, c .before .before .before .before .if3 .left)
+      (c .before .before .before .cut4 .result) (c .before .before .before .cut4 .ensures, c .before .before .if4 .left) (c .before .cut5 .result)
+      (c .before .cut5 .ensures),
 )
 
 pub five-lines-spec : {M : Type 1} → statement M

@@ -7,8 +7,8 @@ use mathlib.Core.Path.{_≡_, refl, sym, ap, _∙_}
 use Prim.Native.Nat.{ℕ, _-_, _≤_}
 use native.Mathlib.Omega.{arith}
 use lib.ListN.{length, getD, drop}
-use Rattle.writing.specs.Join.{sameBytes}
-use Rattle.job.specs.Cite.{namedAt, nameAt}
+use Rattle.theory_writing.specs.Join.{sameBytes}
+use Rattle.job.specs.Abstraction.{namedAt, nameAt}
 use Rattle.job.specs.declared.NamedOperator.{NamedOperator}
 use Rattle.job.specs.Fields.{same-other-length, same-step, same-stop, same-end, row-name, name-short}
 

@@ -6,7 +6,7 @@ use Rattle.job.proofs.number.Tie as tie
 use mathlib.Core.Path.{_≡_, sym, _∙_}
 use Rattle.job.specs.Fields.{number-none, number-long, number-zero, number-one, number-value}
 use mathlib.Core.Logic.{⊎-elim}
-use Rattle.writing.specs.Join.{numberOf, valueOn}
+use Rattle.theory_writing.specs.Join.{numberOf, valueOn}
 
 returns : tie.Need-returns
 returns c = number-none (c .before .before .args .l .now) (c .if1 .taken)
@@ -25,7 +25,8 @@ value-requires c κs = search needs
 
 returns-4 : tie.Need-returns-4
 returns-4 c = let l = c .before .before .before .before .before .args .l .now in
-    let e : numberOf l ≡ valueOn 0 l = ⊎-elim (λ w. number-value l (w .0 .taken) (c .before .before .if2 .left) (w .2 .left)) (λ w. number-one l (c .before .before .before .if1 .left) (w .left)) (c .before .if3 .came) in
+    let e : numberOf l ≡ valueOn 0 l = ⊎-elim (λ w. number-value l (w .0 .taken) (c .before .before .if2 .left) (w .2 .left))
+    (λ w. number-one l (c .before .before .before .if1 .left) (w .left)) (c .before .if3 .came) in
     c .value .ensures ∙ sym e
 
 pub number-spec : {M : Type 1} → statement M

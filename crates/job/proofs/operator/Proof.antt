@@ -8,7 +8,7 @@ use mathlib.Core.Option.{some}
 use Prim.Native.Nat.{_-_, _≤_}
 use native.Mathlib.Omega.{arith}
 use lib.ListN.{drop}
-use Rattle.writing.specs.Join.{operatorNames, operatorOf}
+use Rattle.theory_writing.specs.Join.{operatorNames, operatorOf}
 use Rattle.job.specs.declared.NamedOperator.{NamedOperator}
 use Rattle.job.specs.Fields.{operator-hit, operator-miss, operator-end}
 
@@ -29,7 +29,9 @@ entry-requires c κs = search needs
 
 returns : tie.Need-returns Inv-loop μ-loop
 returns c = let x = c .before .before .before .before .before .before .args .l .now in let l = c .before .before .before .before .loop in
-    ap (λ (o : NamedOperator). some (o .operator)) (c .entry .ensures) ∙ sym (l .inv .1 ∙ operator-hit x (l .k) (c .before .before .before .loop-test .taken) (sym (c .before .before .is-named .ensures) ∙ c .before .if1 .taken))
+    ap (λ (o : NamedOperator). some (o .operator)) (c .entry .ensures)
+    ∙ sym (l .inv .1 ∙ operator-hit x (l .k) (c .before .before .before .loop-test .taken)
+    (sym (c .before .before .is-named .ensures) ∙ c .before .if1 .taken))
 
 add-k : tie.Need-add-k Inv-loop μ-loop
 add-k c = search needs
@@ -38,11 +40,15 @@ loop-less : tie.Need-loop-less Inv-loop μ-loop
 loop-less c = search needs
 
 loop-again : tie.Need-loop-again Inv-loop μ-loop
-loop-again c = let x = c .before .before .before .before .before .args .l .now in let l = c .before .before .before .loop in
-    (omega (arith, c .before .before .loop-test .taken), l .inv .1 ∙ operator-miss x (l .k) (c .before .before .loop-test .taken) (sym (c .before .is-named .ensures) ∙ c .if1 .left))
+loop-again c = let x = c .before .before .before .before .before .args .l .now in let l = c .before .before .before .loop in (
+  omega (arith, c .before .before .loop-test .taken),
+  l .inv .1 ∙ operator-miss x (l .k) (c .before .before .loop-test .taken)
+      (sym (c .before .is-named .ensures) ∙ c .if1 .left),
+)
 
 returns-2 : tie.Need-returns-2 Inv-loop μ-loop
-returns-2 c = let x = c .before .before .before .args .l .now in let l = c .before .loop in sym (l .inv .1 ∙ operator-end x (l .k) (c .loop-test .left))
+returns-2 c = let x = c .before .before .before .args .l .now in let l = c .before .loop in sym
+    (l .inv .1 ∙ operator-end x (l .k) (c .loop-test .left))
 
 pub operator-spec : {M : Type 1} → statement M
 operator-spec =

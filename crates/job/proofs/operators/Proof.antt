@@ -3,7 +3,7 @@
 use Rattle.job.proofs.operators.Statement.{statement}
 use Rattle.job.proofs.operators.Tie as tie
 use mathlib.Core.Path.{refl}
-use Rattle.reading.specs.Bytes.{text}
+use Rattle.theory_reading.specs.Bytes.{text}
 
 returns : tie.Need-returns
 unfolding text

@@ -9,7 +9,7 @@ use native.Mathlib.Omega.{arith}
 use borrow.Author.Tests.{not-true, not-false}
 use lib.ListN.{length, getD, drop}
 use Rattle.claims.specs.Numerals.{digit-range}
-use Rattle.writing.specs.Join.{valueOn}
+use Rattle.theory_writing.specs.Join.{valueOn}
 use Rattle.job.specs.Fields.{pow-few, pow-next, value-digit, value-stop, value-end}
 
 abbrev Inv-loop : tie.InvT-loop
@@ -28,10 +28,23 @@ is-digit-requires : tie.Need-is-digit-requires Inv-loop μ-loop
 is-digit-requires c κs = search needs
 
 returns : tie.Need-returns Inv-loop μ-loop
-returns c = let l = c .before .before .before .before .before .before .args .l .now in sym (c .before .before .before .before .loop .inv .2 ∙ value-stop l (c .before .before .before .before .loop .v) (c .before .before .before .before .loop .j) (c .before .before .before .loop-test .taken) (sym (c .before .is-digit .ensures) ∙ not-true _ (c .if1 .taken)))
+returns c = let l = c .before .before .before .before .before .before .args .l .now in sym
+    (c .before .before .before .before .loop .inv .2 ∙ value-stop l (c .before .before .before .before .loop .v)
+    (c .before .before .before .before .loop .j) (c .before .before .before .loop-test .taken)
+    (sym (c .before .is-digit .ensures) ∙ not-true _ (c .if1 .taken)))
 
 mul-v : tie.Need-mul-v Inv-loop μ-loop
-mul-v c = record { fits = omega (arith, c .before .before .before .before .loop .inv .1, c .before .before .before .loop-test .taken, c .before .before .before .before .before .before .pre, pow-few (c .before .before .before .before .loop .j) (omega (arith, c .before .before .before .loop-test .taken, c .before .before .before .before .before .before .pre))) }
+mul-v c = record {
+  fits = omega (
+    arith,
+    c .before .before .before .before .loop .inv .1,
+    c .before .before .before .loop-test .taken,
+    c .before
+        .before .before .before .before .before .pre,
+    pow-few (c .before .before .before .before .loop .j)
+        (omega (arith, c .before .before .before .loop-test .taken, c .before .before .before .before .before .before .pre)),
+  );
+}
 
 sub-v : tie.Need-sub-v Inv-loop μ-loop
 sub-v c = digit-range _ (sym (c .before .is-digit .ensures) ∙ not-false _ (c .if1 .left)) .0
@@ -40,7 +53,13 @@ cast-v : tie.Need-cast-v Inv-loop μ-loop
 cast-v c = let d = digit-range _ (sym (c .before .is-digit .ensures) ∙ not-false _ (c .if1 .left)) in omega (arith, d .1)
 
 add-v : tie.Need-add-v Inv-loop μ-loop
-add-v c = let d = digit-range _ (sym (c .before .is-digit .ensures) ∙ not-false _ (c .if1 .left)) in omega (arith, d .1, c .before .before .before .before .loop .inv .1, pow-few (c .before .before .before .before .loop .j) (omega (arith, c .before .before .before .loop-test .taken, c .before .before .before .before .before .before .pre)))
+add-v c = let d = digit-range _ (sym (c .before .is-digit .ensures) ∙ not-false _ (c .if1 .left)) in omega (
+  arith,
+  d .1,
+  c .before .before .before .before .loop .inv .1,
+  pow-few (c .before .before .before .before .loop .j)
+      (omega (arith, c .before .before .before .loop-test .taken, c .before .before .before .before .before .before .pre)),
+)
 
 add-j : tie.Need-add-j Inv-loop μ-loop
 add-j c = search needs
@@ -49,11 +68,20 @@ loop-less : tie.Need-loop-less Inv-loop μ-loop
 loop-less c = search needs
 
 loop-again : tie.Need-loop-again Inv-loop μ-loop
-loop-again c = let l = c .before .before .before .before .before .before .args .l .now in let g = sym (c .before .is-digit .ensures) ∙ not-false _ (c .if1 .left) in let d = digit-range _ g in
-    (omega (arith, c .before .before .before .loop-test .taken), pow-next (c .before .before .before .before .loop .v) (getD l (c .before .before .before .before .loop .j) 0 - 48) (c .before .before .before .before .loop .j) (c .before .before .before .before .loop .inv .1) (omega (arith, d .1)), c .before .before .before .before .loop .inv .2 ∙ value-digit l (c .before .before .before .before .loop .v) (c .before .before .before .before .loop .j) (c .before .before .before .loop-test .taken) g)
+loop-again c = let l = c .before .before .before .before .before .before .args .l .now in let g = sym (c .before .is-digit .ensures)
+    ∙ not-false _ (c .if1 .left) in let d = digit-range _ g in (
+      omega (arith, c .before .before .before .loop-test .taken),
+      pow-next (c .before .before .before .before .loop .v)
+          (getD l (c .before .before .before .before .loop .j) 0 - 48) (c .before .before .before .before .loop .j)
+          (c .before .before .before .before .loop .inv .1) (omega (arith, d .1)),
+      c .before .before .before .before .loop .inv .2
+          ∙ value-digit l (c .before .before .before .before .loop .v) (c .before .before .before .before .loop .j)
+          (c .before .before .before .loop-test .taken) g,
+    )
 
 returns-2 : tie.Need-returns-2 Inv-loop μ-loop
-returns-2 c = sym (c .before .loop .inv .2 ∙ value-end (c .before .before .before .args .l .now) (c .before .loop .v) (c .before .loop .j) (c .loop-test .left))
+returns-2 c = sym (c .before .loop .inv .2 ∙ value-end (c .before .before .before .args .l .now) (c .before .loop .v) (c .before .loop .j)
+    (c .loop-test .left))
 
 pub value-spec : {M : Type 1} → statement M
 value-spec =

@@ -32,16 +32,19 @@ array-share-prefix-input : tie.Need-array-share-prefix-input
 array-share-prefix-input c = bytes-within _ _ _ (c .before .n .given .1) (c .before .before .before .before .read-all .ensures)
 
 slice-aggregate-answer : tie.Need-slice-aggregate-answer
-slice-aggregate-answer c = sym (length-take-le _ _ (bytes-within _ _ _ (c .before .before .n .given .1) (c .before .before .before .before .before .read-all .ensures)))
+slice-aggregate-answer c = sym (length-take-le _ _ (bytes-within _ _ _ (c .before .before .n .given .1)
+    (c .before .before .before .before .before .read-all .ensures)))
 
 answer-requires : tie.Need-answer-requires
 answer-requires c κs = search needs
 
 array-share-prefix-input-2 : tie.Need-array-share-prefix-input-2
-array-share-prefix-input-2 c = bytes-within _ _ _ (c .before .before .before .before .n .given .1) (c .before .before .before .before .before .before .before .read-all .ensures)
+array-share-prefix-input-2 c = bytes-within _ _ _ (c .before .before .before .before .n .given .1)
+    (c .before .before .before .before .before .before .before .read-all .ensures)
 
 slice-aggregate-write-report : tie.Need-slice-aggregate-write-report
-slice-aggregate-write-report c = sym (length-take-le _ _ (bytes-within _ _ _ (c .before .before .before .before .before .n .given .1) (c .before .before .before .before .before .before .before .before .read-all .ensures)))
+slice-aggregate-write-report c = sym (length-take-le _ _ (bytes-within _ _ _ (c .before .before .before .before .before .n .given .1)
+    (c .before .before .before .before .before .before .before .before .read-all .ensures)))
 
 array-share-prefix-report : tie.Need-array-share-prefix-report
 array-share-prefix-report c = search needs

@@ -1,4 +1,4 @@
--- What was read is in the buffer; each turn reads at least a byte.
+-- What was read is in the buffer; each iteration reads at least a byte.
 -- Assumes nothing.
 use borrow.Author.Needs.{needs}
 use mathlib.Core.Path.{_≡_, refl}

@@ -1,7 +1,7 @@
 -- The call answers as the job's does, since the tables are as long; so its report is the job's, and there is room for it.
 -- Assumes nothing.
 use borrow.Author.Needs.{needs}
-use Rattle.reading.specs.Limits.{tableLimit}
+use Rattle.theory_reading.specs.Limits.{tableLimit}
 use Rattle.join.proofs.run.Statement.{statement}
 use Rattle.join.proofs.run.Tie as tie
 use mathlib.Core.Path.{refl}
@@ -36,7 +36,9 @@ returns c =
     let a = c .before .before .before .before .before .before .before .before .before .before .before .before .before .before .args in
     let r = c .print .ensures in
     let rows = length-replicate {A = List ℕ} tableLimit in
-    call-printed _ _ (a .n) (a .op) (a .size) (a .x .now) (a .y .now) _ _ _ _ _ _ _ _ _ (c .before .before .before .before .before .before .before .combine .ensures) refl (rows (replicate 6 0)) (rows (replicate 6 0)) (rows (replicate 12 0))
+    call-printed _ _ (a .n) (a .op) (a .size) (a .x .now) (a .y .now) _ _ _ _ _ _ _ _ _
+    (c .before .before .before .before .before .before .before .combine .ensures) refl (rows (replicate 6 0)) (rows (replicate 6 0))
+    (rows (replicate 12 0))
     (a .w .now) (c .before .before .before .before .before .before .before .before .before .before .before .before .before .before .pre) (r .0) (r .1)
 
 pub run-spec : {M : Type 1} → statement M

@@ -5,8 +5,8 @@ use Rattle.meeting.proofs.alike_number.Statement.{statement}
 use Rattle.meeting.proofs.alike_number.Tie as tie
 use mathlib.Core.Path.{sym, ap, _∙_}
 use mathlib.Core.Bool.{not}
-use Rattle.engine.specs.EngineMade.{number-none, number-other, number-turned, number-stale, number-told}
-use Rattle.meeting.specs.Cite.{halfOf}
+use Rattle.theory_engine.specs.EngineCorrect.{number-none, number-other, number-complement, number-stale, number-told}
+use Rattle.meeting.specs.Abstraction.{halfOf}
 
 returns : tie.Need-returns
 returns c =
@@ -26,7 +26,7 @@ returns-3 c =
     let c4 = c1 .before .before .before in
     let c6 = c4 .before .before in
     let a = c6 .args in
-    number-turned (a .t .now) (a .v) (halfOf (a .a)) (halfOf (a .b)) (c4 .if1 .left) (c1 .if2 .left) (c .if3 .taken)
+    number-complement (a .t .now) (a .v) (halfOf (a .a)) (halfOf (a .b)) (c4 .if1 .left) (c1 .if2 .left) (c .if3 .taken)
 
 is-stale-requires : tie.Need-is-stale-requires
 is-stale-requires c κs = search needs

@@ -4,8 +4,8 @@ use borrow.Author.Needs.{needs}
 use Rattle.meeting.proofs.done.Statement.{statement}
 use Rattle.meeting.proofs.done.Tie as tie
 use mathlib.Core.Path.{refl, _∙_}
-use Rattle.engine.specs.EngineMade.{done-made}
-use Rattle.meeting.specs.Cite.{walkedOf}
+use Rattle.theory_engine.specs.EngineCorrect.{done-correct}
+use Rattle.meeting.specs.Abstraction.{walkedOf}
 use mathlib.Core.List.{[]}
 
 returns : tie.Need-returns
@@ -27,8 +27,12 @@ same-length-2 : tie.Need-same-length-2
 same-length-2 c = search needs
 
 returns-2 : tie.Need-returns-2
-returns-2 c = let a = c .before .before .before .before .before .before .before .before .before .before .before .before .before .before .before .before .before .before .before .before .args in
-    c .before .before .before .before .send .ensures ∙ done-made (a .m) (walkedOf (a .r) [] (a .out .now) (a .w .now)) _ _ (c .before .before .before .before .before .before .before .before .before .before .before .before .before .before .before .before .if1 .left) (c .before .before .before .before .before .before .before .before .before .before .before .before .before .wait .ensures) (c .before .before .before .before .before .before .before .before .before .push .ensures)
+returns-2 c = let a = c .before .before .before .before .before .before .before .before .before .before .before .before .before .before .before
+    .before .before .before .before .before .args in
+    c .before .before .before .before .send .ensures ∙ done-correct (a .m) (walkedOf (a .r) [] (a .out .now) (a .w .now)) _ _
+    (c .before .before .before .before .before .before .before .before .before .before .before .before .before .before .before .before .if1 .left)
+    (c .before .before .before .before .before .before .before .before .before .before .before .before .before .wait .ensures)
+    (c .before .before .before .before .before .before .before .before .before .push .ensures)
 
 pub done-spec : {M : Type 1} → statement M
 done-spec =

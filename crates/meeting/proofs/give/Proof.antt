@@ -4,9 +4,9 @@ use borrow.Author.Needs.{needs}
 use Rattle.meeting.proofs.give.Statement.{statement}
 use Rattle.meeting.proofs.give.Tie as tie
 use mathlib.Core.Path.{ap, _∙_}
-use Rattle.engine.specs.Recycling.{storeIn}
-use Rattle.engine.specs.EngineMade.{give-none, give-number}
-use Rattle.meeting.specs.Cite.{halfOf, penOf}
+use Rattle.theory_engine.specs.Recycling.{storeIn}
+use Rattle.theory_engine.specs.EngineCorrect.{give-none, give-number}
+use Rattle.meeting.specs.Abstraction.{halfOf, progressOf}
 
 write-temporary-requires : tie.Need-write-temporary-requires
 write-temporary-requires c κs = search needs
@@ -27,7 +27,7 @@ returns c =
     let c12 = c9 .before .before .before in
     let a = c12 .args in
     c5 .write-temporary .ensures
-    ∙ give-none (a .k) (a .i) (a .m) (a .v) (halfOf (a .a)) (halfOf (a .b)) (a .t .now) (a .out .now) (a .w .now) (penOf (a .pen))
+    ∙ give-none (a .k) (a .i) (a .m) (a .v) (halfOf (a .a)) (halfOf (a .b)) (a .t .now) (a .out .now) (a .w .now) (progressOf (a .progress))
     (c9 .if1 .taken)
 
 either-requires : tie.Need-either-requires
@@ -71,12 +71,12 @@ returns-2 c =
     let c16 = c14 .before .before in
     let c19 = c16 .before .before .before in
     let a = c19 .args in
-    let p = a .pen in
+    let p = a .progress in
     let placed =
     c13 .store .ensures
     ∙ ap (storeIn (a .t .now) (p .given) (p .first) (p .last) (a .k) (a .i) (a .a .number) (a .b .number)) (c14 .either .ensures) in
     rw (c .sent-as .ensures, c9 .numbered .ensures)
-    (give-number (a .k) (a .i) (a .m) (a .v) (halfOf (a .a)) (halfOf (a .b)) (a .t .now) (a .out .now) (a .w .now) (penOf p)
+    (give-number (a .k) (a .i) (a .m) (a .v) (halfOf (a .a)) (halfOf (a .b)) (a .t .now) (a .out .now) (a .w .now) (progressOf p)
     _ (c10 .stamp-of .result) _ _ (c16 .if1 .left) placed (c10 .stamp-of .ensures) (c1 .either2 .ensures) (c6 .send-node .ensures))
 
 pub give-spec : {M : Type 1} → statement M

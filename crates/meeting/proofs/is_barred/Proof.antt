@@ -4,8 +4,8 @@ use borrow.Author.Needs.{needs}
 use Rattle.meeting.proofs.is_barred.Statement.{statement}
 use Rattle.meeting.proofs.is_barred.Tie as tie
 use mathlib.Core.Path.{refl, _∙_}
-use Rattle.engine.specs.EngineMade.{barred-told}
-use Rattle.meeting.specs.Cite.{halfOf}
+use Rattle.theory_engine.specs.EngineCorrect.{barred-told}
+use Rattle.meeting.specs.Abstraction.{halfOf}
 
 returns : tie.Need-returns
 returns c = rw (c .if1 .taken) refl

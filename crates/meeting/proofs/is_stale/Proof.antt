@@ -7,8 +7,8 @@ use mathlib.Core.Path.{ap, _∙_}
 use mathlib.Core.Bool.{not}
 use Prim.Native.Nat.{ℕ}
 use lib.Dec.{eqb}
-use Rattle.engine.specs.EngineMade.{stale-none, stale-told}
-use Rattle.meeting.specs.Cite.{halfOf}
+use Rattle.theory_engine.specs.EngineCorrect.{stale-none, stale-told}
+use Rattle.meeting.specs.Abstraction.{halfOf}
 
 returns : tie.Need-returns
 returns c = let a = c .before .before .args in stale-none (a .t .now) (halfOf (a .a)) (c .if1 .taken)

@@ -4,8 +4,8 @@ use borrow.Author.Needs.{needs}
 use Rattle.meeting.proofs.known.Statement.{statement}
 use Rattle.meeting.proofs.known.Tie as tie
 use mathlib.Core.Path.{_∙_}
-use Rattle.engine.specs.EngineMade.{known-none, known-there}
-use Rattle.meeting.specs.Cite.{halfOf, penOf}
+use Rattle.theory_engine.specs.EngineCorrect.{known-none, known-there}
+use Rattle.meeting.specs.Abstraction.{halfOf, progressOf}
 
 next-number-requires : tie.Need-next-number-requires
 next-number-requires c κs = search needs
@@ -30,7 +30,8 @@ returns c =
     let c14 = c11 .before .before .before in
     let a = c14 .args in
     c5 .give .ensures
-    ∙ known-none (a .k) (a .size) (a .i) (a .m) (a .v) (halfOf (a .a)) (halfOf (a .b)) (a .t .now) (a .out .now) (a .w .now) (penOf (a .pen))
+    ∙ known-none (a .k) (a .size) (a .i) (a .m) (a .v) (halfOf (a .a)) (halfOf (a .b)) (a .t .now) (a .out .now) (a .w .now)
+    (progressOf (a .progress))
     (c9 .next-number .result) (c11 .if1 .taken) (c9 .next-number .ensures)
 
 stamp-of-requires : tie.Need-stamp-of-requires
@@ -54,7 +55,7 @@ returns-2 c =
     let a = c7 .args in
     rw (c .kept .ensures, c1 .numbered .ensures)
     (known-there (a .k) (a .size) (a .i) (a .m) (a .v) (halfOf (a .a)) (halfOf (a .b)) (a .t .now) (a .out .now) (a .w .now)
-    (penOf (a .pen)) (c2 .stamp-of .result) (c4 .if1 .left) (c2 .stamp-of .ensures))
+    (progressOf (a .progress)) (c2 .stamp-of .result) (c4 .if1 .left) (c2 .stamp-of .ensures))
 
 pub known-spec : {M : Type 1} → statement M
 known-spec =

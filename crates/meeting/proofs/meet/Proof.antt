@@ -4,9 +4,9 @@ use borrow.Author.Needs.{needs}
 use Rattle.meeting.proofs.meet.Statement.{statement}
 use Rattle.meeting.proofs.meet.Tie as tie
 use mathlib.Core.Path.{sym, ap, _∙_}
-use Rattle.engine.specs.Recycling.{findIn}
-use Rattle.engine.specs.EngineMade.{meet-constant, meet-number, meet-first, meet-second, meet-known}
-use Rattle.meeting.specs.Cite.{halfOf, penOf}
+use Rattle.theory_engine.specs.Recycling.{findIn}
+use Rattle.theory_engine.specs.EngineCorrect.{meet-constant, meet-number, meet-first, meet-second, meet-known}
+use Rattle.meeting.specs.Abstraction.{halfOf, progressOf}
 
 alike-constant-requires : tie.Need-alike-constant-requires
 alike-constant-requires c κs = search needs
@@ -25,7 +25,7 @@ returns c =
     let c6 = c3 .before .before .before in
     let a = c6 .args in
     rw (c .kept .ensures, c1 .constant .ensures)
-    (meet-constant (a .size) (a .i) (a .m) (a .v) (halfOf (a .a)) (halfOf (a .b)) (a .t .now) (a .out .now) (a .w .now) (penOf (a .pen))
+    (meet-constant (a .size) (a .i) (a .m) (a .v) (halfOf (a .a)) (halfOf (a .b)) (a .t .now) (a .out .now) (a .w .now) (progressOf (a .progress))
     (sym (c3 .alike-constant .ensures) ∙ c2 .if1 .taken))
 
 alike-number-requires : tie.Need-alike-number-requires
@@ -54,7 +54,7 @@ returns-2 c =
     let c10 = c7 .before .before .before in
     let a = c10 .args in
     rw (c .kept2 .ensures, c1 .numbered .ensures, c2 .one-more .ensures)
-    (meet-number (a .size) (a .i) (a .m) (a .v) (halfOf (a .a)) (halfOf (a .b)) (a .t .now) (a .out .now) (a .w .now) (penOf (a .pen))
+    (meet-number (a .size) (a .i) (a .m) (a .v) (halfOf (a .a)) (halfOf (a .b)) (a .t .now) (a .out .now) (a .w .now) (progressOf (a .progress))
     (sym (c7 .alike-constant .ensures) ∙ c6 .if1 .left) (sym (c4 .alike-number .ensures) ∙ c3 .if2 .taken))
 
 is-barred-requires : tie.Need-is-barred-requires
@@ -84,8 +84,9 @@ returns-3 c =
     let c19 = c16 .before .before .before in
     let a = c19 .args in
     c5 .write-temporary .ensures
-    ∙ meet-first (a .size) (a .i) (a .m) (a .v) (halfOf (a .a)) (halfOf (a .b)) (a .t .now) (a .out .now) (a .w .now) (penOf (a .pen))
-    (sym (c16 .alike-constant .ensures) ∙ c15 .if1 .left) (sym (c13 .alike-number .ensures) ∙ c12 .if2 .left) (sym (c10 .is-barred .ensures) ∙ c9 .if3 .taken)
+    ∙ meet-first (a .size) (a .i) (a .m) (a .v) (halfOf (a .a)) (halfOf (a .b)) (a .t .now) (a .out .now) (a .w .now) (progressOf (a .progress))
+    (sym (c16 .alike-constant .ensures) ∙ c15 .if1 .left) (sym (c13 .alike-number .ensures) ∙ c12 .if2 .left)
+    (sym (c10 .is-barred .ensures) ∙ c9 .if3 .taken)
 
 is-barred-requires-2 : tie.Need-is-barred-requires-2
 is-barred-requires-2 c κs = search needs
@@ -116,8 +117,9 @@ returns-4 c =
     let c22 = c19 .before .before .before in
     let a = c22 .args in
     c5 .write-temporary2 .ensures
-    ∙ meet-second (a .size) (a .i) (a .m) (a .v) (halfOf (a .a)) (halfOf (a .b)) (a .t .now) (a .out .now) (a .w .now) (penOf (a .pen))
-    (sym (c19 .alike-constant .ensures) ∙ c18 .if1 .left) (sym (c16 .alike-number .ensures) ∙ c15 .if2 .left) (sym (c13 .is-barred .ensures) ∙ c12 .if3 .left)
+    ∙ meet-second (a .size) (a .i) (a .m) (a .v) (halfOf (a .a)) (halfOf (a .b)) (a .t .now) (a .out .now) (a .w .now) (progressOf (a .progress))
+    (sym (c19 .alike-constant .ensures) ∙ c18 .if1 .left) (sym (c16 .alike-number .ensures) ∙ c15 .if2 .left)
+    (sym (c13 .is-barred .ensures) ∙ c12 .if3 .left)
     (sym (c10 .is-barred2 .ensures) ∙ c9 .if4 .taken)
 
 either-requires : tie.Need-either-requires
@@ -154,9 +156,9 @@ returns-5 c =
     let c25 = c22 .before .before .before in
     let a = c25 .args in
     let there =
-    c9 .find .ensures ∙ ap (findIn (a .t .now) (a .pen .given) (a .i) (a .a .number) (a .b .number)) (c10 .either .ensures) in
+    c9 .find .ensures ∙ ap (findIn (a .t .now) (a .progress .given) (a .i) (a .a .number) (a .b .number)) (c10 .either .ensures) in
     c5 .known .ensures
-    ∙ meet-known (a .size) (a .i) (a .m) (a .v) (halfOf (a .a)) (halfOf (a .b)) (a .t .now) (a .out .now) (a .w .now) (penOf (a .pen))
+    ∙ meet-known (a .size) (a .i) (a .m) (a .v) (halfOf (a .a)) (halfOf (a .b)) (a .t .now) (a .out .now) (a .w .now) (progressOf (a .progress))
     (c9 .find .result) (sym (c22 .alike-constant .ensures) ∙ c21 .if1 .left) (sym (c19 .alike-number .ensures) ∙ c18 .if2 .left)
     (sym (c16 .is-barred .ensures) ∙ c15 .if3 .left) (sym (c13 .is-barred2 .ensures) ∙ c12 .if4 .left) there
 

@@ -21,7 +21,8 @@ same-length-3 : tie.Need-same-length-3
 same-length-3 c = search needs
 
 returns-2 : tie.Need-returns-2
-returns-2 c = c .before .before .before .before .before .meet .ensures ∙ rw (c .before .before .before .before .before .before .before .before .before .before .if1 .left) refl
+returns-2 c = c .before .before .before .before .before .meet .ensures
+    ∙ rw (c .before .before .before .before .before .before .before .before .before .before .if1 .left) refl
 
 pub second-spec : {M : Type 1} → statement M
 second-spec =

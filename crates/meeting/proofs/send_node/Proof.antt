@@ -1,7 +1,7 @@
 -- The end of the node waits, and then all that waits is sent.
 -- Assumes nothing.
-use Rattle.engine.specs.PendingMade.{send-closed}
-use Rattle.meeting.specs.Cite.{halfOf}
+use Rattle.theory_engine.specs.PendingCorrect.{send-closed}
+use Rattle.meeting.specs.Abstraction.{halfOf}
 use borrow.Author.Needs.{needs}
 use Rattle.meeting.proofs.send_node.Statement.{statement}
 use Rattle.meeting.proofs.send_node.Tie as tie

@@ -4,8 +4,8 @@ use borrow.Author.Needs.{needs}
 use Rattle.meeting.proofs.write_temporary.Statement.{statement}
 use Rattle.meeting.proofs.write_temporary.Tie as tie
 use mathlib.Core.Path.{ap}
-use Rattle.engine.specs.Engine.{temporaryHalf, sentAs, laneOf, writeNode}
-use Rattle.meeting.specs.Cite.{penOf}
+use Rattle.theory_engine.specs.Engine.{temporaryHalf, sentAs, laneOf, writeNode}
+use Rattle.meeting.specs.Abstraction.{progressOf}
 
 send-node-requires : tie.Need-send-node-requires
 send-node-requires c κs = search needs
@@ -25,7 +25,8 @@ same-length-2 c = search needs
 returns : tie.Need-returns
 unfolding writeNode
 returns c = let a = c .before .before .before .before .before .before .before .before .before .before .before .args in
-    rw (c .sent-as .ensures, c .before .temporary .ensures) (ap (sentAs (temporaryHalf (a .a .complement)) (a .pen .given) (laneOf (a .t .now) (penOf (a .pen)))) (c .before .before .before .before .before .before .send-node .ensures))
+    rw (c .sent-as .ensures, c .before .temporary .ensures) (ap (sentAs (temporaryHalf (a .a .complement)) (a .progress .given)
+    (laneOf (a .t .now) (progressOf (a .progress)))) (c .before .before .before .before .before .before .send-node .ensures))
 
 pub write-temporary-spec : {M : Type 1} → statement M
 write-temporary-spec =

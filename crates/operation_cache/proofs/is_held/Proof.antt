@@ -21,31 +21,66 @@ array-read-if3 : tie.Need-array-read-if3
 array-read-if3 c = search needs
 
 returns-3 : tie.Need-returns-3
-returns-3 c = rw (ne-eqb _ 0 (c .before .before .before .before .if1 .left), eq-eqb _ _ (c .before .before .if2 .left), ne-eqb _ _ (c .if3 .taken)) refl
+returns-3 c = rw (ne-eqb _ 0 (c .before .before .before .before .if1 .left), eq-eqb _ _ (c .before .before .if2 .left), ne-eqb _ _ (c .if3 .taken))
+    refl
 
 array-read-if4 : tie.Need-array-read-if4
 array-read-if4 c = search needs
 
 returns-4 : tie.Need-returns-4
-returns-4 c = rw (ne-eqb _ 0 (c .before .before .before .before .before .before .if1 .left), eq-eqb _ _ (c .before .before .before .before .if2 .left), eq-eqb _ _ (c .before .before .if3 .left), ne-eqb _ _ (c .if4 .taken)) refl
+returns-4 c = rw (
+  ne-eqb _ 0 (c .before .before .before .before .before .before .if1 .left),
+  eq-eqb _ _
+      (c .before .before .before .before .if2 .left),
+  eq-eqb _ _ (c .before .before .if3 .left),
+  ne-eqb _ _ (c .if4 .taken),
+) refl
 
 array-read-if5 : tie.Need-array-read-if5
 array-read-if5 c = search needs
 
 returns-5 : tie.Need-returns-5
-returns-5 c = rw (ne-eqb _ 0 (c .before .before .before .before .before .before .before .before .if1 .left), eq-eqb _ _ (c .before .before .before .before .before .before .if2 .left), eq-eqb _ _ (c .before .before .before .before .if3 .left), eq-eqb _ _ (c .before .before .if4 .left), ne-eqb _ _ (c .if5 .taken)) refl
+returns-5 c = rw (
+  ne-eqb _ 0 (c .before .before .before .before .before .before .before .before .if1 .left),
+  eq-eqb _ _
+      (c .before .before .before .before .before .before .if2 .left),
+  eq-eqb _ _ (c .before .before .before .before .if3 .left),
+  eq-eqb _ _
+      (c .before .before .if4 .left),
+  ne-eqb _ _ (c .if5 .taken),
+) refl
 
 array-read-if6 : tie.Need-array-read-if6
 array-read-if6 c = search needs
 
 returns-6 : tie.Need-returns-6
-returns-6 c = rw (ne-eqb _ 0 (c .before .before .before .before .before .before .before .before .before .before .if1 .left), eq-eqb _ _ (c .before .before .before .before .before .before .before .before .if2 .left), eq-eqb _ _ (c .before .before .before .before .before .before .if3 .left), eq-eqb _ _ (c .before .before .before .before .if4 .left), eq-eqb _ _ (c .before .before .if5 .left), ne-eqb _ _ (c .if6 .taken)) refl
+returns-6 c = rw (
+  ne-eqb _ 0 (c .before .before .before .before .before .before .before .before .before .before .if1 .left),
+  eq-eqb _ _
+      (c .before .before .before .before .before .before .before .before .if2 .left),
+  eq-eqb _ _
+      (c .before .before .before .before .before .before .if3 .left),
+  eq-eqb _ _ (c .before .before .before .before .if4 .left),
+  eq-eqb _ _
+      (c .before .before .if5 .left),
+  ne-eqb _ _ (c .if6 .taken),
+) refl
 
 array-read-result : tie.Need-array-read-result
 array-read-result c = search needs
 
 returns-7 : tie.Need-returns-7
-returns-7 c = rw (ne-eqb _ 0 (c .before .before .before .before .before .before .before .before .before .before .before .if1 .left), eq-eqb _ _ (c .before .before .before .before .before .before .before .before .before .if2 .left), eq-eqb _ _ (c .before .before .before .before .before .before .before .if3 .left), eq-eqb _ _ (c .before .before .before .before .before .if4 .left), eq-eqb _ _ (c .before .before .before .if5 .left), eq-eqb _ _ (c .before .if6 .left)) refl
+returns-7 c = rw (
+  ne-eqb _ 0 (c .before .before .before .before .before .before .before .before .before .before .before .if1 .left),
+  eq-eqb _ _
+      (c .before .before .before .before .before .before .before .before .before .if2 .left),
+  eq-eqb _ _
+      (c .before .before .before .before .before .before .before .if3 .left),
+  eq-eqb _ _ (c .before .before .before .before .before .if4 .left),
+  eq-eqb
+      _ _ (c .before .before .before .if5 .left),
+  eq-eqb _ _ (c .before .if6 .left),
+) refl
 
 pub is-held-spec : {M : Type 1} → statement M
 is-held-spec =

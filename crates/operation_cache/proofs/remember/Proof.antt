@@ -3,8 +3,8 @@ use mathlib.Core.Path.{ap}
 use mathlib.Core.List.{List}
 use Prim.Native.Nat.{ℕ}
 use lib.ListN.{set}
-use Rattle.meeting.specs.Cite.{halfOf}
-use Rattle.operation_cache.specs.KeyMade.{set-past, row-made}
+use Rattle.meeting.specs.Abstraction.{halfOf}
+use Rattle.operation_cache.specs.KeyCorrect.{set-past, entry-correct}
 use borrow.Author.Needs.{needs}
 use Rattle.operation_cache.proofs.remember.Statement.{statement}
 use Rattle.operation_cache.proofs.remember.Tie as tie
@@ -25,7 +25,8 @@ same-length : tie.Need-same-length
 same-length c = search needs
 
 returns-2 : tie.Need-returns-2
-returns-2 c = ap (λ (r : List ℕ). set (c .before .before .args .c .now) (c .before .before .args .p) r) (row-made (c .before .before .args .k) (halfOf (c .before .before .args .h)) _ (c .either .ensures))
+returns-2 c = ap (λ (r : List ℕ). set (c .before .before .args .c .now) (c .before .before .args .p) r)
+    (entry-correct (c .before .before .args .k) (halfOf (c .before .before .args .h)) _ (c .either .ensures))
 
 pub remember-spec : {M : Type 1} → statement M
 remember-spec =

@@ -1,5 +1,5 @@
 -- Two inputs, one after the other. Assumes nothing.
-use Rattle.operation_cache.specs.KeyMade.{slot-pair}
+use Rattle.operation_cache.specs.KeyCorrect.{slot-pair}
 use borrow.Author.Needs.{needs}
 use Rattle.operation_cache.proofs.slot.Statement.{statement}
 use Rattle.operation_cache.proofs.slot.Tie as tie
@@ -56,7 +56,8 @@ stir-requires-2 : tie.Need-stir-requires-2
 stir-requires-2 c κs = search needs
 
 returns : tie.Need-returns
-returns c = slot-pair (c .before .before .before .before .before .before .before .before .args .k) (c .before .stir .result) (c .stir2 .result) (c .before .stir .ensures) (c .stir2 .ensures)
+returns c = slot-pair (c .before .before .before .before .before .before .before .before .args .k) (c .before .stir .result) (c .stir2 .result)
+    (c .before .stir .ensures) (c .stir2 .ensures)
 
 pub slot-spec : {M : Type 1} → statement M
 slot-spec =

@@ -1,6 +1,6 @@
 -- The parts of the end of a node are added one after the other.
 -- Assumes nothing.
-use Rattle.engine.specs.PendingMade.{close-made}
+use Rattle.theory_engine.specs.PendingCorrect.{close-correct}
 use borrow.Author.Needs.{needs}
 use Rattle.pending_text.proofs.close.Statement.{statement}
 use Rattle.pending_text.proofs.close.Tie as tie
@@ -26,7 +26,7 @@ returns c =
     let second = closer .before .before .before .before in
     let space = second .before .before .before .before in
     let a = space .before .before .before .args in
-    close-made (a .w .now) (a .m) (a .space) (a .wrote) (a .j) (a .k) (a .number)
+    close-correct (a .w .now) (a .m) (a .space) (a .wrote) (a .j) (a .k) (a .number)
     (space .push-space .ensures) (second .wait .ensures) (closer .push .ensures) (c .before .before .push-storing .ensures)
 
 pub close-spec : {M : Type 1} → statement M

@@ -1,6 +1,6 @@
 -- A byte without room changes nothing; one that has room is set there, and counts.
 -- Assumes nothing.
-use Rattle.engine.specs.PendingMade.{push-full, push-room}
+use Rattle.theory_engine.specs.PendingCorrect.{push-full, push-room}
 use borrow.Author.Needs.{needs}
 use Rattle.pending_text.proofs.push.Statement.{statement}
 use Rattle.pending_text.proofs.push.Tie as tie

@@ -1,7 +1,7 @@
 -- The byte is added, or nothing.
 -- Assumes nothing.
 use mathlib.Core.Path.{refl}
-use Rattle.engine.specs.Pending.{pushAll}
+use Rattle.theory_engine.specs.Pending.{pushAll}
 use borrow.Author.Needs.{needs}
 use Rattle.pending_text.proofs.push_space.Statement.{statement}
 use Rattle.pending_text.proofs.push_space.Tie as tie

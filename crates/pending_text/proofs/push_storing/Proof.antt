@@ -1,6 +1,6 @@
 -- For 0 nothing is added; else the colon, and then the number.
 -- Assumes nothing.
-use Rattle.engine.specs.PendingMade.{storing-none, storing-some}
+use Rattle.theory_engine.specs.PendingCorrect.{storing-none, storing-some}
 use borrow.Author.Needs.{needs}
 use Rattle.pending_text.proofs.push_storing.Statement.{statement}
 use Rattle.pending_text.proofs.push_storing.Tie as tie

@@ -1,11 +1,11 @@
--- After j turns the first j bytes have gone out; the loop ends where the text does, or the output.
+-- After j iterations the first j bytes have gone out; the loop ends where the text does, or the output.
 -- Assumes nothing.
 use mathlib.Core.Path.{_≡_, refl, _∙_}
 use Prim.Native.Nat.{_-_, _≤_, _<_}
 use native.Mathlib.Omega.{arith}
 use lib.ListN.{length, take, length-set}
-use Rattle.engine.specs.Pending.{sentTo}
-use Rattle.engine.specs.PendingMade.{send-none, send-more, send-done}
+use Rattle.theory_engine.specs.Pending.{sentTo}
+use Rattle.theory_engine.specs.PendingCorrect.{send-none, send-more, send-done}
 use borrow.Author.Needs.{needs}
 use Rattle.pending_text.proofs.send.Statement.{statement}
 use Rattle.pending_text.proofs.send.Tie as tie

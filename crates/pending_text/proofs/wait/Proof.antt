@@ -1,6 +1,6 @@
 -- The parts of what waits are added one after the other.
 -- Assumes nothing.
-use Rattle.engine.specs.PendingMade.{wait-wrote, wait-kept}
+use Rattle.theory_engine.specs.PendingCorrect.{wait-wrote, wait-kept}
 use borrow.Author.Needs.{needs}
 use Rattle.pending_text.proofs.wait.Statement.{statement}
 use Rattle.pending_text.proofs.wait.Tie as tie

@@ -1,4 +1,4 @@
--- Each sight is its element. Assumes nothing.
+-- Each token is its element. Assumes nothing.
 use mathlib.Core.Path.{refl}
 use borrow.Author.Needs.{needs}
 use Rattle.reader.proofs.element_of.Statement.{statement}

@@ -3,7 +3,7 @@
 use mathlib.Core.Path.{refl}
 use native.Mathlib.Omega.{arith}
 use borrow.Author.Tests.{lt-ltb, le-ltb}
-use Rattle.reading.specs.Limits.{optionLimit, openLimit}
+use Rattle.theory_reading.specs.Limits.{optionLimit, openLimit}
 use Rattle.reader.proofs.is_off.Statement.{statement}
 use Rattle.reader.proofs.is_off.Tie as tie
 

@@ -3,9 +3,9 @@
 use mathlib.Core.Path.{ap, _∙_}
 use native.Mathlib.Omega.{arith}
 use lib.ListN.{getD}
-use Rattle.scanner.specs.Cite.{insideOpen}
+use Rattle.scanner.specs.Abstraction.{insideOpen}
 use Rattle.scanner.specs.PlaceLaws.{spots-low}
-use Rattle.reader.specs.Lent.{nodesIn, node-at}
+use Rattle.reader.specs.OpenCells.{nodesIn, node-at}
 use Rattle.scanner.specs.declared.Spots.{Spots}
 use borrow.Author.Needs.{needs}
 use Rattle.reader.proofs.open_at.Statement.{statement}
@@ -35,7 +35,8 @@ array-read-t16-2 : tie.Need-array-read-t16-2
 array-read-t16-2 c = search needs
 
 returns : tie.Need-returns
-returns c = node-at (c .before .before .args .o .now) (c .before .spots-of .result .low) ∙ ap (λ (p : Spots). getD (nodesIn (c .before .before .args .o .now)) (p .low) insideOpen) (c .before .spots-of .ensures)
+returns c = node-at (c .before .before .args .o .now) (c .before .spots-of .result .low)
+    ∙ ap (λ (p : Spots). getD (nodesIn (c .before .before .args .o .now)) (p .low) insideOpen) (c .before .spots-of .ensures)
 
 pub open-at-spec : {M : Type 1} → statement M
 open-at-spec =

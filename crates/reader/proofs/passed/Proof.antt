@@ -15,7 +15,15 @@ add-c c = search needs
 returns : tie.Need-returns
 returns c =
     let a = c .before .before .before .args in
-    ap (λ (y : ℕ). record { at = a .at; mark = a .m; last = a .x; size = a .r .size; covered = a .r .covered + y; complement = a .r .complement; pair = a .r .pair }) (c .before .words .ensures .0)
+    ap (λ (y : ℕ). record {
+      at = a .at;
+      context = a .m;
+      last = a .x;
+      size = a .r .size;
+      covered = a .r .covered + y;
+      complement = a .r .complement;
+      pair = a .r .pair;
+    }) (c .before .words .ensures .0)
 
 pub passed-spec : {M : Type 1} → statement M
 passed-spec = tie.close (tie.spec words-requires add-c returns)

@@ -4,7 +4,7 @@ use mathlib.Core.Path.{ap, _∙_}
 use mathlib.Core.List.{_∷_, []}
 use native.Mathlib.Omega.{arith}
 use lib.ListN.{set, replicate}
-use Rattle.reader.specs.Lent.{nodesIn, nodes-put}
+use Rattle.reader.specs.OpenCells.{nodesIn, nodes-put}
 use Rattle.scanner.specs.PlaceLaws.{spots-low, spots-high}
 use Rattle.scanner.specs.declared.Spots.{Spots}
 use borrow.Author.Needs.{needs}
@@ -49,7 +49,8 @@ returns c =
     let a = c .before .before .before .before .args in
     let spotsof = c .before .before .before .spots-of in
     let e = a .e in
-    ap (λ (p : Spots). nodesIn (set (set (a .o .now) (p .high) (replicate 4 0)) (p .low) (e .first .number ∷ e .first .stamp ∷ c .before .bit .result ∷ c .bit2 .result ∷ []))) (spotsof .ensures)
+    ap (λ (p : Spots). nodesIn (set (set (a .o .now) (p .high) (replicate 4 0)) (p .low)
+    (e .first .number ∷ e .first .stamp ∷ c .before .bit .result ∷ c .bit2 .result ∷ []))) (spotsof .ensures)
     ∙ nodes-put (a .o .now) (a .d) e (c .before .bit .result) (c .bit2 .result) (c .before .bit .ensures) (c .bit2 .ensures)
 
 pub put-open-spec : {M : Type 1} → statement M

@@ -1,7 +1,7 @@
 -- Past the limits nothing is read (`read-off`); else the loop reads on (`read-on`).
 -- Assumes nothing.
 use mathlib.Core.Path.{sym, _∙_}
-use Rattle.reader.specs.Lent.{cursorIn}
+use Rattle.reader.specs.OpenCells.{cursorIn}
 use Rattle.reader.specs.ReadOn.{within, read-off, read-on}
 use borrow.Author.Needs.{needs}
 use Rattle.reader.proofs.read_on.Statement.{statement}
@@ -34,7 +34,8 @@ returns-2 c =
     let a = c .before .before .before .before .before .before .before .before .before .before .args in
     let isoff = c .before .before .before .before .before .before .before .is-off in
     let if1 = c .before .before .before .before .before .before .if1 in
-    c .before .run-on .ensures ∙ sym (read-on (a .n) (a .s .now) (a .stop) (cursorIn (a .c) (a .o .now)) (a .t .now) (sym (isoff .ensures) ∙ if1 .left))
+    c .before .run-on .ensures ∙ sym (read-on (a .n) (a .s .now) (a .stop) (cursorIn (a .c) (a .o .now)) (a .t .now)
+    (sym (isoff .ensures) ∙ if1 .left))
 
 pub read-on-spec : {M : Type 1} → statement M
 read-on-spec =

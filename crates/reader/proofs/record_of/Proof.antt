@@ -1,4 +1,4 @@
--- The record has the fields of `rowTo`:
+-- The record has the fields of `recordTo`:
 -- the stamp is that of `next_stamp`, the others stand there. Assumes nothing.
 use mathlib.Core.Path.{refl}
 use borrow.Author.Needs.{needs}

@@ -1,13 +1,13 @@
--- Each turn leads on to what the function comes to (`leads-goes`), and moves on in the bytes; it halts, or is past its stop, where the function does.
+-- Each iteration leads on to what the function comes to (`leads-goes`), and moves on in the bytes; it halts, or is past its stop, where the function does.
 -- Assumes nothing.
 use mathlib.Core.Path.{refl, _∙_, _≡_}
 use Prim.Native.Nat.{_-_, _≤_}
 use native.Mathlib.Omega.{arith}
 use lib.ListN.{length}
 use borrow.Author.Tests.{not-true, not-false}
-use Rattle.reading.specs.Limits.{optionLimit, wordLimit}
-use Rattle.reader.specs.Lent.{opensIn}
-use Rattle.reader.specs.Loop.{turn-length}
+use Rattle.theory_reading.specs.Limits.{optionLimit, wordLimit}
+use Rattle.reader.specs.OpenCells.{opensIn}
+use Rattle.reader.specs.Loop.{iteration-length}
 use Rattle.reader.specs.ReadOn.{readAll, Leads, leads-first, leads-past, leads-halts, leads-moves, leads-goes}
 use Rattle.scanner.specs.Kinds.{kindTable}
 use borrow.Author.Needs.{needs}
@@ -16,7 +16,8 @@ use Rattle.reader.proofs.run_on.Tie as tie
 
 abbrev Inv-loop : tie.InvT-loop
 Inv-loop k n s t₀ o₀ around stop run₀ depth₀ from₀ deep₀ t o run depth from deep =
-    (k ≡ kindTable) × ((n ≤ optionLimit) × ((length t ≡ length t₀) × ((stop ≤ wordLimit) × Leads (readAll n s stop run₀ (opensIn o₀ depth₀) t₀) n s stop run (opensIn o depth) from deep t)))
+    (k ≡ kindTable) × ((n ≤ optionLimit) × ((length t ≡ length t₀) ×
+    ((stop ≤ wordLimit) × Leads (readAll n s stop run₀ (opensIn o₀ depth₀) t₀) n s stop run (opensIn o depth) from deep t)))
 
 abbrev μ-loop : tie.MeasureT-loop
 μ-loop k n s t₀ o₀ around stop run₀ depth₀ from₀ deep₀ t o run depth from deep = length s - run .at
@@ -27,8 +28,8 @@ loop-holds c = (c .before .pre .0, (c .before .pre .1 .0, (refl, (c .before .pre
 open-at-requires : tie.Need-open-at-requires Inv-loop μ-loop
 open-at-requires c κs = search needs
 
-take-turn-requires : tie.Need-take-turn-requires Inv-loop μ-loop
-take-turn-requires c κs =
+iterate-requires : tie.Need-iterate-requires Inv-loop μ-loop
+iterate-requires c κs =
     let l = c .before .before .before .before .before .loop in
     let if1 = c .before .before .before .if1 in
     let i = l .inv in (i .0, (i .1 .0, (omega (arith, i .1 .1 .1 .0, if1 .taken), i .1 .1 .1 .1 .shallow)))
@@ -43,7 +44,7 @@ returns c =
     let if1 = c .before .before .before .before .before .before .if1 in
     let openat = c .before .before .before .before .open-at in
     leads-halts _ (a .n) (a .s .now) (a .stop) (l .run) (opensIn (l .o) (l .depth)) (l .from) (l .deep) (l .t) (l .inv .1 .1 .1 .1) (if1 .taken)
-    (openat .result) (openat .ensures) (c .before .before .take-turn .result) _ (c .before .before .take-turn .ensures) (not-true _ (c .if2 .taken))
+    (openat .result) (openat .ensures) (c .before .before .iterate .result) _ (c .before .before .iterate .ensures) (not-true _ (c .if2 .taken))
 
 put-open-requires : tie.Need-put-open-requires Inv-loop μ-loop
 put-open-requires c κs = search needs
@@ -54,15 +55,15 @@ loop-less c =
     let l = c .before .before .before .before .before .before .before .before .before .before .before .before .loop in
     let if1 = c .before .before .before .before .before .before .before .before .before .before .if1 in
     let openat = c .before .before .before .before .before .before .before .before .open-at in
-    let taketurn = c .before .before .before .before .before .before .take-turn in
+    let iterate = c .before .before .before .before .before .before .iterate in
     let if2 = c .before .before .before .before .if2 in
     leads-moves _ (a .n) (a .s .now) (a .stop) (l .run) (opensIn (l .o) (l .depth)) (l .from) (l .deep) (l .t) (l .inv .1 .1 .1 .1) (if1 .taken)
-    (openat .result) (openat .ensures) (taketurn .result) _ (taketurn .ensures) (not-false _ (if2 .left))
+    (openat .result) (openat .ensures) (iterate .result) _ (iterate .ensures) (not-false _ (if2 .left))
 
 loop-again : tie.Need-loop-again Inv-loop μ-loop
 loop-again c =
     let l = c .before .before .before .before .before .before .before .before .before .before .before .before .loop in
-    let taketurn = c .before .before .before .before .before .before .take-turn in
+    let iterate = c .before .before .before .before .before .before .iterate in
     let a = c .before .before .before .before .before .before .before .before .before .before .before .before .before .before .args in
     let if1 = c .before .before .before .before .before .before .before .before .before .before .if1 in
     let openat = c .before .before .before .before .before .before .before .before .open-at in
@@ -72,11 +73,11 @@ loop-again c =
       (
         i .1 .0,
         (
-          turn-length _ _ _ _ _ _ _ _ (taketurn .ensures) ∙ i .1 .1 .0,
+          iteration-length _ _ _ _ _ _ _ _ (iterate .ensures) ∙ i .1 .1 .0,
           (
             i .1 .1 .1 .0,
             leads-goes _ (a .n) (a .s .now) (a .stop) (l .run) (opensIn (l .o) (l .depth)) (l .from) (l .deep) (l .t) (i .1 .1 .1 .1) (if1 .taken)
-                (openat .result) (openat .ensures) (taketurn .result) _ (taketurn .ensures) (not-false _ (if2 .left)) _ (c .put-open .ensures),
+                (openat .result) (openat .ensures) (iterate .result) _ (iterate .ensures) (not-false _ (if2 .left)) _ (c .put-open .ensures),
           ),
         ),
       ),
@@ -88,7 +89,9 @@ same-length-2 c = search needs
 returns-2 : tie.Need-returns-2 Inv-loop μ-loop
 returns-2 c =
     let a = c .before .before .before .before .args in
-    leads-past _ (a .n) (a .s .now) (a .stop) (c .before .before .loop .run) (opensIn (c .before .before .loop .o) (c .before .before .loop .depth)) (c .before .before .loop .from) (c .before .before .loop .deep) (c .before .before .loop .t) (c .before .before .loop .inv .1 .1 .1 .1) (omega (arith, c .if1 .left))
+    leads-past _ (a .n) (a .s .now) (a .stop) (c .before .before .loop .run) (opensIn (c .before .before .loop .o) (c .before .before .loop .depth))
+    (c .before .before .loop .from) (c .before .before .loop .deep) (c .before .before .loop .t) (c .before .before .loop .inv .1 .1 .1 .1)
+    (omega (arith, c .if1 .left))
 
 pub run-on-spec : {M : Type 1} → statement M
 run-on-spec =
@@ -98,7 +101,7 @@ run-on-spec =
     μ-loop
     loop-holds
     open-at-requires
-    take-turn-requires
+    iterate-requires
     same-length
     returns
     put-open-requires

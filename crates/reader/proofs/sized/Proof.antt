@@ -4,7 +4,7 @@ use mathlib.Core.Path.{refl, _∙_}
 use native.Mathlib.Omega.{arith}
 use borrow.Author.Tests.{lt-ltb, le-ltb}
 use borrow.Author.Needs.{needs}
-use Rattle.reading.specs.Limits.{tableLimit}
+use Rattle.theory_reading.specs.Limits.{tableLimit}
 use Rattle.reader.proofs.sized.Statement.{statement}
 use Rattle.reader.proofs.sized.Tie as tie
 

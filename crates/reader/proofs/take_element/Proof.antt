@@ -31,8 +31,8 @@ goes-requires c κs = search needs
 enum-known-e : tie.Need-enum-known-e
 enum-known-e c = search needs
 
-is-mark-requires : tie.Need-is-mark-requires
-is-mark-requires c κs = search needs
+is-context-requires : tie.Need-is-context-requires
+is-context-requires c κs = search needs
 
 sized-requires : tie.Need-sized-requires
 sized-requires c κs = search needs
@@ -40,7 +40,7 @@ sized-requires c κs = search needs
 returns-2 : tie.Need-returns-2
 returns-2 c =
     c .sized .ensures
-    ∙ rw (c .before .before .before .before .e .given .1, sym (c .before .before .is-mark .ensures) ∙ c .before .if2 .taken) refl
+    ∙ rw (c .before .before .before .before .e .given .1, sym (c .before .before .is-context .ensures) ∙ c .before .if2 .taken) refl
 
 found-requires : tie.Need-found-requires
 found-requires c κs = search needs
@@ -90,13 +90,14 @@ returns-3 c =
     ∙ ap goesOf (c .before .moved .ensures)
     ∙ rw (
       c .before .before .before .enum-told .given .1,
-      le-ltb (c .before .before .before .before .before .args .n) (c .before .before .before .before .before .args .d + 1) (omega (arith, c .before .before .if1 .left)),
+      le-ltb (c .before .before .before .before .before .args .n) (c .before .before .before .before .before .args .d + 1)
+          (omega (arith, c .before .before .if1 .left)),
     ) refl
 
 returns-4 : tie.Need-returns-4
 returns-4 c =
     c .found .ensures
-    ∙ rw (c .before .before .before .before .e .given .1, sym (c .before .before .is-mark .ensures) ∙ c .before .if2 .left) refl
+    ∙ rw (c .before .before .before .before .e .given .1, sym (c .before .before .is-context .ensures) ∙ c .before .if2 .left) refl
 
 returns-5 : tie.Need-returns-5
 returns-5 c =
@@ -135,7 +136,7 @@ take-element-spec =
     moved-requires
     goes-requires
     enum-known-e
-    is-mark-requires
+    is-context-requires
     sized-requires
     returns-2
     found-requires

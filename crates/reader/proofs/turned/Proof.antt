@@ -10,14 +10,23 @@ use Rattle.reader.proofs.turned.Tie as tie
 moved-requires : tie.Need-moved-requires
 moved-requires c κs = search needs
 
-is-mark-requires : tie.Need-is-mark-requires
-is-mark-requires c κs = search needs
+is-context-requires : tie.Need-is-context-requires
+is-context-requires c κs = search needs
 
 returns : tie.Need-returns
-returns c = ap (λ (q : Run). record { at = q .at; mark = q .mark; last = q .last; size = q .size; covered = q .covered; complement = true; pair = q .pair }) (c .before .before .moved .ensures) ∙ rw (sym (c .before .is-mark .ensures) ∙ c .if1 .taken) refl
+returns c = ap (λ (q : Run). record {
+  at = q .at;
+  context = q .context;
+  last = q .last;
+  size = q .size;
+  covered = q .covered;
+  complement = true;
+  pair
+      = q .pair;
+}) (c .before .before .moved .ensures) ∙ rw (sym (c .before .is-context .ensures) ∙ c .if1 .taken) refl
 
 returns-2 : tie.Need-returns-2
-returns-2 c = c .before .before .moved .ensures ∙ rw (sym (c .before .is-mark .ensures) ∙ c .if1 .left) refl
+returns-2 c = c .before .before .moved .ensures ∙ rw (sym (c .before .is-context .ensures) ∙ c .if1 .left) refl
 
 pub turned-spec : {M : Type 1} → statement M
-turned-spec = tie.close (tie.spec moved-requires is-mark-requires returns returns-2)
+turned-spec = tie.close (tie.spec moved-requires is-context-requires returns returns-2)

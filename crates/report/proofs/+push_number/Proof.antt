@@ -10,7 +10,7 @@ use Rattle.report.proofs.+push_number.Lts-push_number as push-number-lt
 use Rattle.report.proofs.push.Reads as push-reads
 use Rattle.report.proofs.+push_number.{statement}
 use Rattle.report.proofs.+push_number.Tie.{close}
-use Rattle.engine.specs.PendingMade.{number-small, number-more}
+use Rattle.theory_engine.specs.PendingCorrect.{number-small, number-more}
 use native.Mathlib.Omega.{arith}
 use Rattle.report.specs.Printing.{decimal-within}
 
@@ -55,7 +55,11 @@ push-number-returns : (t : ℕ) → push-number-lts.Need-returns (
   push-number-below t,
   push-number.Post,
 ) (push-number-at t) push-number.Post
-push-number-returns t c = let a = c .before .before .args in (number-small (a .l .bytes) (a .l .count) (a .k) (c .before .if1 .taken) (c .push .ensures), decimal-within (a .k) (omega arith))
+push-number-returns t c = let a = c .before .before .args in (
+  number-small (a .l .bytes) (a .l .count) (a .k) (c .before .if1 .taken)
+      (c .push .ensures),
+  decimal-within (a .k) (omega arith),
+)
 
 push-number-push-number-requires : (t : ℕ) → push-number-lts.Need-push-number-requires (
   push-reads.Asked,
@@ -95,7 +99,10 @@ push-number-returns-2 : (t : ℕ) → push-number-lts.Need-returns-2 (
   push-number-below t,
   push-number.Post,
 ) (push-number-at t) push-number.Post
-push-number-returns-2 t c = let a = c .before .before .before .args in (number-more (a .l .bytes) (a .l .count) (a .k) (c .before .before .if1 .left) (c .before .push-number .ensures .0) (c .push2 .ensures), decimal-within (a .k) (omega arith))
+push-number-returns-2 t c = let a = c .before .before .before .args in (
+  number-more (a .l .bytes) (a .l .count) (a .k) (c .before .before .if1 .left) (c .before .push-number .ensures .0) (c .push2 .ensures),
+  decimal-within (a .k) (omega arith),
+)
 
 pub +push-number-spec : {M : Type 1} → statement M
 +push-number-spec = close μ-push-number λ t. push-number-lts.spec (

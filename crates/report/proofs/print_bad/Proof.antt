@@ -4,8 +4,8 @@ use borrow.Author.Needs.{needs}
 use Rattle.report.proofs.print_bad.Statement.{statement}
 use Rattle.report.proofs.print_bad.Tie as tie
 use mathlib.Core.Path.{ap, _∙_}
-use Rattle.reading.specs.Bytes.{text}
-use Rattle.engine.specs.Pending.{pushAll}
+use Rattle.theory_reading.specs.Bytes.{text}
+use Rattle.theory_engine.specs.Pending.{pushAll}
 use Rattle.report.specs.Printing.{bad-text}
 
 slice-aggregate-put : tie.Need-slice-aggregate-put

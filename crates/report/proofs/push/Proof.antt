@@ -6,7 +6,7 @@ use Rattle.report.proofs.push.Tie as tie
 use mathlib.Core.Path.{_≡_, sym, _∙_}
 use native.Mathlib.Omega.{arith}
 use lib.ListN.{length, length-map}
-use Rattle.engine.specs.PendingMade.{push-full, push-room}
+use Rattle.theory_engine.specs.PendingCorrect.{push-full, push-room}
 use Rattle.report.specs.Printing.{lineLimit}
 
 -- a line has so many bytes

@@ -3,7 +3,7 @@
 use borrow.Author.Needs.{needs}
 use Rattle.report.proofs.push_ending.Statement.{statement}
 use Rattle.report.proofs.push_ending.Tie as tie
-use Rattle.reading.specs.Bytes.{text}
+use Rattle.theory_reading.specs.Bytes.{text}
 
 enum-told : tie.Need-enum-told
 enum-told c = search needs

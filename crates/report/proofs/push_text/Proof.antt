@@ -1,4 +1,4 @@
--- After j turns the first j bytes of the text are there.
+-- After j iterations the first j bytes of the text are there.
 -- Assumes nothing.
 use borrow.Author.Needs.{needs}
 use Rattle.report.proofs.push_text.Statement.{statement}
@@ -7,7 +7,7 @@ use mathlib.Core.Path.{_≡_}
 use Prim.Native.Nat.{_-_, _≤_}
 use native.Mathlib.Omega.{arith}
 use lib.ListN.{length, take}
-use Rattle.engine.specs.Pending.{pushAll}
+use Rattle.theory_engine.specs.Pending.{pushAll}
 use Rattle.report.specs.Lines.{lineOf}
 use Rattle.report.specs.Printing.{text-none, text-more, text-end}
 

@@ -1,4 +1,4 @@
--- After j turns the first j bytes of the text are there.
+-- After j iterations the first j bytes of the text are there.
 -- Assumes nothing.
 use borrow.Author.Needs.{needs}
 use Rattle.report.proofs.put.Statement.{statement}
@@ -7,7 +7,7 @@ use mathlib.Core.Path.{_≡_, refl, _∙_}
 use Prim.Native.Nat.{_-_, _≤_}
 use native.Mathlib.Omega.{arith}
 use lib.ListN.{length, take}
-use Rattle.engine.specs.Pending.{waiting, pushAll}
+use Rattle.theory_engine.specs.Pending.{waiting, pushAll}
 use Rattle.report.specs.Printing.{text-none, text-more, text-end}
 
 abbrev Inv-loop : tie.InvT-loop
@@ -32,14 +32,21 @@ loop-less : tie.Need-loop-less Inv-loop μ-loop
 loop-less c = search needs
 
 loop-again : tie.Need-loop-again Inv-loop μ-loop
-loop-again c = let a = c .before .before .before .before .before .before .before .before .before .args in let l = c .before .before .before .before .before .before .loop in
-    (omega (arith, c .before .before .before .before .before .loop-test .taken), c .before .w .given ∙ l .inv .1, text-more (a .w .now) (a .m) (a .s .now) (l .j) (c .before .before .before .before .before .loop-test .taken) (l .inv .2) (c .before .before .push .ensures))
+loop-again c = let a = c .before .before .before .before .before .before .before .before .before .args in let l = c .before .before .before .before
+    .before .before .loop in (
+      omega (arith, c .before .before .before .before .before .loop-test .taken),
+      c .before .w .given
+          ∙ l .inv .1,
+      text-more (a .w .now) (a .m) (a .s .now) (l .j) (c .before .before .before .before .before .loop-test .taken) (l .inv .2)
+          (c .before .before .push .ensures),
+    )
 
 same-length : tie.Need-same-length Inv-loop μ-loop
 same-length c = search needs
 
 returns : tie.Need-returns Inv-loop μ-loop
-returns c = let a = c .before .before .before .before .args in let l = c .before .loop in text-end (a .w .now) (a .m) (a .s .now) (l .j) (c .loop-test .left) (l .inv .2)
+returns c = let a = c .before .before .before .before .args in let l = c .before .loop in text-end (a .w .now) (a .m) (a .s .now) (l .j)
+    (c .loop-test .left) (l .inv .2)
 
 pub put-spec : {M : Type 1} → statement M
 put-spec =

@@ -4,7 +4,7 @@ use borrow.Author.Needs.{needs}
 use Rattle.report.proofs.refused_line.Statement.{statement}
 use Rattle.report.proofs.refused_line.Tie as tie
 use mathlib.Core.Path.{ap}
-use Rattle.reading.specs.Bytes.{text}
+use Rattle.theory_reading.specs.Bytes.{text}
 use Rattle.checker.specs.Answers.{refusalOf}
 use lib.ListN.{length}
 use Rattle.report.specs.declared.Line.{Line}
@@ -54,8 +54,10 @@ returns c =
     let p = c .before .before .before .before .before .before .push-number .ensures in
     let q = c .before .before .before .push-number2 .ensures in
     let r = c .before .push-number3 .ensures in
-    refused-there (refusalOf (c .before .before .before .before .before .before .before .before .before .before .before .args .f)) (l .result .bytes) (ap (λ (x : Line). length (x .bytes)) (l .ensures)) (k .result) (k .ensures) (p .1) (q .1) (r .1)
-    (rw (ap (λ (x : Line). x .count) (l .ensures)) at (c .before .before .before .before .before .before .before .before .push-text .ensures)) (p .0) (c .before .before .before .before .before .push .ensures) (q .0) (c .before .before .push2 .ensures) (r .0) (c .push3 .ensures)
+    refused-there (refusalOf (c .before .before .before .before .before .before .before .before .before .before .before .args .f)) (l .result .bytes)
+    (ap (λ (x : Line). length (x .bytes)) (l .ensures)) (k .result) (k .ensures) (p .1) (q .1) (r .1)
+    (rw (ap (λ (x : Line). x .count) (l .ensures)) at (c .before .before .before .before .before .before .before .before .push-text .ensures)) (p .0)
+    (c .before .before .before .before .before .push .ensures) (q .0) (c .before .before .push2 .ensures) (r .0) (c .push3 .ensures)
 
 pub refused-line-spec : {M : Type 1} → statement M
 refused-line-spec =

@@ -4,8 +4,8 @@ use borrow.Author.Needs.{needs}
 use Rattle.report.proofs.words_line.Statement.{statement}
 use Rattle.report.proofs.words_line.Tie as tie
 use mathlib.Core.Path.{ap}
-use Rattle.reading.specs.Bytes.{text}
-use Rattle.meeting.specs.Cite.{writtenOf}
+use Rattle.theory_reading.specs.Bytes.{text}
+use Rattle.meeting.specs.Abstraction.{writtenOf}
 use lib.ListN.{length}
 use Rattle.report.specs.declared.Line.{Line}
 use Rattle.report.specs.Printing.{words-there}
@@ -50,8 +50,11 @@ returns c =
     let k = c .before .before .before .before .all-words in
     let p = c .before .before .before .before .before .before .before .push-number .ensures in
     let q = c .before .before .before .push-number2 .ensures in
-    words-there _ (writtenOf (c .before .before .before .before .before .before .before .before .before .before .before .args .x)) (l .result .bytes) (ap (λ (x : Line). length (x .bytes)) (l .ensures)) (k .result) (k .ensures) (p .1) (q .1)
-    (rw (ap (λ (x : Line). x .count) (l .ensures)) at (c .before .before .before .before .before .before .before .before .push-text .ensures)) (p .0) (c .before .before .before .before .before .push-text2 .ensures) (q .0) (c .before .before .push .ensures) (c .before .push-ending .ensures) (c .push2 .ensures)
+    words-there _ (writtenOf (c .before .before .before .before .before .before .before .before .before .before .before .args .x)) (l .result .bytes)
+    (ap (λ (x : Line). length (x .bytes)) (l .ensures)) (k .result) (k .ensures) (p .1) (q .1)
+    (rw (ap (λ (x : Line). x .count) (l .ensures)) at (c .before .before .before .before .before .before .before .before .push-text .ensures)) (p .0)
+    (c .before .before .before .before .before .push-text2 .ensures) (q .0) (c .before .before .push .ensures) (c .before .push-ending .ensures)
+    (c .push2 .ensures)
 
 pub words-line-spec : {M : Type 1} → statement M
 words-line-spec =

@@ -3,7 +3,7 @@
 use mathlib.Core.Path.{refl}
 use native.Mathlib.Omega.{arith}
 use borrow.Author.Tests.{lt-ltb, le-ltb}
-use Rattle.reading.specs.Limits.{openLimit}
+use Rattle.theory_reading.specs.Limits.{openLimit}
 use Rattle.scanner.proofs.deep.Statement.{statement}
 use Rattle.scanner.proofs.deep.Tie as tie
 

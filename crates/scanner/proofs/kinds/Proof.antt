@@ -1,7 +1,7 @@
 -- The table is that of the kinds, entry by entry, as computing both shows.
 -- Assumes nothing.
 use mathlib.Core.Path.{refl}
-use Rattle.reading.specs.Bytes.{kindOf}
+use Rattle.theory_reading.specs.Bytes.{kindOf}
 use Rattle.scanner.specs.Kinds.{kindsFrom}
 use Rattle.scanner.proofs.kinds.Statement.{statement}
 use Rattle.scanner.proofs.kinds.Tie as tie

@@ -28,7 +28,8 @@ add-i : tie.Need-add-i Inv-loop μ-loop
 add-i c = search needs
 
 returns-2 : tie.Need-returns-2 Inv-loop μ-loop
-returns-2 c = at-zero (c .before .before .before .before .args .k .now) (c .before .before .before .before .args .s .now) (c .before .before .before .before .args .at) (c .if2 .taken)
+returns-2 c = at-zero (c .before .before .before .before .args .k .now) (c .before .before .before .before .args .s .now)
+    (c .before .before .before .before .args .at) (c .if2 .taken)
 
 digit-requires : tie.Need-digit-requires Inv-loop μ-loop
 digit-requires c κs = search needs

@@ -1,4 +1,4 @@
--- Each sight is its outcome. Assumes nothing.
+-- Each token is its outcome. Assumes nothing.
 use mathlib.Core.Path.{refl}
 use borrow.Author.Needs.{needs}
 use Rattle.scanner.proofs.outcome_of.Statement.{statement}

@@ -7,8 +7,8 @@ use Rattle.text_walk.proofs.texts.Kinds as texts-kinds
 use Rattle.text_walk.proofs.+texts.Lts-texts as texts-lts
 use Rattle.text_walk.proofs.texts.Reads as texts
 use Rattle.applier.proofs.apply.Reads as apply
-use Rattle.feeds.proofs.edge_of.Reads as edge-of
-use Rattle.feeds.proofs.first_half.Reads as first-half
+use Rattle.operands.proofs.edge_of.Reads as edge-of
+use Rattle.operands.proofs.first_half.Reads as first-half
 use Rattle.meeting.proofs.second.Reads as second
 use Rattle.pending_text.proofs.push.Reads as push
 use Rattle.text_walk.proofs.at_edges.Reads as at-edges
@@ -26,15 +26,15 @@ use mathlib.Core.Path.{sym, ap, _∙_}
 use mathlib.Core.Bool.{false, _||_}
 use native.Mathlib.Omega.{arith}
 use Prim.Native.Nat.{ℕ, _*_, _-_, _%_, _<_, _^_}
-use Rattle.engine.specs.TextMade.{inside-option}
-use Rattle.lists.specs.Powers.{shifted, both-halves}
-use Rattle.meeting.specs.Cite.{penOf}
-use Rattle.edges.specs.Cite.{edgeIn}
+use Rattle.theory_engine.specs.TextCorrect.{inside-option}
+use Rattle.theory_lists.specs.Powers.{shifted, both-halves}
+use Rattle.meeting.specs.Abstraction.{progressOf}
+use Rattle.edges.specs.Abstraction.{edgeIn}
 use Rattle.edges.specs.declared.Edge.{Edge}
-use Rattle.reader.specs.Lent.{opensIn}
-use Rattle.feeds.specs.Cite.{tapeOf, feedOf, begunIn}
-use Rattle.text_walk.specs.Cite.{gapIn}
-use Rattle.text_walk.specs.TextsMade.{one-down, first-asks, second-asks, texts-edges, texts-halted, texts-ended, texts-done, texts-on}
+use Rattle.reader.specs.OpenCells.{opensIn}
+use Rattle.operands.specs.Abstraction.{readerOf, operandOf, begunIn}
+use Rattle.text_walk.specs.Abstraction.{gapIn}
+use Rattle.text_walk.specs.TextsCorrect.{one-down, first-asks, second-asks, texts-edges, texts-halted, texts-ended, texts-done, texts-on}
 
 abbrev μ : Measures 10 texts-kinds.ps ℕ
 μ κs a = a .1 .0
@@ -130,15 +130,20 @@ module _ (t : ℕ) where
       let c22 = c17 .before .before .before .before .before in
       let a = c22 .args in
       let l = c7 .apply .last .1 .1 .1 .1 .1 .1 .1 .1 .1 in
-      rw (c .went-on .ensures) (texts-edges (a .k) (a .d) (a .i) (a .at) (a .m) (feedOf (a .f) (a .b1) (a .o1 .now) (a .x .now) (a .t1 .now)) (feedOf (a .g) (a .b2) (a .o2 .now) (a .y .now) (a .t2 .now)) (a .c .now) (a .t .now) (a .out .now) (a .w .now) (penOf (a .pen))
-      (edgeIn (c15 .edge-of .result) (a .t1 .now)) (edgeIn (c14 .edge-of2 .result) (a .t2 .now)) (c7 .apply .result) (l .0) (l .1 .0) (l .1 .1 .0) (l .1 .1 .1 .0) (sym (c17 .at-edges .ensures) ∙ c16 .if1 .taken) (omega (arith, c22 .pre)) (omega (arith, c22 .pre))
-      (ap (λ (e : Edge). edgeIn e (a .t1 .now)) (c15 .edge-of .ensures)) (ap (λ (e : Edge). edgeIn e (a .t2 .now)) (c14 .edge-of2 .ensures)) (c7 .apply .ensures))
+      rw (c .went-on .ensures) (texts-edges (a .k) (a .d) (a .i) (a .at) (a .m) (operandOf (a .f) (a .b1) (a .o1 .now) (a .x .now) (a .t1 .now))
+      (operandOf (a .g) (a .b2) (a .o2 .now) (a .y .now) (a .t2 .now)) (a .c .now) (a .t .now) (a .out .now) (a .w .now)
+      (progressOf (a .progress))
+      (edgeIn (c15 .edge-of .result) (a .t1 .now)) (edgeIn (c14 .edge-of2 .result) (a .t2 .now)) (c7 .apply .result) (l .0) (l .1 .0) (l .1 .1 .0)
+      (l .1 .1 .1 .0) (sym (c17 .at-edges .ensures) ∙ c16 .if1 .taken) (omega (arith, c22 .pre)) (omega (arith, c22 .pre))
+      (ap (λ (e : Edge). edgeIn e (a .t1 .now)) (c15 .edge-of .ensures)) (ap (λ (e : Edge). edgeIn e (a .t2 .now)) (c14 .edge-of2 .ensures))
+      (c7 .apply .ensures))
 
   sub-e : texts-lts.Need-sub-e K (at t) texts.Post
   sub-e c =
       let c1 = c .before in
       let c6 = c1 .before .before .before .before .before in
-      let a = c6 .args in let z = inside-option (a .d) (a .f .inside || (a .g .inside || false)) (sym (c1 .at-edges .ensures) ∙ c .if1 .left) in omega (arith, z)
+      let a = c6 .args in let z = inside-option (a .d) (a .f .inside || (a .g .inside || false)) (sym (c1 .at-edges .ensures) ∙ c .if1 .left) in omega
+      (arith, z)
 
   add-j : texts-lts.Need-add-j K (at t) texts.Post
   add-j c =
@@ -172,7 +177,8 @@ module _ (t : ℕ) where
       let c16 = c .before .before .before .before .before .before .before .before .before .before .before .before .before .before .before .before in
       let c17 = c16 .before in
       let c22 = c17 .before .before .before .before .before in
-      let a = c22 .args in let z = inside-option (a .d) (a .f .inside || (a .g .inside || false)) (sym (c17 .at-edges .ensures) ∙ c16 .if1 .left) in first-asks (a .d) (a .i) (a .at) t (c22 .pre) z
+      let a = c22 .args in let z = inside-option (a .d) (a .f .inside || (a .g .inside || false)) (sym (c17 .at-edges .ensures) ∙ c16 .if1 .left) in
+      first-asks (a .d) (a .i) (a .at) t (c22 .pre) z
 
   is-halted-requires : texts-lts.Need-is-halted-requires K (at t) texts.Post
   is-halted-requires c κs = tt
@@ -200,7 +206,8 @@ module _ (t : ℕ) where
   same-length-11 : texts-lts.Need-same-length-11 K (at t) texts.Post
   same-length-11 c =
       let c4 = c .before .before .before .before in
-      let c24 = c4 .before .before .before .before .before .before .before .before .before .before .before .before .before .before .before .before .before .before .before .before in
+      let c24 = c4 .before .before .before .before .before .before .before .before .before .before .before .before .before .before .before .before
+      .before .before .before .before in
       c4 .w3 .given ∙ c24 .w2 .given
 
   same-length-12 : texts-lts.Need-same-length-12 K (at t) texts.Post
@@ -216,10 +223,20 @@ module _ (t : ℕ) where
       let c27 = c25 .before .before in
       let c28 = c27 .before in
       let c33 = c28 .before .before .before .before .before in
-      let a = c33 .args in let l = c10 .texts .last .1 .1 .1 .1 .1 .1 .1 .1 .1 .1 .1 in let z = inside-option (a .d) (a .f .inside || (a .g .inside || false)) (sym (c28 .at-edges .ensures) ∙ c27 .if1 .left) in
-      texts-halted (a .k) (a .d) (a .i) (a .at) (a .m) (feedOf (a .f) (a .b1) (a .o1 .now) (a .x .now) (a .t1 .now)) (feedOf (a .g) (a .b2) (a .o2 .now) (a .y .now) (a .t2 .now)) (a .c .now) (a .t .now) (a .out .now) (a .w .now) (penOf (a .pen))
-      (a .d - 1) (one-down (a .d) z) (sym (c28 .at-edges .ensures) ∙ c27 .if1 .left) (feedOf (c21 .first-half .result) (a .b1) (a .o1 .now) (a .x .now) (a .t1 .now)) (feedOf (c19 .first-half2 .result) (a .b2) (a .o2 .now) (a .y .now) (a .t2 .now)) (record { bytes = c25 .push .last .0; count = c25 .push .result }) (c10 .texts .result) (tapeOf (c10 .texts .result .first) (l .0) (a .x .now) (l .1 .1 .0)) (tapeOf (c10 .texts .result .second) (l .1 .0) (a .y .now) (l .1 .1 .1 .0)) (l .1 .1 .1 .1 .0) (l .1 .1 .1 .1 .1 .0) (l .1 .1 .1 .1 .1 .1 .0) (l .1 .1 .1 .1 .1 .1 .1 .0)
-      (c21 .first-half .ensures (a .k .n) (opensIn (a .o1 .now) (a .b1 .cursor .depth)) (a .x .now)) (c19 .first-half2 .ensures (a .k .n) (opensIn (a .o2 .now) (a .b2 .cursor .depth)) (a .y .now)) (c25 .push .ensures) (c10 .texts .ensures)
+      let a = c33 .args in let l = c10 .texts .last .1 .1 .1 .1 .1 .1 .1 .1 .1 .1 .1 in let z = inside-option (a .d)
+      (a .f .inside || (a .g .inside || false)) (sym (c28 .at-edges .ensures) ∙ c27 .if1 .left) in
+      texts-halted (a .k) (a .d) (a .i) (a .at) (a .m) (operandOf (a .f) (a .b1) (a .o1 .now) (a .x .now) (a .t1 .now))
+      (operandOf (a .g) (a .b2) (a .o2 .now) (a .y .now) (a .t2 .now)) (a .c .now) (a .t .now) (a .out .now) (a .w .now)
+      (progressOf (a .progress))
+      (a .d - 1) (one-down (a .d) z) (sym (c28 .at-edges .ensures) ∙ c27 .if1 .left)
+      (operandOf (c21 .first-half .result) (a .b1) (a .o1 .now) (a .x .now) (a .t1 .now))
+      (operandOf (c19 .first-half2 .result) (a .b2) (a .o2 .now) (a .y .now) (a .t2 .now))
+      (record { bytes = c25 .push .last .0; count = c25 .push .result }) (c10 .texts .result)
+      (readerOf (c10 .texts .result .first) (l .0) (a .x .now) (l .1 .1 .0))
+      (readerOf (c10 .texts .result .second) (l .1 .0) (a .y .now) (l .1 .1 .1 .0)) (l .1 .1 .1 .1 .0) (l .1 .1 .1 .1 .1 .0)
+      (l .1 .1 .1 .1 .1 .1 .0) (l .1 .1 .1 .1 .1 .1 .1 .0)
+      (c21 .first-half .ensures (a .k .n) (opensIn (a .o1 .now) (a .b1 .cursor .depth)) (a .x .now))
+      (c19 .first-half2 .ensures (a .k .n) (opensIn (a .o2 .now) (a .b2 .cursor .depth)) (a .y .now)) (c25 .push .ensures) (c10 .texts .ensures)
       (c1 .is-halted .result) (c1 .is-halted .ensures) (c .if2 .taken)
 
   ended-at-requires : texts-lts.Need-ended-at-requires K (at t) texts.Post
@@ -248,7 +265,8 @@ module _ (t : ℕ) where
   same-length-17 : texts-lts.Need-same-length-17 K (at t) texts.Post
   same-length-17 c =
       let c7 = c .before .before .before .before .before .before .before in
-      let c27 = c7 .before .before .before .before .before .before .before .before .before .before .before .before .before .before .before .before .before .before .before .before in
+      let c27 = c7 .before .before .before .before .before .before .before .before .before .before .before .before .before .before .before .before
+      .before .before .before .before in
       c7 .w3 .given ∙ c27 .w2 .given
 
   same-length-18 : texts-lts.Need-same-length-18 K (at t) texts.Post
@@ -268,11 +286,22 @@ module _ (t : ℕ) where
       let c30 = c28 .before .before in
       let c31 = c30 .before in
       let c36 = c31 .before .before .before .before .before in
-      let a = c36 .args in let l = c13 .texts .last .1 .1 .1 .1 .1 .1 .1 .1 .1 .1 .1 in let z = inside-option (a .d) (a .f .inside || (a .g .inside || false)) (sym (c31 .at-edges .ensures) ∙ c30 .if1 .left) in
-      rw (c .ended-at .ensures) (texts-ended (a .k) (a .d) (a .i) (a .at) (a .m) (feedOf (a .f) (a .b1) (a .o1 .now) (a .x .now) (a .t1 .now)) (feedOf (a .g) (a .b2) (a .o2 .now) (a .y .now) (a .t2 .now)) (a .c .now) (a .t .now) (a .out .now) (a .w .now) (penOf (a .pen))
-      (a .d - 1) (one-down (a .d) z) (sym (c31 .at-edges .ensures) ∙ c30 .if1 .left) (feedOf (c24 .first-half .result) (a .b1) (a .o1 .now) (a .x .now) (a .t1 .now)) (feedOf (c22 .first-half2 .result) (a .b2) (a .o2 .now) (a .y .now) (a .t2 .now)) (record { bytes = c28 .push .last .0; count = c28 .push .result }) (c13 .texts .result) (tapeOf (c13 .texts .result .first) (l .0) (a .x .now) (l .1 .1 .0)) (tapeOf (c13 .texts .result .second) (l .1 .0) (a .y .now) (l .1 .1 .1 .0)) (l .1 .1 .1 .1 .0) (l .1 .1 .1 .1 .1 .0) (l .1 .1 .1 .1 .1 .1 .0) (l .1 .1 .1 .1 .1 .1 .1 .0)
-      (c24 .first-half .ensures (a .k .n) (opensIn (a .o1 .now) (a .b1 .cursor .depth)) (a .x .now)) (c22 .first-half2 .ensures (a .k .n) (opensIn (a .o2 .now) (a .b2 .cursor .depth)) (a .y .now)) (c28 .push .ensures) (c13 .texts .ensures)
-      (1 * 2 ^ (a .d - 1) % 18446744073709551616) (shifted (a .d - 1) (omega (arith, c36 .pre))) (c4 .is-halted .result) (c4 .is-halted .ensures) (c3 .if2 .left)
+      let a = c36 .args in let l = c13 .texts .last .1 .1 .1 .1 .1 .1 .1 .1 .1 .1 .1 in let z = inside-option (a .d)
+      (a .f .inside || (a .g .inside || false)) (sym (c31 .at-edges .ensures) ∙ c30 .if1 .left) in
+      rw (c .ended-at .ensures) (texts-ended (a .k) (a .d) (a .i) (a .at) (a .m) (operandOf (a .f) (a .b1) (a .o1 .now) (a .x .now) (a .t1 .now))
+      (operandOf (a .g) (a .b2) (a .o2 .now) (a .y .now) (a .t2 .now)) (a .c .now) (a .t .now) (a .out .now) (a .w .now)
+      (progressOf (a .progress))
+      (a .d - 1) (one-down (a .d) z) (sym (c31 .at-edges .ensures) ∙ c30 .if1 .left)
+      (operandOf (c24 .first-half .result) (a .b1) (a .o1 .now) (a .x .now) (a .t1 .now))
+      (operandOf (c22 .first-half2 .result) (a .b2) (a .o2 .now) (a .y .now) (a .t2 .now))
+      (record { bytes = c28 .push .last .0; count = c28 .push .result }) (c13 .texts .result)
+      (readerOf (c13 .texts .result .first) (l .0) (a .x .now) (l .1 .1 .0))
+      (readerOf (c13 .texts .result .second) (l .1 .0) (a .y .now) (l .1 .1 .1 .0)) (l .1 .1 .1 .1 .0) (l .1 .1 .1 .1 .1 .0)
+      (l .1 .1 .1 .1 .1 .1 .0) (l .1 .1 .1 .1 .1 .1 .1 .0)
+      (c24 .first-half .ensures (a .k .n) (opensIn (a .o1 .now) (a .b1 .cursor .depth)) (a .x .now))
+      (c22 .first-half2 .ensures (a .k .n) (opensIn (a .o2 .now) (a .b2 .cursor .depth)) (a .y .now)) (c28 .push .ensures) (c13 .texts .ensures)
+      (1 * 2 ^ (a .d - 1) % 18446744073709551616) (shifted (a .d - 1) (omega (arith, c36 .pre))) (c4 .is-halted .result) (c4 .is-halted .ensures)
+      (c3 .if2 .left)
       (c1 .if3 .taken))
 
   first-on-requires : texts-lts.Need-first-on-requires K (at t) texts.Post
@@ -286,7 +315,9 @@ module _ (t : ℕ) where
 
   texts-requires-2 : texts-lts.Need-texts-requires-2 K (at t) texts.Post
   texts-requires-2 c κs =
-      let c50 = c .before .before .before .before .before .before .before .before .before .before .before .before .before .before .before .before .before .before .before .before .before .before .before .before .before .before .before .before .before .before .before .before .before .before .before .before .before .before .before .before .before .before .before .before .before .before .before .before .before .before in
+      let c50 = c .before .before .before .before .before .before .before .before .before .before .before .before .before .before .before .before
+      .before .before .before .before .before .before .before .before .before .before .before .before .before .before .before .before .before
+      .before .before .before .before .before .before .before .before .before .before .before .before .before .before .before .before .before in
       let c51 = c50 .before in
       let c56 = c51 .before .before .before .before .before in
       let a = c56 .args in let z = inside-option (a .d) (a .f .inside || (a .g .inside || false)) (sym (c51 .at-edges .ensures) ∙ c50 .if1 .left) in
@@ -298,7 +329,8 @@ module _ (t : ℕ) where
   same-length-19 : texts-lts.Need-same-length-19 K (at t) texts.Post
   same-length-19 c =
       let c9 = c .before .before .before .before .before .before .before .before .before in
-      let c28 = c9 .before .before .before .before .before .before .before .before .before .before .before .before .before .before .before .before .before .before .before in
+      let c28 = c9 .before .before .before .before .before .before .before .before .before .before .before .before .before .before .before .before
+      .before .before .before in
       let c43 = c28 .before .before .before .before .before .before .before .before .before .before .before .before .before .before .before in
       c9 .t13 .given ∙ c28 .t12 .given ∙ c43 .t1 .given
 
@@ -306,33 +338,43 @@ module _ (t : ℕ) where
   same-length-20 c =
       let c8 = c .before .before .before .before .before .before .before .before in
       let c24 = c8 .before .before .before .before .before .before .before .before .before .before .before .before .before .before .before .before in
-      let c42 = c24 .before .before .before .before .before .before .before .before .before .before .before .before .before .before .before .before .before .before in
+      let c42 = c24 .before .before .before .before .before .before .before .before .before .before .before .before .before .before .before .before
+      .before .before in
       c8 .t23 .given ∙ c24 .t22 .given ∙ c42 .t2 .given
 
   same-length-21 : texts-lts.Need-same-length-21 K (at t) texts.Post
   same-length-21 c =
       let c7 = c .before .before .before .before .before .before .before in
-      let c41 = c7 .before .before .before .before .before .before .before .before .before .before .before .before .before .before .before .before .before .before .before .before .before .before .before .before .before .before .before .before .before .before .before .before .before .before in
+      let c41 = c7 .before .before .before .before .before .before .before .before .before .before .before .before .before .before .before .before
+      .before .before .before .before .before .before .before .before .before .before .before .before .before .before .before .before .before
+      .before in
       c7 .t4 .given ∙ c41 .t3 .given
 
   same-length-22 : texts-lts.Need-same-length-22 K (at t) texts.Post
   same-length-22 c =
       let c6 = c .before .before .before .before .before .before in
-      let c40 = c6 .before .before .before .before .before .before .before .before .before .before .before .before .before .before .before .before .before .before .before .before .before .before .before .before .before .before .before .before .before .before .before .before .before .before in
+      let c40 = c6 .before .before .before .before .before .before .before .before .before .before .before .before .before .before .before .before
+      .before .before .before .before .before .before .before .before .before .before .before .before .before .before .before .before .before
+      .before in
       c6 .out3 .given ∙ c40 .out2 .given
 
   same-length-23 : texts-lts.Need-same-length-23 K (at t) texts.Post
   same-length-23 c =
       let c4 = c .before .before .before .before in
-      let c21 = c4 .before .before .before .before .before .before .before .before .before .before .before .before .before .before .before .before .before in
-      let c38 = c21 .before .before .before .before .before .before .before .before .before .before .before .before .before .before .before .before .before in
-      let c58 = c38 .before .before .before .before .before .before .before .before .before .before .before .before .before .before .before .before .before .before .before .before in
+      let c21 = c4 .before .before .before .before .before .before .before .before .before .before .before .before .before .before .before .before
+      .before in
+      let c38 = c21 .before .before .before .before .before .before .before .before .before .before .before .before .before .before .before .before
+      .before in
+      let c58 = c38 .before .before .before .before .before .before .before .before .before .before .before .before .before .before .before .before
+      .before .before .before .before in
       c4 .w5 .given ∙ c21 .w4 .given ∙ c38 .w3 .given ∙ c58 .w2 .given
 
   same-length-24 : texts-lts.Need-same-length-24 K (at t) texts.Post
   same-length-24 c =
       let c2 = c .before .before in
-      let c36 = c2 .before .before .before .before .before .before .before .before .before .before .before .before .before .before .before .before .before .before .before .before .before .before .before .before .before .before .before .before .before .before .before .before .before .before in
+      let c36 = c2 .before .before .before .before .before .before .before .before .before .before .before .before .before .before .before .before
+      .before .before .before .before .before .before .before .before .before .before .before .before .before .before .before .before .before
+      .before in
       c2 .c3 .given ∙ c36 .c2 .given
 
   returns-4 : texts-lts.Need-returns-4 K (at t) texts.Post
@@ -352,12 +394,28 @@ module _ (t : ℕ) where
       let c61 = c59 .before .before in
       let c62 = c61 .before in
       let c67 = c62 .before .before .before .before .before in
-      let a = c67 .args in let l = c44 .texts .last .1 .1 .1 .1 .1 .1 .1 .1 .1 .1 .1 in let q = c10 .texts2 .last .1 .1 .1 .1 .1 .1 .1 .1 .1 .1 .1 in let z = inside-option (a .d) (a .f .inside || (a .g .inside || false)) (sym (c62 .at-edges .ensures) ∙ c61 .if1 .left) in
-      texts-done (a .k) (a .d) (a .i) (a .at) (a .m) (feedOf (a .f) (a .b1) (a .o1 .now) (a .x .now) (a .t1 .now)) (feedOf (a .g) (a .b2) (a .o2 .now) (a .y .now) (a .t2 .now)) (a .c .now) (a .t .now) (a .out .now) (a .w .now) (penOf (a .pen))
-      (a .d - 1) (one-down (a .d) z) (sym (c62 .at-edges .ensures) ∙ c61 .if1 .left) (feedOf (c55 .first-half .result) (a .b1) (a .o1 .now) (a .x .now) (a .t1 .now)) (feedOf (c53 .first-half2 .result) (a .b2) (a .o2 .now) (a .y .now) (a .t2 .now)) (record { bytes = c59 .push .last .0; count = c59 .push .result }) (c44 .texts .result) (tapeOf (c44 .texts .result .first) (l .0) (a .x .now) (l .1 .1 .0)) (tapeOf (c44 .texts .result .second) (l .1 .0) (a .y .now) (l .1 .1 .1 .0)) (l .1 .1 .1 .1 .0) (l .1 .1 .1 .1 .1 .0) (l .1 .1 .1 .1 .1 .1 .0) (l .1 .1 .1 .1 .1 .1 .1 .0)
-      (c55 .first-half .ensures (a .k .n) (opensIn (a .o1 .now) (a .b1 .cursor .depth)) (a .x .now)) (c53 .first-half2 .ensures (a .k .n) (opensIn (a .o2 .now) (a .b2 .cursor .depth)) (a .y .now)) (c59 .push .ensures) (c44 .texts .ensures)
-      (1 * 2 ^ (a .d - 1) % 18446744073709551616) (shifted (a .d - 1) (omega (arith, c67 .pre))) (c35 .is-halted .result) (c35 .is-halted .ensures) (c34 .if2 .left)
-      (omega (arith, c32 .if3 .left)) (begunIn (c29 .first-on .result) (c29 .first-on .last .1 .1 .1 .1 .0) (a .x .now) (c29 .first-on .last .1 .1 .1 .0)) (begunIn (c25 .second-on .result) (c25 .second-on .last .1 .1 .1 .1 .0) (a .y .now) (c25 .second-on .last .1 .1 .1 .0)) (gapIn (c22 .cross .result) (c22 .cross .last .1 .1 .1 .1 .1 .0)) (c10 .texts2 .result) (tapeOf (c10 .texts2 .result .first) (q .0) (a .x .now) (q .1 .1 .0)) (tapeOf (c10 .texts2 .result .second) (q .1 .0) (a .y .now) (q .1 .1 .1 .0)) (q .1 .1 .1 .1 .0) (q .1 .1 .1 .1 .1 .0) (q .1 .1 .1 .1 .1 .1 .0) (q .1 .1 .1 .1 .1 .1 .1 .0)
+      let a = c67 .args in let l = c44 .texts .last .1 .1 .1 .1 .1 .1 .1 .1 .1 .1 .1 in let q = c10 .texts2 .last .1 .1 .1 .1 .1 .1 .1 .1 .1 .1 .1 in
+      let z = inside-option (a .d) (a .f .inside || (a .g .inside || false)) (sym (c62 .at-edges .ensures) ∙ c61 .if1 .left) in
+      texts-done (a .k) (a .d) (a .i) (a .at) (a .m) (operandOf (a .f) (a .b1) (a .o1 .now) (a .x .now) (a .t1 .now))
+      (operandOf (a .g) (a .b2) (a .o2 .now) (a .y .now) (a .t2 .now)) (a .c .now) (a .t .now) (a .out .now) (a .w .now)
+      (progressOf (a .progress))
+      (a .d - 1) (one-down (a .d) z) (sym (c62 .at-edges .ensures) ∙ c61 .if1 .left)
+      (operandOf (c55 .first-half .result) (a .b1) (a .o1 .now) (a .x .now) (a .t1 .now))
+      (operandOf (c53 .first-half2 .result) (a .b2) (a .o2 .now) (a .y .now) (a .t2 .now))
+      (record { bytes = c59 .push .last .0; count = c59 .push .result }) (c44 .texts .result)
+      (readerOf (c44 .texts .result .first) (l .0) (a .x .now) (l .1 .1 .0))
+      (readerOf (c44 .texts .result .second) (l .1 .0) (a .y .now) (l .1 .1 .1 .0)) (l .1 .1 .1 .1 .0) (l .1 .1 .1 .1 .1 .0)
+      (l .1 .1 .1 .1 .1 .1 .0) (l .1 .1 .1 .1 .1 .1 .1 .0)
+      (c55 .first-half .ensures (a .k .n) (opensIn (a .o1 .now) (a .b1 .cursor .depth)) (a .x .now))
+      (c53 .first-half2 .ensures (a .k .n) (opensIn (a .o2 .now) (a .b2 .cursor .depth)) (a .y .now)) (c59 .push .ensures) (c44 .texts .ensures)
+      (1 * 2 ^ (a .d - 1) % 18446744073709551616) (shifted (a .d - 1) (omega (arith, c67 .pre))) (c35 .is-halted .result) (c35 .is-halted .ensures)
+      (c34 .if2 .left)
+      (omega (arith, c32 .if3 .left)) (begunIn (c29 .first-on .result) (c29 .first-on .last .1 .1 .1 .1 .0) (a .x .now)
+      (c29 .first-on .last .1 .1 .1 .0)) (begunIn (c25 .second-on .result) (c25 .second-on .last .1 .1 .1 .1 .0) (a .y .now)
+      (c25 .second-on .last .1 .1 .1 .0)) (gapIn (c22 .cross .result) (c22 .cross .last .1 .1 .1 .1 .1 .0)) (c10 .texts2 .result)
+      (readerOf (c10 .texts2 .result .first) (q .0) (a .x .now) (q .1 .1 .0))
+      (readerOf (c10 .texts2 .result .second) (q .1 .0) (a .y .now) (q .1 .1 .1 .0)) (q .1 .1 .1 .1 .0) (q .1 .1 .1 .1 .1 .0)
+      (q .1 .1 .1 .1 .1 .1 .0) (q .1 .1 .1 .1 .1 .1 .1 .0)
       (c29 .first-on .ensures) (c25 .second-on .ensures) (c22 .cross .ensures) (c10 .texts2 .ensures)
       (c1 .is-halted2 .result) (c1 .is-halted2 .ensures) (c .if4 .taken)
 
@@ -372,45 +430,58 @@ module _ (t : ℕ) where
 
   same-length-25 : texts-lts.Need-same-length-25 K (at t) texts.Post
   same-length-25 c =
-      let c21 = c .before .before .before .before .before .before .before .before .before .before .before .before .before .before .before .before .before .before .before .before .before in
-      let c40 = c21 .before .before .before .before .before .before .before .before .before .before .before .before .before .before .before .before .before .before .before in
+      let c21 = c .before .before .before .before .before .before .before .before .before .before .before .before .before .before .before .before
+      .before .before .before .before .before in
+      let c40 = c21 .before .before .before .before .before .before .before .before .before .before .before .before .before .before .before .before
+      .before .before .before in
       let c55 = c40 .before .before .before .before .before .before .before .before .before .before .before .before .before .before .before in
       c21 .t13 .given ∙ c40 .t12 .given ∙ c55 .t1 .given
 
   same-length-26 : texts-lts.Need-same-length-26 K (at t) texts.Post
   same-length-26 c =
-      let c20 = c .before .before .before .before .before .before .before .before .before .before .before .before .before .before .before .before .before .before .before .before in
+      let c20 = c .before .before .before .before .before .before .before .before .before .before .before .before .before .before .before .before
+      .before .before .before .before in
       let c36 = c20 .before .before .before .before .before .before .before .before .before .before .before .before .before .before .before .before in
-      let c54 = c36 .before .before .before .before .before .before .before .before .before .before .before .before .before .before .before .before .before .before in
+      let c54 = c36 .before .before .before .before .before .before .before .before .before .before .before .before .before .before .before .before
+      .before .before in
       c20 .t23 .given ∙ c36 .t22 .given ∙ c54 .t2 .given
 
   same-length-27 : texts-lts.Need-same-length-27 K (at t) texts.Post
   same-length-27 c =
       let c5 = c .before .before .before .before .before in
       let c19 = c5 .before .before .before .before .before .before .before .before .before .before .before .before .before .before in
-      let c53 = c19 .before .before .before .before .before .before .before .before .before .before .before .before .before .before .before .before .before .before .before .before .before .before .before .before .before .before .before .before .before .before .before .before .before .before in
+      let c53 = c19 .before .before .before .before .before .before .before .before .before .before .before .before .before .before .before .before
+      .before .before .before .before .before .before .before .before .before .before .before .before .before .before .before .before .before
+      .before in
       c5 .t5 .given ∙ c19 .t4 .given ∙ c53 .t3 .given
 
   same-length-28 : texts-lts.Need-same-length-28 K (at t) texts.Post
   same-length-28 c =
       let c4 = c .before .before .before .before in
       let c18 = c4 .before .before .before .before .before .before .before .before .before .before .before .before .before .before in
-      let c52 = c18 .before .before .before .before .before .before .before .before .before .before .before .before .before .before .before .before .before .before .before .before .before .before .before .before .before .before .before .before .before .before .before .before .before .before in
+      let c52 = c18 .before .before .before .before .before .before .before .before .before .before .before .before .before .before .before .before
+      .before .before .before .before .before .before .before .before .before .before .before .before .before .before .before .before .before
+      .before in
       c4 .out4 .given ∙ c18 .out3 .given ∙ c52 .out2 .given
 
   same-length-29 : texts-lts.Need-same-length-29 K (at t) texts.Post
   same-length-29 c =
       let c2 = c .before .before in
       let c16 = c2 .before .before .before .before .before .before .before .before .before .before .before .before .before .before in
-      let c33 = c16 .before .before .before .before .before .before .before .before .before .before .before .before .before .before .before .before .before in
-      let c50 = c33 .before .before .before .before .before .before .before .before .before .before .before .before .before .before .before .before .before in
-      let c70 = c50 .before .before .before .before .before .before .before .before .before .before .before .before .before .before .before .before .before .before .before .before in
+      let c33 = c16 .before .before .before .before .before .before .before .before .before .before .before .before .before .before .before .before
+      .before in
+      let c50 = c33 .before .before .before .before .before .before .before .before .before .before .before .before .before .before .before .before
+      .before in
+      let c70 = c50 .before .before .before .before .before .before .before .before .before .before .before .before .before .before .before .before
+      .before .before .before .before in
       c2 .w6 .given ∙ c16 .w5 .given ∙ c33 .w4 .given ∙ c50 .w3 .given ∙ c70 .w2 .given
 
   same-length-30 : texts-lts.Need-same-length-30 K (at t) texts.Post
   same-length-30 c =
       let c14 = c .before .before .before .before .before .before .before .before .before .before .before .before .before .before in
-      let c48 = c14 .before .before .before .before .before .before .before .before .before .before .before .before .before .before .before .before .before .before .before .before .before .before .before .before .before .before .before .before .before .before .before .before .before .before in
+      let c48 = c14 .before .before .before .before .before .before .before .before .before .before .before .before .before .before .before .before
+      .before .before .before .before .before .before .before .before .before .before .before .before .before .before .before .before .before
+      .before in
       c14 .c3 .given ∙ c48 .c2 .given
 
   returns-5 : texts-lts.Need-returns-5 K (at t) texts.Post
@@ -433,14 +504,32 @@ module _ (t : ℕ) where
       let c73 = c71 .before .before in
       let c74 = c73 .before in
       let c79 = c74 .before .before .before .before .before in
-      let a = c79 .args in let l = c56 .texts .last .1 .1 .1 .1 .1 .1 .1 .1 .1 .1 .1 in let q = c22 .texts2 .last .1 .1 .1 .1 .1 .1 .1 .1 .1 .1 .1 in let z = inside-option (a .d) (a .f .inside || (a .g .inside || false)) (sym (c74 .at-edges .ensures) ∙ c73 .if1 .left) in
-      rw (c .met .ensures) (texts-on (a .k) (a .d) (a .i) (a .at) (a .m) (feedOf (a .f) (a .b1) (a .o1 .now) (a .x .now) (a .t1 .now)) (feedOf (a .g) (a .b2) (a .o2 .now) (a .y .now) (a .t2 .now)) (a .c .now) (a .t .now) (a .out .now) (a .w .now) (penOf (a .pen))
-      (a .d - 1) (one-down (a .d) z) (sym (c74 .at-edges .ensures) ∙ c73 .if1 .left) (feedOf (c67 .first-half .result) (a .b1) (a .o1 .now) (a .x .now) (a .t1 .now)) (feedOf (c65 .first-half2 .result) (a .b2) (a .o2 .now) (a .y .now) (a .t2 .now)) (record { bytes = c71 .push .last .0; count = c71 .push .result }) (c56 .texts .result) (tapeOf (c56 .texts .result .first) (l .0) (a .x .now) (l .1 .1 .0)) (tapeOf (c56 .texts .result .second) (l .1 .0) (a .y .now) (l .1 .1 .1 .0)) (l .1 .1 .1 .1 .0) (l .1 .1 .1 .1 .1 .0) (l .1 .1 .1 .1 .1 .1 .0) (l .1 .1 .1 .1 .1 .1 .1 .0)
-      (c67 .first-half .ensures (a .k .n) (opensIn (a .o1 .now) (a .b1 .cursor .depth)) (a .x .now)) (c65 .first-half2 .ensures (a .k .n) (opensIn (a .o2 .now) (a .b2 .cursor .depth)) (a .y .now)) (c71 .push .ensures) (c56 .texts .ensures)
-      (1 * 2 ^ (a .d - 1) % 18446744073709551616) (shifted (a .d - 1) (omega (arith, c79 .pre))) (c47 .is-halted .result) (c47 .is-halted .ensures) (c46 .if2 .left)
-      (omega (arith, c44 .if3 .left)) (begunIn (c41 .first-on .result) (c41 .first-on .last .1 .1 .1 .1 .0) (a .x .now) (c41 .first-on .last .1 .1 .1 .0)) (begunIn (c37 .second-on .result) (c37 .second-on .last .1 .1 .1 .1 .0) (a .y .now) (c37 .second-on .last .1 .1 .1 .0)) (gapIn (c34 .cross .result) (c34 .cross .last .1 .1 .1 .1 .1 .0)) (c22 .texts2 .result) (tapeOf (c22 .texts2 .result .first) (q .0) (a .x .now) (q .1 .1 .0)) (tapeOf (c22 .texts2 .result .second) (q .1 .0) (a .y .now) (q .1 .1 .1 .0)) (q .1 .1 .1 .1 .0) (q .1 .1 .1 .1 .1 .0) (q .1 .1 .1 .1 .1 .1 .0) (q .1 .1 .1 .1 .1 .1 .1 .0)
+      let a = c79 .args in let l = c56 .texts .last .1 .1 .1 .1 .1 .1 .1 .1 .1 .1 .1 in let q = c22 .texts2 .last .1 .1 .1 .1 .1 .1 .1 .1 .1 .1 .1 in
+      let z = inside-option (a .d) (a .f .inside || (a .g .inside || false)) (sym (c74 .at-edges .ensures) ∙ c73 .if1 .left) in
+      rw (c .met .ensures) (texts-on (a .k) (a .d) (a .i) (a .at) (a .m) (operandOf (a .f) (a .b1) (a .o1 .now) (a .x .now) (a .t1 .now))
+      (operandOf (a .g) (a .b2) (a .o2 .now) (a .y .now) (a .t2 .now)) (a .c .now) (a .t .now) (a .out .now) (a .w .now)
+      (progressOf (a .progress))
+      (a .d - 1) (one-down (a .d) z) (sym (c74 .at-edges .ensures) ∙ c73 .if1 .left)
+      (operandOf (c67 .first-half .result) (a .b1) (a .o1 .now) (a .x .now) (a .t1 .now))
+      (operandOf (c65 .first-half2 .result) (a .b2) (a .o2 .now) (a .y .now) (a .t2 .now))
+      (record { bytes = c71 .push .last .0; count = c71 .push .result }) (c56 .texts .result)
+      (readerOf (c56 .texts .result .first) (l .0) (a .x .now) (l .1 .1 .0))
+      (readerOf (c56 .texts .result .second) (l .1 .0) (a .y .now) (l .1 .1 .1 .0)) (l .1 .1 .1 .1 .0) (l .1 .1 .1 .1 .1 .0)
+      (l .1 .1 .1 .1 .1 .1 .0) (l .1 .1 .1 .1 .1 .1 .1 .0)
+      (c67 .first-half .ensures (a .k .n) (opensIn (a .o1 .now) (a .b1 .cursor .depth)) (a .x .now))
+      (c65 .first-half2 .ensures (a .k .n) (opensIn (a .o2 .now) (a .b2 .cursor .depth)) (a .y .now)) (c71 .push .ensures) (c56 .texts .ensures)
+      (1 * 2 ^ (a .d - 1) % 18446744073709551616) (shifted (a .d - 1) (omega (arith, c79 .pre))) (c47 .is-halted .result) (c47 .is-halted .ensures)
+      (c46 .if2 .left)
+      (omega (arith, c44 .if3 .left)) (begunIn (c41 .first-on .result) (c41 .first-on .last .1 .1 .1 .1 .0) (a .x .now)
+      (c41 .first-on .last .1 .1 .1 .0)) (begunIn (c37 .second-on .result) (c37 .second-on .last .1 .1 .1 .1 .0) (a .y .now)
+      (c37 .second-on .last .1 .1 .1 .0)) (gapIn (c34 .cross .result) (c34 .cross .last .1 .1 .1 .1 .1 .0)) (c22 .texts2 .result)
+      (readerOf (c22 .texts2 .result .first) (q .0) (a .x .now) (q .1 .1 .0))
+      (readerOf (c22 .texts2 .result .second) (q .1 .0) (a .y .now) (q .1 .1 .1 .0)) (q .1 .1 .1 .1 .0) (q .1 .1 .1 .1 .1 .0)
+      (q .1 .1 .1 .1 .1 .1 .0) (q .1 .1 .1 .1 .1 .1 .1 .0)
       (c41 .first-on .ensures) (c37 .second-on .ensures) (c34 .cross .ensures) (c22 .texts2 .ensures)
-      (c13 .is-halted2 .result) (c13 .is-halted2 .ensures) (c12 .if4 .left) (c10 .walked-of .result) (c6 .second .result) (c6 .second .last .1 .1 .1 .1 .1 .1 .0) (c6 .second .last .1 .1 .1 .1 .1 .1 .1 .0) (c6 .second .last .1 .1 .1 .1 .1 .1 .1 .1 .0) (c10 .walked-of .ensures) (c6 .second .ensures))
+      (c13 .is-halted2 .result) (c13 .is-halted2 .ensures) (c12 .if4 .left) (c10 .walked-of .result) (c6 .second .result)
+      (c6 .second .last .1 .1 .1 .1 .1 .1 .0) (c6 .second .last .1 .1 .1 .1 .1 .1 .1 .0) (c6 .second .last .1 .1 .1 .1 .1 .1 .1 .1 .0)
+      (c10 .walked-of .ensures) (c6 .second .ensures))
 
 pub +texts-spec : {M : Type 1} → statement M
 +texts-spec = close μ λ t. texts-lts.spec (K t) (at t) texts.Post

@@ -12,7 +12,8 @@ second-of-requires : tie.Need-second-of-requires
 second-of-requires c κs = tt
 
 returns : tie.Need-returns
-returns c = ap₂ (λ (p q : Block). record { walked = c .before .before .args .x; first = p; second = q; ended = false }) (c .before .first-of .ensures) (c .second-of .ensures)
+returns c = ap₂ (λ (p q : Block). record { walked = c .before .before .args .x; first = p; second = q; ended = false }) (c .before .first-of .ensures)
+    (c .second-of .ensures)
 
 pub met-spec : {M : Type 1} → statement M
 met-spec = tie.close (tie.spec first-of-requires second-of-requires returns)

@@ -3,13 +3,13 @@ use mathlib.Core.Path.{_∙_}
 use mathlib.Core.List.{[], _∷_}
 use Prim.Native.Nat.{_≤_}
 use native.Mathlib.Omega.{arith}
-use Rattle.reading.specs.Limits.{optionLimit}
-use Rattle.reading.specs.Bytes.{lineFeed}
-use Rattle.writing.specs.Texts.{decimal}
-use Rattle.engine.specs.PendingMade.{push-then}
-use Rattle.feeds.specs.Cite.{begunIn}
-use Rattle.text_walk.specs.Cite.{sentOf}
-use Rattle.text_walk.specs.TextsMade.{stream-past, stream-head, stream-body}
+use Rattle.theory_reading.specs.Limits.{optionLimit}
+use Rattle.theory_reading.specs.Bytes.{lineFeed}
+use Rattle.theory_writing.specs.Texts.{decimal}
+use Rattle.theory_engine.specs.PendingCorrect.{push-then}
+use Rattle.operands.specs.Abstraction.{begunIn}
+use Rattle.text_walk.specs.Abstraction.{sentOf}
+use Rattle.text_walk.specs.TextsCorrect.{stream-past, stream-head, stream-body}
 use borrow.Author.Needs.{needs}
 use Rattle.text_walk.proofs.stream.Statement.{statement}
 use Rattle.text_walk.proofs.stream.Tie as tie
@@ -18,7 +18,8 @@ returns : tie.Need-returns
 returns c =
     let c6 = c .before .before .before .before .before .before in
     let a = c6 .args in
-    stream-past (a .k) (begunIn (a .f) (a .o1 .now) (a .x .now) (a .t1 .now) ∷ begunIn (a .g) (a .o2 .now) (a .y .now) (a .t2 .now) ∷ []) (a .c .now) (a .t .now) (a .out .now) (a .w .now) (c .if1 .taken)
+    stream-past (a .k) (begunIn (a .f) (a .o1 .now) (a .x .now) (a .t1 .now) ∷ begunIn (a .g) (a .o2 .now) (a .y .now) (a .t2 .now) ∷ []) (a .c .now)
+    (a .t .now) (a .out .now) (a .w .now) (c .if1 .taken)
 
 push-number-requires : tie.Need-push-number-requires
 push-number-requires c κs = tt
@@ -47,13 +48,16 @@ returns-2 c =
     let c17 = c15 .before .before in
     let c23 = c17 .before .before .before .before .before .before in
     let a = c23 .args in
-    stream-head (a .k) (begunIn (a .f) (a .o1 .now) (a .x .now) (a .t1 .now) ∷ begunIn (a .g) (a .o2 .now) (a .y .now) (a .t2 .now) ∷ []) (a .c .now) (a .t .now) (a .out .now) (a .w .now) (omega (arith, c17 .if1 .left))
+    stream-head (a .k) (begunIn (a .f) (a .o1 .now) (a .x .now) (a .t1 .now) ∷ begunIn (a .g) (a .o2 .now) (a .y .now) (a .t2 .now) ∷ []) (a .c .now)
+    (a .t .now) (a .out .now) (a .w .now) (omega (arith, c17 .if1 .left))
     (record { bytes = c11 .push .last .0; count = c11 .push .result }) (sentOf (c6 .send .result) (c6 .send .last .0) (c6 .send .last .1 .0))
-    (push-then (a .w .now) 0 (decimal (a .k .size)) (lineFeed ∷ []) (c15 .push-number .ensures) (c11 .push .ensures)) (c6 .send .ensures) (c1 .is-over .result) (c1 .is-over .ensures) (c .if2 .taken)
+    (push-then (a .w .now) 0 (decimal (a .k .size)) (lineFeed ∷ []) (c15 .push-number .ensures) (c11 .push .ensures)) (c6 .send .ensures)
+    (c1 .is-over .result) (c1 .is-over .ensures) (c .if2 .taken)
 
 nodes-requires : tie.Need-nodes-requires
 nodes-requires c κs =
-    let c25 = c .before .before .before .before .before .before .before .before .before .before .before .before .before .before .before .before .before .before .before .before .before .before .before .before .before in
+    let c25 = c .before .before .before .before .before .before .before .before .before .before .before .before .before .before .before .before
+    .before .before .before .before .before .before .before .before .before in
     let c31 = c25 .before .before .before .before .before .before in
     let h : c31 .args .k .n ≤ optionLimit = omega (arith, c25 .if1 .left) in h
 
@@ -72,7 +76,8 @@ same-length-6 c = search needs
 same-length-7 : tie.Need-same-length-7
 same-length-7 c =
     let c2 = c .before .before in
-    let c20 = c2 .before .before .before .before .before .before .before .before .before .before .before .before .before .before .before .before .before .before in
+    let c20 = c2 .before .before .before .before .before .before .before .before .before .before .before .before .before .before .before .before
+    .before .before in
     let c27 = c20 .before .before .before .before .before .before .before in
     let c31 = c27 .before .before .before .before in
     c2 .w4 .given ∙ c20 .w3 .given ∙ c27 .w2 .given ∙ c31 .w .given
@@ -91,10 +96,14 @@ returns-3 c =
     let c34 = c32 .before .before in
     let c40 = c34 .before .before .before .before .before .before in
     let a = c40 .args in
-    stream-body (a .k) (begunIn (a .f) (a .o1 .now) (a .x .now) (a .t1 .now) ∷ begunIn (a .g) (a .o2 .now) (a .y .now) (a .t2 .now) ∷ []) (a .c .now) (a .t .now) (a .out .now) (a .w .now) (omega (arith, c34 .if1 .left))
+    stream-body (a .k) (begunIn (a .f) (a .o1 .now) (a .x .now) (a .t1 .now) ∷ begunIn (a .g) (a .o2 .now) (a .y .now) (a .t2 .now) ∷ []) (a .c .now)
+    (a .t .now) (a .out .now) (a .w .now) (omega (arith, c34 .if1 .left))
     (record { bytes = c28 .push .last .0; count = c28 .push .result }) (sentOf (c23 .send .result) (c23 .send .last .0) (c23 .send .last .1 .0))
-    (push-then (a .w .now) 0 (decimal (a .k .size)) (lineFeed ∷ []) (c32 .push-number .ensures) (c28 .push .ensures)) (c23 .send .ensures) (c18 .is-over .result) (c18 .is-over .ensures) (c17 .if2 .left)
-    (sentOf (c8 .nodes .result) (c8 .nodes .last .1 .1 .1 .1 .1 .1 .1 .1 .1 .1 .0) (c8 .nodes .last .1 .1 .1 .1 .1 .1 .1 .1 .1 .1 .1 .0)) (c8 .nodes .ensures)
+    (push-then (a .w .now) 0 (decimal (a .k .size)) (lineFeed ∷ []) (c32 .push-number .ensures) (c28 .push .ensures)) (c23 .send .ensures)
+    (c18 .is-over .result) (c18 .is-over .ensures) (c17 .if2 .left)
+    (sentOf (c8 .nodes .result) (c8 .nodes .last .1 .1 .1 .1 .1 .1 .1 .1 .1 .1 .0) (c8 .nodes .last .1 .1 .1 .1 .1 .1 .1 .1 .1 .1 .1 .0))
+    (c8 .nodes .ensures)
 
 pub stream-spec : {M : Type 1} → statement M
-stream-spec = tie.close (tie.spec returns push-number-requires push-requires send-requires is-over-requires same-length same-length-2 returns-2 nodes-requires same-length-3 same-length-4 same-length-5 same-length-6 same-length-7 same-length-8 returns-3)
+stream-spec = tie.close (tie.spec returns push-number-requires push-requires send-requires is-over-requires same-length same-length-2 returns-2
+    nodes-requires same-length-3 same-length-4 same-length-5 same-length-6 same-length-7 same-length-8 returns-3)

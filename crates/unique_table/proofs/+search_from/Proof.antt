@@ -12,8 +12,8 @@ use Rattle.unique_table.proofs.get.Reads as get
 use Rattle.unique_table.proofs.+search_from.{statement}
 use Rattle.unique_table.proofs.+search_from.Tie.{close}
 use mathlib.Core.Path.{sym, ap, _∙_}
-use Rattle.engine.specs.Recycling.{searchIn}
-use Rattle.engine.specs.RecyclingMade.{search-none, search-end, search-hit, search-on}
+use Rattle.theory_engine.specs.Recycling.{searchIn}
+use Rattle.theory_engine.specs.RecyclingCorrect.{search-none, search-end, search-hit, search-on}
 
 abbrev μ : Measures 1 walk-kinds.ps ℕ
 μ κs a = a .1 .0

@@ -6,8 +6,8 @@ use Rattle.unique_table.proofs.adopt.Tie as tie
 use mathlib.Core.Path.{refl, sym, ap, _∙_}
 use mathlib.Core.List.{List}
 use Prim.Native.Nat.{ℕ}
-use Rattle.engine.specs.Recycling.{lane, leaveIn, moreIn}
-use Rattle.engine.specs.RecyclingMade.{adopt-none, adopt-kept, adopt-leaves}
+use Rattle.theory_engine.specs.Recycling.{lane, unlinkIn, moreIn}
+use Rattle.theory_engine.specs.RecyclingCorrect.{adopt-none, adopt-kept, adopt-leaves}
 
 get-requires : tie.Need-get-requires
 get-requires c κs = search needs
@@ -20,7 +20,8 @@ same-length c = search needs
 
 returns : tie.Need-returns
 returns c = let a = c .before .before .before .before .before .before .args in
-    ap (λ (u : List (List ℕ)). lane u (a .e .first) (a .e .last)) (c .before .before .more-parents .ensures ∙ ap (λ (u : List (List ℕ)). moreIn u (a .c)) (refl))
+    ap (λ (u : List (List ℕ)). lane u (a .e .first) (a .e .last)) (c .before .before .more-parents .ensures
+    ∙ ap (λ (u : List (List ℕ)). moreIn u (a .c)) (refl))
     ∙ adopt-none (a .t .now) (a .e .first) (a .e .last) (a .c) (c .if1 .taken)
 
 same-length-2 : tie.Need-same-length-2
@@ -28,19 +29,23 @@ same-length-2 c = search needs
 
 returns-2 : tie.Need-returns-2
 returns-2 c = let a = c .before .before .before .before .before .before .before .args in
-    ap (λ (u : List (List ℕ)). lane u (a .e .first) (a .e .last)) (c .before .before .before .more-parents .ensures ∙ ap (λ (u : List (List ℕ)). moreIn u (a .c)) (refl))
-    ∙ adopt-kept (a .t .now) (a .e .first) (a .e .last) (a .c) (c .before .if1 .left) (λ e. c .if2 .taken (c .before .before .before .before .before .get .ensures ∙ e))
+    ap (λ (u : List (List ℕ)). lane u (a .e .first) (a .e .last)) (c .before .before .before .more-parents .ensures
+    ∙ ap (λ (u : List (List ℕ)). moreIn u (a .c)) (refl))
+    ∙ adopt-kept (a .t .now) (a .e .first) (a .e .last) (a .c) (c .before .if1 .left)
+    (λ e. c .if2 .taken (c .before .before .before .before .before .get .ensures ∙ e))
 
-leave-requires : tie.Need-leave-requires
-leave-requires c κs = search needs
+unlink-requires : tie.Need-unlink-requires
+unlink-requires c κs = search needs
 
 same-length-3 : tie.Need-same-length-3
 same-length-3 c = search needs
 
 returns-3 : tie.Need-returns-3
 returns-3 c = let a = c .before .before .before .before .before .before .before .before .before .before .args in
-    c .before .leave .ensures ∙ ap (λ (u : List (List ℕ)). leaveIn u 6 (a .e .first) (a .e .last) (a .c)) (c .before .before .before .before .before .before .more-parents .ensures ∙ ap (λ (u : List (List ℕ)). moreIn u (a .c)) (refl))
-    ∙ adopt-leaves (a .t .now) (a .e .first) (a .e .last) (a .c) (c .before .before .before .before .if1 .left) (sym (c .before .before .before .before .before .before .before .before .get .ensures) ∙ c .before .before .before .if2 .left)
+    c .before .unlink .ensures ∙ ap (λ (u : List (List ℕ)). unlinkIn u 6 (a .e .first) (a .e .last) (a .c))
+    (c .before .before .before .before .before .before .more-parents .ensures ∙ ap (λ (u : List (List ℕ)). moreIn u (a .c)) (refl))
+    ∙ adopt-leaves (a .t .now) (a .e .first) (a .e .last) (a .c) (c .before .before .before .before .if1 .left)
+    (sym (c .before .before .before .before .before .before .before .before .get .ensures) ∙ c .before .before .before .if2 .left)
 
 pub adopt-spec : {M : Type 1} → statement M
 adopt-spec =
@@ -52,6 +57,6 @@ adopt-spec =
     returns
     same-length-2
     returns-2
-    leave-requires
+    unlink-requires
     same-length-3
     returns-3)

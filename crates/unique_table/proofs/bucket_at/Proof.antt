@@ -21,7 +21,14 @@ bucket-requires : tie.Need-bucket-requires
 bucket-requires c κs = search needs
 
 returns : tie.Need-returns
-returns c = rw (c .bucket .ensures, c .before .get4 .ensures, c .before .before .get3 .ensures, c .before .before .before .get2 .ensures, c .before .before .before .before .get .ensures) refl
+returns c = rw (
+  c .bucket .ensures,
+  c .before .get4 .ensures,
+  c .before .before .get3 .ensures,
+  c .before .before .before .get2 .ensures,
+  c .before
+      .before .before .before .get .ensures,
+) refl
 
 pub bucket-at-spec : {M : Type 1} → statement M
 bucket-at-spec =

@@ -5,7 +5,7 @@ use mathlib.Core.List.{List}
 use Prim.Native.Nat.{ℕ, _-_, _≤_, _<_}
 use native.Mathlib.Omega.{arith}
 use lib.ListN.{length, take, replicate, length-set}
-use Rattle.engine.specs.Cells.{rows-more, rows-all}
+use Rattle.theory_engine.specs.Cells.{records-more, records-all}
 use borrow.Author.Needs.{needs}
 use Rattle.unique_table.proofs.clear.Statement.{statement}
 use Rattle.unique_table.proofs.clear.Tie as tie
@@ -36,7 +36,7 @@ loop-again c =
     let l = c .before .loop in
     let r : List ℕ = replicate 12 0 in
     let h : l .i < length (l .t) = omega (arith, c .loop-test .taken) in
-    (omega (arith, h, l .inv .1), length-set (l .t) (l .i) r ∙ l .inv .1, rows-more (l .t) r (l .i) h (l .inv .2))
+    (omega (arith, h, l .inv .1), length-set (l .t) (l .i) r ∙ l .inv .1, records-more (l .t) r (l .i) h (l .inv .2))
 
 same-length : tie.Need-same-length Inv-loop μ-loop
 same-length c = search needs
@@ -46,7 +46,7 @@ returns c =
     let l = c .before .loop in
     let n = length (c .before .before .args .t .now) in
     let e : l .i ≡ n = omega (arith, c .loop-test .left, l .inv .0, l .inv .1) in
-    rows-all (l .t) (replicate 12 0) (l .i) n (omega (arith, c .loop-test .left)) e (l .inv .2)
+    records-all (l .t) (replicate 12 0) (l .i) n (omega (arith, c .loop-test .left)) e (l .inv .2)
 
 pub clear-spec : {M : Type 1} → statement M
 clear-spec =

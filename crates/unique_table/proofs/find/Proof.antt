@@ -4,7 +4,7 @@ use borrow.Author.Needs.{needs}
 use Rattle.unique_table.proofs.find.Statement.{statement}
 use Rattle.unique_table.proofs.find.Tie as tie
 use mathlib.Core.Path.{refl}
-use Rattle.engine.specs.Recycling.{findIn}
+use Rattle.theory_engine.specs.Recycling.{findIn}
 
 bucket-requires : tie.Need-bucket-requires
 bucket-requires c κs = search needs

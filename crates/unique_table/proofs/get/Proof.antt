@@ -4,11 +4,12 @@ use borrow.Author.Needs.{needs}
 use Rattle.unique_table.proofs.get.Statement.{statement}
 use Rattle.unique_table.proofs.get.Tie as tie
 use mathlib.Core.Path.{sym, ap, _∙_}
-use Rattle.engine.specs.Cells.{cell, cell-none, cell-past, cell-at}
+use Rattle.theory_engine.specs.Cells.{cell, cell-none, cell-past, cell-at}
 use native.Mathlib.Omega.{arith}
 
 returns : tie.Need-returns
-returns c = (sym (cell-none (c .before .args .t .now) (c .before .args .j)) ∙ ap (cell (c .before .args .t .now) (c .before .args .j)) (sym (c .if1 .taken)))
+returns c = (sym (cell-none (c .before .args .t .now) (c .before .args .j))
+    ∙ ap (cell (c .before .args .t .now) (c .before .args .j)) (sym (c .if1 .taken)))
 
 sub-p : tie.Need-sub-p
 sub-p c = search needs
@@ -17,7 +18,8 @@ cast-p : tie.Need-cast-p
 cast-p c = search needs
 
 returns-2 : tie.Need-returns-2
-returns-2 c = (sym (cell-past (c .before .before .args .t .now) (c .before .before .args .j) (c .before .before .args .k) (omega (arith, c .if2 .taken, c .before .if1 .left))))
+returns-2 c = (sym (cell-past (c .before .before .args .t .now) (c .before .before .args .j) (c .before .before .args .k)
+    (omega (arith, c .if2 .taken, c .before .if1 .left))))
 
 mul-result : tie.Need-mul-result
 mul-result c = search needs
@@ -32,7 +34,8 @@ index-2-result : tie.Need-index-2-result
 index-2-result c = search needs
 
 returns-3 : tie.Need-returns-3
-returns-3 c = (cell-at (c .before .before .before .args .t .now) (c .before .before .before .args .j) (c .before .before .before .args .k) (c .before .before .if1 .left))
+returns-3 c = (cell-at (c .before .before .before .args .t .now) (c .before .before .before .args .j) (c .before .before .before .args .k)
+    (c .before .before .if1 .left))
 
 pub get-spec : {M : Type 1} → statement M
 get-spec =

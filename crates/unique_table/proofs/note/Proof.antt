@@ -4,7 +4,7 @@ use borrow.Author.Needs.{needs}
 use Rattle.unique_table.proofs.note.Statement.{statement}
 use Rattle.unique_table.proofs.note.Tie as tie
 use mathlib.Core.Path.{refl}
-use Rattle.engine.specs.Recycling.{noteIn}
+use Rattle.theory_engine.specs.Recycling.{noteIn}
 
 get-requires : tie.Need-get-requires
 get-requires c κs = search needs
@@ -32,7 +32,19 @@ same-length c = search needs
 
 returns : tie.Need-returns
 unfolding noteIn
-returns c = rw (c .before .put5 .ensures, c .before .before .before .before .before .put4 .ensures, c .before .before .before .before .before .before .before .before .put3 .ensures, c .before .before .before .before .before .before .before .before .before .before .before .put2 .ensures, c .before .before .before .before .before .before .before .before .before .before .before .before .before .before .put .ensures, c .before .before .one-more .ensures, c .before .before .before .before .before .before .before .before .before .before .before .before .before .before .before .before .get .ensures) refl
+returns c = rw (
+  c .before .put5 .ensures,
+  c .before .before .before .before .before .put4 .ensures,
+  c .before .before .before .before .before .before
+      .before .before .put3 .ensures,
+  c .before .before .before .before .before .before .before .before .before .before .before .put2 .ensures,
+  c
+      .before .before .before .before .before .before .before .before .before .before .before .before .before .before .put .ensures,
+  c .before .before
+      .one-more .ensures,
+  c .before .before .before .before .before .before .before .before .before .before .before .before .before .before .before
+      .before .get .ensures,
+) refl
 
 pub note-spec : {M : Type 1} → statement M
 note-spec =

@@ -6,8 +6,8 @@ use Rattle.unique_table.proofs.orphans.Tie as tie
 use mathlib.Core.Path.{ap, _∙_}
 use mathlib.Core.List.{List}
 use Prim.Native.Nat.{ℕ}
-use Rattle.engine.specs.Recycling.{orphanIn, fewerIn}
-use Rattle.engine.specs.RecyclingMade.{orphans-same, orphans-other}
+use Rattle.theory_engine.specs.Recycling.{orphanIn, fewerIn}
+use Rattle.theory_engine.specs.RecyclingCorrect.{orphans-same, orphans-other}
 
 fewer-parents-requires : tie.Need-fewer-parents-requires
 fewer-parents-requires c κs = search needs
@@ -23,7 +23,9 @@ same-length c = search needs
 
 returns : tie.Need-returns
 returns c = let a = c .before .before .before .before .before .before .before .before .before .before .args in
-    let o = c .before .before .orphan .ensures ∙ ap (λ (u : List (List ℕ)). orphanIn u (a .e .first) (a .e .last) (a .x)) (c .before .before .before .before .before .fewer-parents2 .ensures ∙ ap (λ (u : List (List ℕ)). fewerIn u (a .y)) (c .before .before .before .before .before .before .before .before .fewer-parents .ensures)) in
+    let o = c .before .before .orphan .ensures ∙ ap (λ (u : List (List ℕ)). orphanIn u (a .e .first) (a .e .last) (a .x))
+    (c .before .before .before .before .before .fewer-parents2 .ensures
+    ∙ ap (λ (u : List (List ℕ)). fewerIn u (a .y)) (c .before .before .before .before .before .before .before .before .fewer-parents .ensures)) in
     orphans-same (a .t .now) (a .e .first) (a .e .last) (a .x) (a .y) _ o (c .if1 .taken)
 
 orphan-requires-2 : tie.Need-orphan-requires-2
@@ -34,7 +36,11 @@ same-length-2 c = search needs
 
 returns-2 : tie.Need-returns-2
 returns-2 c = let a = c .before .before .before .before .before .before .before .before .before .before .before .before .before .args in
-    let o = c .before .before .before .before .before .orphan .ensures ∙ ap (λ (u : List (List ℕ)). orphanIn u (a .e .first) (a .e .last) (a .x)) (c .before .before .before .before .before .before .before .before .fewer-parents2 .ensures ∙ ap (λ (u : List (List ℕ)). fewerIn u (a .y)) (c .before .before .before .before .before .before .before .before .before .before .before .fewer-parents .ensures)) in
+    let o = c .before .before .before .before .before .orphan .ensures
+    ∙ ap (λ (u : List (List ℕ)). orphanIn u (a .e .first) (a .e .last) (a .x))
+    (c .before .before .before .before .before .before .before .before .fewer-parents2 .ensures
+    ∙ ap (λ (u : List (List ℕ)). fewerIn u (a .y)) (c .before .before .before .before .before .before .before .before .before .before .before
+    .fewer-parents .ensures)) in
     c .before .orphan2 .ensures ∙ orphans-other (a .t .now) (a .e .first) (a .e .last) (a .x) (a .y) _ o (c .before .before .before .if1 .left)
 
 pub orphans-spec : {M : Type 1} → statement M

@@ -4,12 +4,13 @@ use borrow.Author.Needs.{needs}
 use Rattle.unique_table.proofs.put.Statement.{statement}
 use Rattle.unique_table.proofs.put.Tie as tie
 use mathlib.Core.Path.{sym, ap, _∙_}
-use Rattle.engine.specs.Cells.{putCell, put-none, put-past, put-at}
+use Rattle.theory_engine.specs.Cells.{putCell, put-none, put-past, put-at}
 use native.Mathlib.Omega.{arith}
 use Prim.Native.Nat.{ℕ}
 
 returns : tie.Need-returns
-returns c = sym (put-none (c .before .args .t .now) (c .before .args .j) (c .before .args .x)) ∙ ap (λ (i : ℕ). putCell (c .before .args .t .now) (c .before .args .j) i (c .before .args .x)) (sym (c .if1 .taken))
+returns c = sym (put-none (c .before .args .t .now) (c .before .args .j) (c .before .args .x))
+    ∙ ap (λ (i : ℕ). putCell (c .before .args .t .now) (c .before .args .j) i (c .before .args .x)) (sym (c .if1 .taken))
 
 sub-p : tie.Need-sub-p
 sub-p c = search needs
@@ -18,7 +19,8 @@ cast-p : tie.Need-cast-p
 cast-p c = search needs
 
 returns-2 : tie.Need-returns-2
-returns-2 c = sym (put-past (c .before .before .args .t .now) (c .before .before .args .j) (c .before .before .args .k) (c .before .before .args .x) (omega (arith, c .if2 .taken, c .before .if1 .left)))
+returns-2 c = sym (put-past (c .before .before .args .t .now) (c .before .before .args .j) (c .before .before .args .k) (c .before .before .args .x)
+    (omega (arith, c .if2 .taken, c .before .if1 .left)))
 
 mul-t : tie.Need-mul-t
 mul-t c = search needs
@@ -36,7 +38,8 @@ same-length : tie.Need-same-length
 same-length c = search needs
 
 returns-3 : tie.Need-returns-3
-returns-3 c = put-at (c .before .before .args .t .now) (c .before .before .args .j) (c .before .before .args .k) (c .before .before .args .x) (c .before .if1 .left)
+returns-3 c = put-at (c .before .before .args .t .now) (c .before .before .args .j) (c .before .before .args .k) (c .before .before .args .x)
+    (c .before .if1 .left)
 
 pub put-spec : {M : Type 1} → statement M
 put-spec =

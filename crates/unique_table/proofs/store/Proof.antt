@@ -4,7 +4,7 @@ use borrow.Author.Needs.{needs}
 use Rattle.unique_table.proofs.store.Statement.{statement}
 use Rattle.unique_table.proofs.store.Tie as tie
 use mathlib.Core.Path.{_∙_}
-use Rattle.engine.specs.RecyclingMade.{store-next, store-again}
+use Rattle.theory_engine.specs.RecyclingCorrect.{store-next, store-again}
 
 place-requires : tie.Need-place-requires
 place-requires c κs = search needs
@@ -14,7 +14,8 @@ same-length c = search needs
 
 returns : tie.Need-returns
 returns c = let a = c .before .before .before .before .args in
-    c .before .place .ensures ∙ store-next (a .t .now) (a .z) (a .e .first) (a .e .last) (a .k) (a .i) (a .a) (a .b) (a .c) (c .before .before .before .if1 .taken)
+    c .before .place .ensures ∙ store-next (a .t .now) (a .z) (a .e .first) (a .e .last) (a .k) (a .i) (a .a) (a .b) (a .c)
+    (c .before .before .before .if1 .taken)
 
 release-requires : tie.Need-release-requires
 release-requires c κs = search needs
@@ -27,7 +28,8 @@ same-length-2 c = search needs
 
 returns-2 : tie.Need-returns-2
 returns-2 c = let a = c .before .before .before .before .before .before .before .args in
-    c .before .place2 .ensures ∙ store-again (a .t .now) (a .z) (a .e .first) (a .e .last) (a .k) (a .i) (a .a) (a .b) (a .c) _ (c .before .before .before .before .before .before .if1 .left) (c .before .before .before .before .release .ensures)
+    c .before .place2 .ensures ∙ store-again (a .t .now) (a .z) (a .e .first) (a .e .last) (a .k) (a .i) (a .a) (a .b) (a .c) _
+    (c .before .before .before .before .before .before .if1 .left) (c .before .before .before .before .release .ensures)
 
 pub store-spec : {M : Type 1} → statement M
 store-spec =

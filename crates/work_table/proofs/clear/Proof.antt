@@ -42,7 +42,8 @@ loop-again c = let i = c .before .loop .inv in
         i .1 .0,
         (
           length-set (c .before .loop .t) (c .before .loop .i) noRecord ∙ i .1 .1 .0,
-          ap (λ (x : List (List ℕ)). set x (c .before .loop .i) noRecord) (i .1 .1 .1) ∙ clear-more (c .before .before .before .args .t .now) (c .before .loop .i) h,
+          ap (λ (x : List (List ℕ)). set x (c .before .loop .i) noRecord) (i .1 .1 .1)
+              ∙ clear-more (c .before .before .before .args .t .now) (c .before .loop .i) h,
         ),
       ),
     )
@@ -52,8 +53,10 @@ same-length c = search needs
 
 returns : tie.Need-returns Inv-loop μ-loop
 returns c = let i = c .before .loop .inv in
-    let e : c .before .loop .i ≡ min (c .before .before .before .args .m) (length (c .before .before .before .args .t .now)) = omega (arith, c .loop-test .left, i .0, i .1 .0) in
-    i .1 .1 .1 ∙ ap (clearTo (c .before .before .before .args .t .now)) e ∙ clear-least (c .before .before .before .args .t .now) (c .before .before .before .args .m)
+    let e : c .before .loop .i ≡ min (c .before .before .before .args .m) (length (c .before .before .before .args .t .now)) = omega
+    (arith, c .loop-test .left, i .0, i .1 .0) in
+    i .1 .1 .1 ∙ ap (clearTo (c .before .before .before .args .t .now)) e
+    ∙ clear-least (c .before .before .before .args .t .now) (c .before .before .before .args .m)
 
 pub clear-spec : {M : Type 1} → statement M
 clear-spec =

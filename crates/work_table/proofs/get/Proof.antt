@@ -7,19 +7,20 @@ use borrow.Author.Needs.{needs}
 use Rattle.work_table.proofs.get.Statement.{statement}
 use Rattle.work_table.proofs.get.Tie as tie
 
-no-row-requires : tie.Need-no-row-requires
-no-row-requires c κs = search needs
+no-record-requires : tie.Need-no-record-requires
+no-record-requires c κs = search needs
 
 returns : tie.Need-returns
-returns c = c .no-row .ensures ∙ get-none (c .before .before .args .t .now) (c .before .before .args .z) (c .before .before .args .k) (c .before .if1 .taken)
+returns c = c .no-record .ensures ∙ get-none (c .before .before .args .t .now) (c .before .before .args .z) (c .before .before .args .k)
+    (c .before .if1 .taken)
 
-no-row-requires-2 : tie.Need-no-row-requires-2
-no-row-requires-2 c κs = search needs
+no-record-requires-2 : tie.Need-no-record-requires-2
+no-record-requires-2 c κs = search needs
 
 returns-2 : tie.Need-returns-2
 returns-2 c =
     let a = c .before .before .before .args in
-    c .no-row2 .ensures ∙ get-above (a .t .now) (a .z) (a .k) (c .before .before .if1 .left) (c .before .if2 .taken)
+    c .no-record2 .ensures ∙ get-above (a .t .now) (a .z) (a .k) (c .before .before .if1 .left) (c .before .if2 .taken)
 
 sub-i : tie.Need-sub-i
 sub-i c = search needs
@@ -27,14 +28,14 @@ sub-i c = search needs
 cast-i : tie.Need-cast-i
 cast-i c = search needs
 
-no-row-requires-3 : tie.Need-no-row-requires-3
-no-row-requires-3 c κs = search needs
+no-record-requires-3 : tie.Need-no-record-requires-3
+no-record-requires-3 c κs = search needs
 
 returns-3 : tie.Need-returns-3
 returns-3 c =
     let a = c .before .before .before .before .args in
     let if1 = c .before .before .before .if1 in
-    c .no-row3 .ensures ∙ get-past (a .t .now) (a .z) (a .k) (if1 .left) (omega (arith, c .before .before .if2 .left)) (c .before .if3 .taken)
+    c .no-record3 .ensures ∙ get-past (a .t .now) (a .z) (a .k) (if1 .left) (omega (arith, c .before .before .if2 .left)) (c .before .if3 .taken)
 
 mul-a : tie.Need-mul-a
 mul-a c = search needs
@@ -70,13 +71,13 @@ pub get-spec : {M : Type 1} → statement M
 get-spec =
     tie.close
     (tie.spec
-    no-row-requires
+    no-record-requires
     returns
-    no-row-requires-2
+    no-record-requires-2
     returns-2
     sub-i
     cast-i
-    no-row-requires-3
+    no-record-requires-3
     returns-3
     mul-a
     shared-slice-copy-out-a

@@ -15,7 +15,8 @@ cast-i : tie.Need-cast-i
 cast-i c = search needs
 
 returns-2 : tie.Need-returns-2
-returns-2 c = put-past (c .before .before .args .t .now) (c .before .before .args .k) (c .before .before .args .x) (c .before .if1 .left) (c .if2 .taken)
+returns-2 c = put-past (c .before .before .args .t .now) (c .before .before .args .k) (c .before .before .args .x) (c .before .if1 .left)
+    (c .if2 .taken)
 
 bit-requires : tie.Need-bit-requires
 bit-requires c κs = search needs

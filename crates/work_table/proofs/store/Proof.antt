@@ -1,6 +1,6 @@
 -- The six calls in turn are the steps of `storeAt`: `get` reads the old record, `put` puts the new one, and `count` goes over the children of
 -- both. Assumes nothing.
-use Rattle.work_table.specs.Table.{store-made}
+use Rattle.work_table.specs.Table.{store-correct}
 use borrow.Author.Needs.{needs}
 use Rattle.work_table.proofs.store.Statement.{statement}
 use Rattle.work_table.proofs.store.Tie as tie
@@ -28,13 +28,14 @@ same-length c = search needs
 
 returns : tie.Need-returns
 returns c =
-    let a = c .before .before .before .before .before .before .before .before .before .before .before .before .before .before .before .before .before .args in
+    let a = c .before .before .before .before .before .before .before .before .before .before .before .before .before .before .before .before .before
+    .args in
     let get = c .before .before .before .before .before .before .before .before .before .before .before .before .before .before .before .get in
     let put = c .before .before .before .before .before .before .before .before .before .before .before .before .before .put in
     let count = c .before .before .before .before .before .before .before .before .before .before .count in
     let count2 = c .before .before .before .before .before .before .before .count2 in
     let count3 = c .before .before .before .before .count3 in
-    store-made (a .t .now) _ _ _ _ _ (a .z) (a .k) (a .x) (get .result) (get .ensures)
+    store-correct (a .t .now) _ _ _ _ _ (a .z) (a .k) (a .x) (get .result) (get .ensures)
     (put .ensures) (count .ensures) (count2 .ensures) (count3 .ensures) (c .before .count4 .ensures)
 
 pub store-spec : {M : Type 1} → statement M

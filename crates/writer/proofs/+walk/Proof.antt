@@ -4,7 +4,7 @@ use borrow.Author.Needs.{needs}
 use Prim.Native.Nat.{ℕ, _<_}
 use borrow.Fn.Kinds.{In}
 use borrow.Fn.PlainCycle.{Measures, is, falls, and}
-use Rattle.reading.specs.Limits.{truthTableMost, levelLimit, truthLimit}
+use Rattle.theory_reading.specs.Limits.{truthTableMost, levelLimit, truthLimit}
 use Rattle.writer.proofs.walk.Reads as walk
 use Rattle.writer.proofs.walk.Kinds as walk-kinds
 use Rattle.writer.proofs.+walk.Lts-walk as walk-lts
@@ -15,9 +15,9 @@ use Rattle.meeting.proofs.half_of.Reads as half-of-reads
 use Rattle.writer.proofs.is_again.Reads as is-again-reads
 use Rattle.meeting.proofs.kept.Reads as kept-reads
 use Rattle.meeting.proofs.numbered.Reads as numbered-reads
-use Rattle.meeting.proofs.pen_of.Reads as pen-of-reads
+use Rattle.meeting.proofs.progress_of.Reads as progress-of-reads
 use Rattle.pending_text.proofs.push.Reads as push-reads
-use Rattle.pending_text.proofs.push_turn.Reads as push-turn-reads
+use Rattle.pending_text.proofs.push_tilde.Reads as push-tilde-reads
 use Rattle.meeting.proofs.second.Reads as second-reads
 use Rattle.writer.proofs.truth.Reads as truth-reads
 use Rattle.pending_text.proofs.wait.Reads as wait-reads
@@ -26,10 +26,10 @@ use Rattle.writer.proofs.+walk.Tie.{close}
 use mathlib.Core.Path.{_≡_, sym, ap, _∙_}
 use native.Mathlib.Omega.{arith}
 use Prim.Native.Nat.{suc, _+_, _*_, _-_, _%_, _≤_, _^_}
-use Rattle.lists.specs.Lists.{differ}
-use Rattle.engine.specs.EngineMade.{walk-word, walk-no, walk-yes, walk-full, walk-on, walk-repeat}
-use Rattle.meeting.specs.Cite.{halfOf, penOf, again-as}
-use Rattle.lists.specs.Powers.{shifted, both-halves}
+use Rattle.theory_lists.specs.Lists.{differ}
+use Rattle.theory_engine.specs.EngineCorrect.{walk-word, walk-no, walk-yes, walk-full, walk-on, walk-repeat}
+use Rattle.meeting.specs.Abstraction.{halfOf, progressOf, again-as}
+use Rattle.theory_lists.specs.Powers.{shifted, both-halves}
 
 abbrev μ-walk : Measures 4 walk-kinds.ps ℕ
 μ-walk κs a = a .1 .1 .0
@@ -56,16 +56,16 @@ module _ (t : ℕ) where
     push-reads.Learnt,
     below t,
     walk.Post,
-    pen-of-reads.Asked,
-    pen-of-reads.Learnt,
+    progress-of-reads.Asked,
+    progress-of-reads.Learnt,
     half-of-reads.Asked,
     half-of-reads.Learnt,
     differs-reads.Asked,
     differs-reads.Learnt,
     wait-reads.Asked,
     wait-reads.Learnt,
-    push-turn-reads.Asked,
-    push-turn-reads.Learnt,
+    push-tilde-reads.Asked,
+    push-tilde-reads.Learnt,
     is-again-reads.Asked,
     is-again-reads.Learnt,
     numbered-reads.Asked,
@@ -89,7 +89,7 @@ module _ (t : ℕ) where
       let c7 = c3 .before .before .before .before in
       let a = c7 .args in
       rw (c .kept .ensures, c .before .constant .ensures, c .before .before .truth .ensures)
-      (walk-word (a .v .now) (a .size) (a .d) (a .i) (a .at) (a .m) (a .t .now) (a .out .now) (a .w .now) (penOf (a .pen)) (c3 .if1 .taken))
+      (walk-word (a .v .now) (a .size) (a .d) (a .i) (a .at) (a .m) (a .t .now) (a .out .now) (a .w .now) (progressOf (a .progress)) (c3 .if1 .taken))
 
   all-bytes-requires : walk-lts.Need-all-bytes-requires K (at t) walk.Post
   all-bytes-requires c κs = search needs
@@ -108,7 +108,8 @@ module _ (t : ℕ) where
       let a = c8 .args in
       let e : a .d ≡ suc (a .d - 1) = omega (arith, c4 .if1 .left) in
       rw (c .kept2 .ensures, c .before .constant2 .ensures)
-      (walk-no (a .v .now) (a .size) (a .d - 1) (a .i) (a .at) (a .m) (a .t .now) (a .out .now) (a .w .now) (penOf (a .pen)) (a .d) e (sym (c3 .all-bytes .ensures) ∙ c .before .before .if2 .taken))
+      (walk-no (a .v .now) (a .size) (a .d - 1) (a .i) (a .at) (a .m) (a .t .now) (a .out .now) (a .w .now) (progressOf (a .progress)) (a .d) e
+      (sym (c3 .all-bytes .ensures) ∙ c .before .before .if2 .taken))
 
   all-bytes-requires-2 : walk-lts.Need-all-bytes-requires-2 K (at t) walk.Post
   all-bytes-requires-2 c κs = search needs
@@ -129,7 +130,8 @@ module _ (t : ℕ) where
       let a = c10 .args in
       let e : a .d ≡ suc (a .d - 1) = omega (arith, c6 .if1 .left) in
       rw (c .kept3 .ensures, c .before .constant3 .ensures)
-      (walk-yes (a .v .now) (a .size) (a .d - 1) (a .i) (a .at) (a .m) (a .t .now) (a .out .now) (a .w .now) (penOf (a .pen)) (a .d) e (sym (c5 .all-bytes .ensures) ∙ c4 .if2 .left) (sym (c3 .all-bytes2 .ensures) ∙ c .before .before .if3 .taken))
+      (walk-yes (a .v .now) (a .size) (a .d - 1) (a .i) (a .at) (a .m) (a .t .now) (a .out .now) (a .w .now) (progressOf (a .progress)) (a .d) e
+      (sym (c5 .all-bytes .ensures) ∙ c4 .if2 .left) (sym (c3 .all-bytes2 .ensures) ∙ c .before .before .if3 .taken))
 
   sub-e : walk-lts.Need-sub-e K (at t) walk.Post
   sub-e c = search needs
@@ -159,8 +161,8 @@ module _ (t : ℕ) where
       let c15 = c11 .before .before .before .before in
       omega (arith, c15 .pre, both-halves (c15 .args .d) (c11 .if1 .left))
 
-  pen-of-requires : walk-lts.Need-pen-of-requires K (at t) walk.Post
-  pen-of-requires c κs = tt
+  progress-of-requires : walk-lts.Need-progress-of-requires K (at t) walk.Post
+  progress-of-requires c κs = tt
 
   same-length : walk-lts.Need-same-length K (at t) walk.Post
   same-length c = search needs
@@ -183,9 +185,9 @@ module _ (t : ℕ) where
       let c23 = c19 .before .before .before .before in
       let a = c23 .args in
       let e : a .d ≡ suc (a .d - 1) = omega (arith, c19 .if1 .left) in
-      walk-full (a .v .now) (a .size) (a .d - 1) (a .i) (a .at) (a .m) (a .t .now) (a .out .now) (a .w .now) (penOf (a .pen)) (a .d) e
+      walk-full (a .v .now) (a .size) (a .d - 1) (a .i) (a .at) (a .m) (a .t .now) (a .out .now) (a .w .now) (progressOf (a .progress)) (a .d) e
       (sym (c18 .all-bytes .ensures) ∙ c17 .if2 .left) (sym (c16 .all-bytes2 .ensures) ∙ c15 .if3 .left) _ _ (c13 .push .ensures) (c7 .walk .ensures)
-      (penOf (c .before .pen-of .result)) (ap penOf (c .before .pen-of .ensures)) (c .if4 .taken)
+      (progressOf (c .before .progress-of .result)) (ap progressOf (c .before .progress-of .ensures)) (c .if4 .taken)
 
   half-of-requires : walk-lts.Need-half-of-requires K (at t) walk.Post
   half-of-requires c κs = tt
@@ -199,12 +201,13 @@ module _ (t : ℕ) where
   wait-requires : walk-lts.Need-wait-requires K (at t) walk.Post
   wait-requires c κs = tt
 
-  push-turn-requires : walk-lts.Need-push-turn-requires K (at t) walk.Post
-  push-turn-requires c κs = tt
+  push-tilde-requires : walk-lts.Need-push-tilde-requires K (at t) walk.Post
+  push-tilde-requires c κs = tt
 
   is-again-requires : walk-lts.Need-is-again-requires K (at t) walk.Post
   is-again-requires c κs =
-      let c30 = c .before .before .before .before .before .before .before .before .before .before .before .before .before .before .before .before .before .before .before .before .before .before .before .before .before .before .before .before .before .before in
+      let c30 = c .before .before .before .before .before .before .before .before .before .before .before .before .before .before .before .before
+      .before .before .before .before .before .before .before .before .before .before .before .before .before .before in
       let c34 = c30 .before .before .before .before in
       let a = c34 .args in
       let h : (a .d - 1 ≤ truthTableMost) × ((a .at ≤ truthLimit) × (a .at + 1 * 2 ^ (a .d - 1) % 18446744073709551616 ≤ truthLimit)) =
@@ -223,13 +226,15 @@ module _ (t : ℕ) where
   same-length-4 : walk-lts.Need-same-length-4 K (at t) walk.Post
   same-length-4 c =
       let c4 = c .before .before .before .before in
-      let c30 = c4 .before .before .before .before .before .before .before .before .before .before .before .before .before .before .before .before .before .before .before .before .before .before .before .before .before .before in
+      let c30 = c4 .before .before .before .before .before .before .before .before .before .before .before .before .before .before .before .before
+      .before .before .before .before .before .before .before .before .before .before in
       c4 .t2 .given ∙ c30 .t .given
 
   same-length-5 : walk-lts.Need-same-length-5 K (at t) walk.Post
   same-length-5 c =
       let c3 = c .before .before .before in
-      let c29 = c3 .before .before .before .before .before .before .before .before .before .before .before .before .before .before .before .before .before .before .before .before .before .before .before .before .before .before in
+      let c29 = c3 .before .before .before .before .before .before .before .before .before .before .before .before .before .before .before .before
+      .before .before .before .before .before .before .before .before .before .before in
       c3 .out2 .given ∙ c29 .out .given
 
   same-length-6 : walk-lts.Need-same-length-6 K (at t) walk.Post
@@ -265,20 +270,25 @@ module _ (t : ℕ) where
       let a = c47 .args in
       let e : a .d ≡ suc (a .d - 1) = omega (arith, c43 .if1 .left) in
       c5 .second .ensures
-      ∙ walk-repeat (a .v .now) (a .size) (a .d - 1) (a .i) (a .at) (a .m) (a .t .now) (a .out .now) (a .w .now) (penOf (a .pen)) (a .d) e
+      ∙ walk-repeat (a .v .now) (a .size) (a .d - 1) (a .i) (a .at) (a .m) (a .t .now) (a .out .now) (a .w .now) (progressOf (a .progress)) (a .d) e
       (sym (c42 .all-bytes .ensures) ∙ c41 .if2 .left) (sym (c40 .all-bytes2 .ensures) ∙ c39 .if3 .left) _ _ (c37 .push .ensures) (c31 .walk .ensures)
-      (halfOf (c23 .half-of .result)) (penOf (c25 .pen-of .result)) _ _ _ _ _ (ap halfOf (c23 .half-of .ensures)) (ap penOf (c25 .pen-of .ensures))
+      (halfOf (c23 .half-of .result)) (progressOf (c25 .progress-of .result)) _ _ _ _ _ (ap halfOf (c23 .half-of .ensures))
+      (ap progressOf (c25 .progress-of .ensures))
       (shifted (a .d - 1) (omega (arith, c47 .pre))) (c24 .if4 .left)
-      (c21 .differs .ensures ∙ ap (differ (c23 .half-of .result .complement)) (c22 .truth2 .ensures)) (c19 .wait .ensures) (c15 .push-turn .ensures)
+      (c21 .differs .ensures ∙ ap (differ (c23 .half-of .result .complement)) (c22 .truth2 .ensures)) (c19 .wait .ensures) (c15 .push-tilde .ensures)
       (sym (c12 .is-again .ensures) ∙ c11 .if5 .taken)
-      (again-as (c9 .kept4 .result) (c10 .numbered .result) (c23 .half-of .result) (c25 .pen-of .result) _ _ _ _ _ (c9 .kept4 .ensures) (c10 .numbered .ensures) (c22 .truth2 .ensures))
+      (again-as (c9 .kept4 .result) (c10 .numbered .result) (c23 .half-of .result) (c25 .progress-of .result) _ _ _ _ _ (c9 .kept4 .ensures)
+      (c10 .numbered .ensures) (c22 .truth2 .ensures))
 
   walk-requires-2 : walk-lts.Need-walk-requires-2 K (at t) walk.Post
   walk-requires-2 c κs =
-      let c35 = c .before .before .before .before .before .before .before .before .before .before .before .before .before .before .before .before .before .before .before .before .before .before .before .before .before .before .before .before .before .before .before .before .before .before .before in
+      let c35 = c .before .before .before .before .before .before .before .before .before .before .before .before .before .before .before .before
+      .before .before .before .before .before .before .before .before .before .before .before .before .before .before .before .before .before
+      .before .before in
       let c39 = c35 .before .before .before .before in
       let a = c39 .args in
-      let h : (a .d - 1 < t) × ((a .d - 1 ≤ truthTableMost) × ((a .i + 1 + (a .d - 1) ≤ levelLimit) × (a .at + 1 * 2 ^ (a .d - 1) % 18446744073709551616 + 2 ^ (a .d - 1) ≤ truthLimit))) =
+      let h : (a .d - 1 < t) × ((a .d - 1 ≤ truthTableMost) × ((a .i + 1 + (a .d - 1) ≤ levelLimit)
+      × (a .at + 1 * 2 ^ (a .d - 1) % 18446744073709551616 + 2 ^ (a .d - 1) ≤ truthLimit))) =
       omega (arith, c39 .pre, c35 .if1 .left, shifted (a .d - 1) (omega (arith, c39 .pre)), both-halves (a .d) (c35 .if1 .left)) in
       h
 
@@ -289,14 +299,16 @@ module _ (t : ℕ) where
   same-length-7 c =
       let c4 = c .before .before .before .before in
       let c13 = c4 .before .before .before .before .before .before .before .before .before in
-      let c37 = c13 .before .before .before .before .before .before .before .before .before .before .before .before .before .before .before .before .before .before .before .before .before .before .before .before in
+      let c37 = c13 .before .before .before .before .before .before .before .before .before .before .before .before .before .before .before .before
+      .before .before .before .before .before .before .before .before in
       c4 .t4 .given ∙ c13 .t3 .given ∙ c37 .t .given
 
   same-length-8 : walk-lts.Need-same-length-8 K (at t) walk.Post
   same-length-8 c =
       let c3 = c .before .before .before in
       let c12 = c3 .before .before .before .before .before .before .before .before .before in
-      let c36 = c12 .before .before .before .before .before .before .before .before .before .before .before .before .before .before .before .before .before .before .before .before .before .before .before .before in
+      let c36 = c12 .before .before .before .before .before .before .before .before .before .before .before .before .before .before .before .before
+      .before .before .before .before .before .before .before .before in
       c3 .out4 .given ∙ c12 .out3 .given ∙ c36 .out .given
 
   same-length-9 : walk-lts.Need-same-length-9 K (at t) walk.Post
@@ -332,11 +344,12 @@ module _ (t : ℕ) where
       let a = c54 .args in
       let e : a .d ≡ suc (a .d - 1) = omega (arith, c50 .if1 .left) in
       c5 .second2 .ensures
-      ∙ walk-on (a .v .now) (a .size) (a .d - 1) (a .i) (a .at) (a .m) (a .t .now) (a .out .now) (a .w .now) (penOf (a .pen)) (a .d) e
+      ∙ walk-on (a .v .now) (a .size) (a .d - 1) (a .i) (a .at) (a .m) (a .t .now) (a .out .now) (a .w .now) (progressOf (a .progress)) (a .d) e
       (sym (c49 .all-bytes .ensures) ∙ c48 .if2 .left) (sym (c47 .all-bytes2 .ensures) ∙ c46 .if3 .left) _ _ (c44 .push .ensures) (c38 .walk .ensures)
-      (halfOf (c30 .half-of .result)) (penOf (c32 .pen-of .result)) _ _ _ _ _ (ap halfOf (c30 .half-of .ensures)) (ap penOf (c32 .pen-of .ensures))
+      (halfOf (c30 .half-of .result)) (progressOf (c32 .progress-of .result)) _ _ _ _ _ (ap halfOf (c30 .half-of .ensures))
+      (ap progressOf (c32 .progress-of .ensures))
       (shifted (a .d - 1) (omega (arith, c54 .pre))) (c31 .if4 .left)
-      (c28 .differs .ensures ∙ ap (differ (c30 .half-of .result .complement)) (c29 .truth2 .ensures)) (c26 .wait .ensures) (c22 .push-turn .ensures)
+      (c28 .differs .ensures ∙ ap (differ (c30 .half-of .result .complement)) (c29 .truth2 .ensures)) (c26 .wait .ensures) (c22 .push-tilde .ensures)
       (sym (c19 .is-again .ensures) ∙ c18 .if5 .left) (c14 .walk2 .ensures)
 
 pub +walk-spec : {M : Type 1} → statement M
@@ -362,7 +375,7 @@ pub +walk-spec : {M : Type 1} → statement M
     (add-mid t)
     (push-requires t)
     (walk-requires t)
-    (pen-of-requires t)
+    (progress-of-requires t)
     (same-length t)
     (same-length-2 t)
     (same-length-3 t)
@@ -371,7 +384,7 @@ pub +walk-spec : {M : Type 1} → statement M
     (truth-requires-2 t)
     (differs-requires t)
     (wait-requires t)
-    (push-turn-requires t)
+    (push-tilde-requires t)
     (is-again-requires t)
     (numbered-requires t)
     (kept-requires-4 t)

@@ -2,8 +2,8 @@
 -- Assumes nothing.
 use mathlib.Core.Path.{ap}
 use mathlib.Core.List.{List}
-use Rattle.reading.specs.Element as T
-use Rattle.reading.specs.Nodes as N
+use Rattle.theory_reading.specs.Element as T
+use Rattle.theory_reading.specs.Nodes as N
 use Rattle.scanner.specs.OpenLaws.{open-none}
 use borrow.Author.Needs.{needs}
 use Rattle.scanner.proofs.Place.begin.Statement.{statement}

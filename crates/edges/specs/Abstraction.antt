@@ -1,0 +1,10 @@
+-- How code holds an input at an edge. Assumes nothing.
+use mathlib.Core.List.{List}
+use Prim.Native.Nat.{ℕ}
+use Rattle.theory_engine.specs.Applying.{Source}
+use Rattle.work_table.specs.TableLaws.{tableOf}
+use Rattle.edges.specs.declared.Edge.{Edge}
+
+-- an edge in the lent table of its input
+abbrev pub edgeIn : Edge → List (List ℕ) → Source
+edgeIn e t = record { table = tableOf t (e .size); number = e .number; complement = e .complement }

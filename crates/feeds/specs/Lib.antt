@@ -1,2 +1,0 @@
-pub mod Cite
-pub mod FeedMade

@@ -1,0 +1,46 @@
+-- A stream that is read block by block, as the combiner's code has it: a block reader for the walk over texts. Definitions only; BlockReaderLaws ties
+-- them to what the stream decides. Assumes nothing.
+use mathlib.Core.Bool.{true, false}
+use mathlib.Core.List.{List}
+use Prim.Native.Nat.{ℕ}
+use Rattle.theory_engine.specs.Applying.{Source}
+use Rattle.theory_engine.specs.Operands.{Operand, settle}
+use Rattle.work_table.specs.TableLaws.{tableOf}
+use Rattle.reader.specs.ReadOn.{firstCursor}
+use Rattle.blocks.specs.Blocks.{Next, nextBlock, ReadBlock}
+
+-- a stream, the block that was read last, and the lent table after it
+pub record BlockReader : Type 0 where
+  pub stream : List ℕ
+  pub block : ReadBlock
+  pub table : List (List ℕ)
+
+-- the block reader at the block of a call
+abbrev pub readerAt : List ℕ → Next → BlockReader
+readerAt s x = record { stream = s; block = x .block; table = x .table }
+
+-- how many nodes are open around its block
+abbrev pub deepOf : BlockReader → ℕ
+deepOf τ = τ .block .deep
+
+-- the edge that stands for its block
+abbrev pub sourceOf : BlockReader → Source
+sourceOf τ =
+    record {
+      table = tableOf (τ .table) (τ .block .cursor .run .size);
+      number = τ .block .number;
+      complement = τ .block .complement;
+    }
+
+-- a block further
+abbrev pub nextReader : ℕ → BlockReader → BlockReader
+nextReader n τ = readerAt (τ .stream) (nextBlock n (τ .stream) (τ .block .cursor) (τ .table))
+
+-- at the first block of a stream, with the table lent
+abbrev pub firstReader : ℕ → List ℕ → List (List ℕ) → BlockReader
+firstReader n s t = readerAt s (nextBlock n s firstCursor t)
+
+-- an input at the outermost node, in its text unless its first block is all of it
+abbrev pub begunOperand : ℕ → List ℕ → List (List ℕ) → Operand BlockReader
+begunOperand n s t =
+    settle deepOf sourceOf (nextReader n) 1 (record { reader = firstReader n s t; inText = true; number = 0; complement = false })

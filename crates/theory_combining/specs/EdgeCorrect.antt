@@ -1,0 +1,113 @@
+-- One law for each way through code that stands at edges: the operator, the edge at a half of a part, what terminals fix, and where an
+-- input settles. Assumes nothing.
+use mathlib.Core.Path.{_≡_, refl, sym, ap, ap₂, _∙_}
+use mathlib.Core.Bool.{Bool, true, false, cond, not, _&&_, _||_}
+use mathlib.Core.List.{List, [], _∷_}
+use Prim.Native.Nat.{ℕ, _+_, _≤_}
+use native.Mathlib.Omega.{arith}
+use lib.Dec.{eqb, ltb}
+use Rattle.theory_lists.specs.Lists.{differ}
+use Rattle.theory_reading.specs.Nodes.{Node, node}
+use Rattle.theory_writing.specs.Run.{digitAt}
+use Rattle.theory_engine.specs.Applying.{Source, firstSource, secondSource, fixed}
+use Rattle.theory_engine.specs.Operands.{Operand, atEdge, edgeOf, settle, firstOperand}
+use Rattle.work_table.specs.Table.{getIn}
+use Rattle.work_table.specs.TableLaws.{recordNode, tableOf, table-node}
+use Rattle.work_table.specs.Edges.{firstEdge, secondEdge}
+use Rattle.work_table.specs.declared.Edge.{Edge}
+use Rattle.work_table.specs.declared.NodeRecord.{NodeRecord}
+
+-- ---- The operator ----------------------------------------------------------------------------
+
+pub digit-two : (a b : Bool) → cond a (cond b 3 2) (cond b 1 0) ≡ digitAt (a ∷ b ∷ [])
+unfolding digitAt
+digit-two true true = refl
+digit-two true false = refl
+digit-two false true = refl
+digit-two false false = refl
+
+pub digit-most : (a b : Bool) → digitAt (a ∷ b ∷ []) ≤ 3
+unfolding digitAt
+digit-most true true = omega arith
+digit-most true false = omega arith
+digit-most false true = omega arith
+digit-most false false = omega arith
+
+-- what is fixed with one input, and with two
+pub fixed-one : (op : List Bool → Bool) (x : Source)
+    → (eqb (x .number) 0 || not (differ (op (x .complement ∷ [])) (op (not (x .complement) ∷ [])))) ≡ fixed op (x ∷ [])
+unfolding fixed
+fixed-one op x = refl
+
+pub fixed-two : (op : List Bool → Bool) (x y : Source)
+    → (fixed (λ ds. op (x .complement ∷ ds)) (y ∷ []) && (eqb (x .number) 0 || (fixed (λ ds. op (not (x .complement) ∷ ds)) (y ∷ [])
+    && not (differ (op (x .complement ∷ y .complement ∷ [])) (op (not (x .complement) ∷ y .complement ∷ [])))))) ≡ fixed op (x ∷ y ∷ [])
+unfolding fixed
+fixed-two op x y = refl
+
+-- ---- An edge at the halves of a part ---------------------------------------------------------
+
+-- x: the edge in a table of z numbers; r: the record that code read
+module _ (t : List (List ℕ)) (z i : ℕ) (x : Edge) (r : NodeRecord) (read : r ≡ getIn t z (x .number)) where
+  abbrev source : Edge → Source
+  source e = record { table = tableOf t z; number = e .number; complement = e .complement }
+
+  same : recordNode r ≡ node (tableOf t z) (x .number)
+  same = ap recordNode read ∙ sym (table-node t z (x .number))
+
+  by-test : (b : Bool) (e f : Edge) → source (cond b e f) ≡ cond b (source e) (source f)
+  by-test true e f = refl
+  by-test false e f = refl
+
+  -- y, e: the edge and its child as code holds them
+  pub first-child : (y e : Edge) → y ≡ x → e ≡ firstEdge r i y → source e ≡ firstSource i (source x)
+  first-child y e g h =
+      ap source (h ∙ ap (firstEdge r i) g)
+      ∙ by-test (eqb (x .number) 0 || ltb i (r .level)) x (record { number = r .first; complement = x .complement })
+      ∙ ap (λ (n : Node). cond (eqb (x .number) 0 || ltb i (n .level)) (source x) (source (record { number = n .first; complement = x .complement })))
+      same
+
+  pub second-child : (y e : Edge) → y ≡ x → e ≡ secondEdge r i y → source e ≡ secondSource i (source x)
+  second-child y e g h =
+      ap source (h ∙ ap (secondEdge r i) g)
+      ∙ by-test (eqb (x .number) 0 || ltb i (r .level)) x (record { number = r .second; complement = differ (r .complement) (x .complement) })
+      ∙ ap (λ (n : Node). cond (eqb (x .number) 0 || ltb i (n .level)) (source x)
+      (source (record { number = n .second; complement = differ (n .complement) (x .complement) }))) same
+
+-- ---- Where an input settles ------------------------------------------------------------------
+
+module _ {BlockReader : Type 0} (deepOf : BlockReader → ℕ) (sourceOf : BlockReader → Source) (next : BlockReader → BlockReader) (i : ℕ)
+    (f : Operand BlockReader) where
+  -- not in its text
+  pub settle-edge : f .inText ≡ false → f ≡ settle deepOf sourceOf next i f
+  settle-edge e = ap (λ (b : Bool). cond (b && eqb (deepOf (f .reader) + 1) i) (atEdge f (sourceOf (f .reader))) f) (sym e)
+
+  -- in its text, at a smaller block
+  pub settle-inside : f .inText ≡ true → eqb (deepOf (f .reader) + 1) i ≡ false → f ≡ settle deepOf sourceOf next i f
+  settle-inside e h = ap₂ (λ (a b : Bool). cond (a && b) (atEdge f (sourceOf (f .reader))) f) (sym e) (sym h)
+
+  -- at one as great as the part
+  pub settle-here : f .inText ≡ true → eqb (deepOf (f .reader) + 1) i ≡ true
+      → atEdge f (sourceOf (f .reader)) ≡ settle deepOf sourceOf next i f
+  settle-here e h = ap₂ (λ (a b : Bool). cond (a && b) (atEdge f (sourceOf (f .reader))) f) (sym e) (sym h)
+
+  -- at the first half of a part of level i: in its text, or at the edge x
+  pub first-inside : f .inText ≡ true → settle deepOf sourceOf next (i + 1) f ≡ firstOperand deepOf sourceOf next i f
+  first-inside e =
+      ap (λ (b : Bool). cond b (settle deepOf sourceOf next (i + 1) f) (atEdge f (firstSource i (edgeOf deepOf sourceOf next f)))) (sym e)
+
+  pub first-edge : (x : Source) → f .inText ≡ false → x ≡ firstSource i (edgeOf deepOf sourceOf next f)
+      → atEdge f x ≡ firstOperand deepOf sourceOf next i f
+  first-edge x e h =
+      ap (atEdge f) h
+      ∙ ap (λ (b : Bool). cond b (settle deepOf sourceOf next (i + 1) f) (atEdge f (firstSource i (edgeOf deepOf sourceOf next f)))) (sym e)
+
+-- the second of two, if there is no more
+pub and-none : (b : Bool) → b ≡ (b && true)
+and-none true = refl
+and-none false = refl
+
+-- of two, the second is not in its text
+pub no-other : (b : Bool) → not b ≡ not (b || false)
+no-other true = refl
+no-other false = refl

@@ -1,0 +1,145 @@
+-- Written streams computed, beside those of `PaperCases`: document 01's example of a program, and rows that tell the definitions from near misses of
+-- them (the edits in must-fail/ each break one).
+use mathlib.Core.Path.{_≡_, refl}
+use mathlib.Core.Bool.{Bool, true, false, _&&_}
+use mathlib.Core.List.{[], _∷_}
+use Prim.Native.Nat.{ℕ, zero, suc, _+_, _/_, _%_, _^_}
+use lib.Dec.{leb, eqb}
+use Rattle.theory_reading.specs.Limits.{tableLimit}
+use Rattle.theory_reading.specs.Bytes.{text}
+use Rattle.theory_reading.specs.Causes.{operatorCode, notInTable, refused, refusal}
+use Rattle.theory_writing.specs.UniqueTable.{start}
+use Rattle.theory_writing.specs.Rules.{Text, number, one, two, part}
+use Rattle.theory_writing.specs.Run.{digitAt, operate, Input, runText, runOf, outputAfter, whole, inputEnded, outputFull, answerOf}
+use Rattle.theory_writing.specs.Calls.{combineAnswer}
+
+-- binary digit w of x: the decision at word w
+abbrev byNumber : ℕ → ℕ → Bool
+byNumber x w = eqb (x / 2 ^ w % 2) 1
+
+-- ---- The queue -------------------------------------------------------------------------------
+
+-- Numbers 1 and 2 wait in this order, so the third node gets 1.
+oldest-first : runText 4 2 16 (byNumber 44272) ≡ text "2\n((0~0):1((0~0):2((0~0):1)))."
+unfolding runText text
+oldest-first = refl
+
+-- When 4 is reused its old children 2 and 3 both lose their last parent, first child first: the last node gets 2.
+first-child-first : runText 4 4 16 (byNumber 8264) ≡ text "4\n(((0(0~0):1):2(0~1):3):4(0(1 0):4):2)."
+unfolding runText text
+first-child-first = refl
+
+-- When 2 is reused its old child 1 joins the queue and leaves it again as the new node's child: none is left for the last node.
+children-leave-after : runText 4 2 16 (byNumber 8202) ≡ text "2\n((((0~0):1)0):2(0(1 0):2))."
+unfolding runText text
+children-leave-after = refl
+
+-- "Looking up moves nothing": 2 is found again and stays before 3 in the queue.
+looking-up : runText 4 3 16 (byNumber 10312) ≡ text "3\n(((0(0~0):1):2(0~1):3)(2(1 0):2))."
+unfolding runText text
+looking-up = refl
+
+-- ---- The release of a cut run ----------------------------------------------------------------
+
+cut-before : runText 3 4 3 (byNumber 232) ≡ text "4\n"
+unfolding runText text
+cut-before = refl
+
+cut-at : runText 3 4 4 (byNumber 232) ≡ text "4\n((0(0~0):1):2"
+unfolding runText text
+cut-at = refl
+
+cut-after : runText 3 4 7 (byNumber 232) ≡ text "4\n((0(0~0):1):2"
+unfolding runText text
+cut-after = refl
+
+-- The `)` of an `(A)` around the node is not released with it; a leading `~` is.
+cut-inside : runText 3 4 4 (byNumber 85) ≡ text "4\n~(((0~0):1"
+unfolding runText text
+cut-inside = refl
+
+-- all words covered, with the point
+covered-whole : runText 3 4 8 (byNumber 85) ≡ text "4\n~(((0~0):1))."
+unfolding runText text
+covered-whole = refl
+
+-- ---- Runs over inputs ------------------------------------------------------------------------
+
+-- an input of three options that covers c words
+abbrev input : ℕ → ℕ → Input
+input c x = record { covered = c; decides = byNumber x }
+
+-- the example of document 01's program: OR of `(0(0~0):1):2` and `(((0~0):1))`
+combined-whole : runOf (operate 14) 3 4 (input 8 192 ∷ input 8 170 ∷ []) ≡ text "4\n(((0~0):1)(1~0):2):3."
+unfolding runOf operate text
+combined-whole = refl
+
+-- the smaller covered count
+combined-cut : runOf (operate 14) 3 4 (input 8 192 ∷ input 5 170 ∷ []) ≡ text "4\n(((0~0):1"
+unfolding runOf operate text
+combined-cut = refl
+
+-- BUT 4: "decisions a, b give binary digit 2a + b", here digit 2
+first-but-not-second : operate 4 (true ∷ false ∷ []) ≡ true
+unfolding operate
+first-but-not-second = refl
+
+-- of three decisions a, b, c: 4a + 2b + c
+three-decisions : digitAt (true ∷ true ∷ false ∷ []) ≡ 6
+unfolding digitAt
+three-decisions = refl
+
+-- ---- Turned down -----------------------------------------------------------------------------
+
+-- an operator above 15 comes before a size above 1,024, and both before the work tables
+operator-first : combineAnswer 3 16 (tableLimit + 1) ([] ∷ [] ∷ []) [] (0 ∷ 0 ∷ 0 ∷ []) ≡ refused (refusal operatorCode 0 0)
+unfolding combineAnswer
+operator-first = refl
+
+-- number 1 is not in the table of stream 2
+second-stream : combineAnswer 3 14 4 (text "4\n(0(0~0):1):2." ∷ text "4\n(1)." ∷ []) [] (tableLimit ∷ tableLimit ∷ tableLimit ∷ [])
+    ≡ refused (refusal notInTable 2 3)
+unfolding combineAnswer text
+second-stream = refl
+
+-- ---- The output ------------------------------------------------------------------------------
+
+output-kept : outputAfter (text "0\n0.") (text "......") ≡ text "0\n0..."
+unfolding outputAfter text
+output-kept = refl
+
+output-short : outputAfter (text "1\n(0~0):1.") (text "....") ≡ text "1\n(0"
+unfolding outputAfter text
+output-short = refl
+
+answer-whole : answerOf 0 1 (text "0\n0.") (text "....") ≡ record { written = 4; covered = 1; ending = whole }
+unfolding answerOf text
+answer-whole = refl
+
+answer-cut : answerOf 3 4 (text "4\n((0(0~0):1):2") (text "................") ≡ record { written = 15; covered = 4; ending = inputEnded }
+unfolding answerOf text
+answer-cut = refl
+
+answer-full : answerOf 0 1 (text "0\n0.") (text "...") ≡ record { written = 3; covered = 1; ending = outputFull }
+unfolding answerOf text
+answer-full = refl
+
+-- ---- Nine options, three to six set ----------------------------------------------------------
+
+abbrev ones : ℕ → ℕ → ℕ
+ones zero w = 0
+ones (suc m) w = w % 2 + ones m (w / 2)
+
+abbrev threeToSix : ℕ → Bool
+threeToSix w = leb 3 (ones 9 w) && leb (ones 9 w) 6
+
+-- two-child nodes written out
+nodesIn : Text → ℕ
+nodesIn (number k) = 0
+nodesIn (one x) = nodesIn x
+nodesIn (two x t y k) = suc (nodesIn x + nodesIn y)
+
+-- "9sym" [...] "with 24 nodes at size 24"
+nine-options : nodesIn (part 24 9 1 0 threeToSix start .part .text) ≡ 24
+unfolding nodesIn part
+nine-options = refl
