@@ -1,9 +1,9 @@
 -- Readings of document 01 that are settled (docs/DECISIONS.md), each on a stream, by computation: a wrong definition fails here. Assumes nothing.
 use mathlib.Core.Path.{_≡_, refl}
 use mathlib.Core.List.{[]}
-use Prim.Native.Nat.{ℕ}
+use Prim.Native.Nat.{ℕ, _+_}
 use Prim.Native.String.{String}
-use Rattle.theory_reading.specs.Limits.{tableLimit}
+use Rattle.theory_reading.specs.Limits.{optionLimit, tableLimit}
 use Rattle.theory_reading.specs.Bytes.{text}
 use Rattle.theory_reading.specs.Causes.{Cause, optionCount, wrongByte, declaredSize, notInTable, otherLevel, notStorable, badNumber}
 use Rattle.theory_reading.specs.Causes.{Result, refused, done, refusal}
@@ -26,7 +26,7 @@ rejects c b = refused (refusal c 1 b)
 -- ---- Places and ranks of faults --------------------------------------------------------------
 
 -- too many options are named before a short work table
-options-first : checkAnswer 33 [] 0 ≡ refused (refusal optionCount 0 0)
+options-first : checkAnswer (optionLimit + 1) [] 0 ≡ refused (refusal optionCount 0 0)
 unfolding checkAnswer
 options-first = refl
 
