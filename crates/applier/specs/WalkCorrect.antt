@@ -23,7 +23,7 @@ use Rattle.theory_engine.specs.RecallCorrect.{recall-told, recall-full, recall-
 use Rattle.theory_combining.specs.EdgeCorrect.{and-none}
 use Rattle.work_table.specs.Table.{getIn}
 use Rattle.work_table.specs.TableLaws.{recordNode, tableOf, table-node}
-use Rattle.work_table.specs.declared.NodeRecord.{NodeRecord}
+use Rattle.node_records.specs.declared.NodeRecord.{NodeRecord}
 use Rattle.meeting.specs.Abstraction.{halfOf, progressOf, kept-as, again-as}
 use Rattle.meeting.specs.declared.Half.{Half}
 use Rattle.meeting.specs.declared.Progress.{Progress}

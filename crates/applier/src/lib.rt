@@ -25,6 +25,8 @@ use meeting::kept;
 use meeting::numbered;
 use meeting::progress_of;
 use meeting::second;
+use node_records::OPTION_LIMIT;
+use node_records::differs;
 use operation_cache::Told;
 use operation_cache::key_of;
 use operation_cache::note;
@@ -33,8 +35,6 @@ use operation_cache::slot;
 use pending_text::push;
 use pending_text::push_tilde;
 use pending_text::wait;
-use work_table::OPTION_LIMIT;
-use work_table::differs;
 use work_table::get as record_at;
 
 // The level of a word, below all options.

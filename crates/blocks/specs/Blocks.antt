@@ -17,7 +17,7 @@ use Rattle.theory_reading.specs.Covered.{parity}
 use Rattle.theory_reading.specs.TableWalk.{tableWalk}
 use Rattle.theory_reading.specs.Reaching.{At, decided-passed}
 use Rattle.work_table.specs.TableLaws.{tableOf}
-use Rattle.work_table.specs.declared.Edge.{Edge}
+use Rattle.node_records.specs.declared.Edge.{Edge}
 use Rattle.scanner.specs.Abstraction.{refOf, openOf, insideOpen, opensOf, deepOf, openList}
 use Rattle.scanner.specs.PlaceLaws.{deep-self}
 use Rattle.reader.specs.Simulation.{child-of}

@@ -11,6 +11,11 @@ ghost use Rattle.blocks.specs.Load.{loadIn, refusedLoad, wholeBy, load};
 use checker::Checking;
 use checker::checked_at;
 use checker::early;
+use node_records::Edge;
+use node_records::OPTION_LIMIT;
+use node_records::TABLE_LIMIT;
+use node_records::WORD_LIMIT;
+use node_records::differs;
 use reader::Cursor;
 use reader::Reached;
 use reader::first_cursor;
@@ -19,11 +24,6 @@ use scanner::Cause;
 use scanner::Context;
 use scanner::OPEN_LIMIT;
 use scanner::context_number;
-use work_table::Edge;
-use work_table::OPTION_LIMIT;
-use work_table::TABLE_LIMIT;
-use work_table::WORD_LIMIT;
-use work_table::differs;
 use work_table::get;
 
 // ---- What was passed last

@@ -8,6 +8,9 @@ ghost use Rattle.scanner.specs.Abstraction.{causeOf};
 ghost use Rattle.reader.specs.OpenCells.{reachedIn};
 ghost use Rattle.checker.specs.Answers.{refusalOf, checkingOf};
 ghost use Rattle.checker.specs.CheckCorrect.{checkedBy};
+use node_records::OPTION_LIMIT;
+use node_records::TABLE_LIMIT;
+use node_records::WORD_LIMIT;
 use reader::Reached;
 use reader::first_cursor;
 use reader::read_on;
@@ -15,9 +18,6 @@ use scanner::Cause;
 use scanner::Context;
 use scanner::OPEN_LIMIT;
 use scanner::is_context;
-use work_table::OPTION_LIMIT;
-use work_table::TABLE_LIMIT;
-use work_table::WORD_LIMIT;
 use work_table::clear;
 
 // Why a call is turned down: the cause, the stream (0: none) and the byte.

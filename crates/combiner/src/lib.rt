@@ -26,6 +26,10 @@ use edges::operate;
 use meeting::Writing;
 use meeting::Written;
 use meeting::ending_of;
+use node_records::OPTION_LIMIT;
+use node_records::TABLE_LIMIT;
+use node_records::differs;
+use node_records::least;
 use operands::Begun;
 use operands::Operand;
 use operands::begin;
@@ -37,11 +41,7 @@ use scanner::OPEN_LIMIT;
 use text_walk::Task;
 use text_walk::stream;
 use unique_table::clear;
-use work_table::OPTION_LIMIT;
-use work_table::TABLE_LIMIT;
 use work_table::clear as clear_table;
-use work_table::differs;
-use work_table::least;
 
 fn answer(n: u32, covered: u64, x: Sent) -> Written
     requires { ⌜ n ≤ optionLimit ⌝ }

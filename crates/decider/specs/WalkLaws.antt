@@ -15,9 +15,9 @@ use Rattle.theory_reading.specs.TableWalk.{tableWalk, tableWalk-zero, tableWalk
 use Rattle.work_table.specs.Table.{getIn}
 use Rattle.work_table.specs.TableLaws.{recordNode, tableOf, table-node}
 use Rattle.theory_lists.specs.Powers.{few-words}
-use Rattle.work_table.specs.Edges.{firstEdge, secondEdge}
-use Rattle.work_table.specs.declared.Edge.{Edge}
-use Rattle.work_table.specs.declared.NodeRecord.{NodeRecord}
+use Rattle.node_records.specs.Edges.{firstEdge, secondEdge}
+use Rattle.node_records.specs.declared.Edge.{Edge}
+use Rattle.node_records.specs.declared.NodeRecord.{NodeRecord}
 
 -- the node of level i that e stands for, under the options from level i on
 abbrev pub edgeWalk : List Node → ℕ → Edge → List Bool → Decision

@@ -17,20 +17,20 @@ use blocks::edge_of;
 use checker::Refusal;
 use checker::early;
 use checker::late;
+use node_records::Edge;
+use node_records::OPTION_LIMIT;
+use node_records::TABLE_LIMIT;
+use node_records::WORD_LIMIT;
+use node_records::first_edge;
+use node_records::second_edge;
 use reader::Cursor;
 use reader::Reached;
 use reader::first_cursor;
 use reader::read_on;
 use scanner::Cause;
 use scanner::OPEN_LIMIT;
-use work_table::Edge;
-use work_table::OPTION_LIMIT;
-use work_table::TABLE_LIMIT;
-use work_table::WORD_LIMIT;
 use work_table::clear;
-use work_table::first_edge;
 use work_table::get;
-use work_table::second_edge;
 
 pub enum Verdict {
     No,

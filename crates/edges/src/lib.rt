@@ -8,13 +8,13 @@ ghost use Rattle.theory_writing.specs.Run.{digitAt, operate};
 ghost use Rattle.work_table.specs.Table.{getIn};
 ghost use Rattle.theory_engine.specs.Applying.{firstSource, secondSource, fixed};
 ghost use Rattle.edges.specs.Abstraction.{edgeIn};
+use node_records::Edge as NodeEdge;
+use node_records::NodeRecord;
+use node_records::differs;
+use node_records::first_edge as first_child;
+use node_records::second_edge as second_child;
+use node_records::skips;
 use unique_table::either;
-use work_table::Edge as NodeEdge;
-use work_table::NodeRecord;
-use work_table::differs;
-use work_table::first_edge as first_child;
-use work_table::second_edge as second_child;
-use work_table::skips;
 
 // ---- The operator
 

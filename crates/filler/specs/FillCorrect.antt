@@ -34,7 +34,7 @@ use Rattle.checker.specs.CheckCorrect.{lateOf, Reads, unless-read, table-after}
 use Rattle.blocks.specs.Blocks.{edgeAt}
 use Rattle.reader.specs.ReadOn.{startCursor, readFrom, read-called}
 use Rattle.blocks.specs.BlockLaws.{passed-from, passed-covers}
-use Rattle.work_table.specs.declared.Edge.{Edge}
+use Rattle.node_records.specs.declared.Edge.{Edge}
 use Rattle.reader.specs.declared.Cursor.{Cursor}
 use Rattle.scanner.specs.declared.Opens.{Opens}
 use Rattle.reader.specs.declared.Run.{Run}

@@ -17,12 +17,12 @@ use Rattle.theory_reading.specs.Nodes.{Node, node}
 use Rattle.theory_reading.specs.Deciding.{Trace}
 use Rattle.theory_reading.specs.Calls.{Verdict, isNo, isYes, notYet, digitOf, verdict, wordsFrom, bytesFrom}
 use Rattle.theory_reading.specs.Filling.{withWord, putNode}
-use Rattle.work_table.specs.declared.Edge.{Edge}
-use Rattle.work_table.specs.declared.NodeRecord.{NodeRecord}
+use Rattle.node_records.specs.declared.Edge.{Edge}
+use Rattle.node_records.specs.declared.NodeRecord.{NodeRecord}
 use Rattle.work_table.specs.Table.{getIn}
 use Rattle.work_table.specs.TableLaws.{tableOf, table-node}
 use Rattle.theory_lists.specs.Powers.{few-words}
-use Rattle.work_table.specs.Edges.{firstEdge, secondEdge}
+use Rattle.node_records.specs.Edges.{firstEdge, secondEdge}
 use Rattle.filler.specs.Truths.{withWordIn, putNodeIn}
 
 -- ---- Bytes -----------------------------------------------------------------------------------

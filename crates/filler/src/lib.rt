@@ -19,20 +19,20 @@ use blocks::edge_of;
 use checker::Refusal;
 use checker::early;
 use checker::late;
+use node_records::Edge;
+use node_records::TABLE_LIMIT;
+use node_records::TRUTH_TABLE_LEAST;
+use node_records::TRUTH_TABLE_MOST;
+use node_records::WORD_LIMIT;
+use node_records::first_edge;
+use node_records::second_edge;
 use reader::Cursor;
 use reader::first_cursor;
 use reader::read_on;
 use scanner::Cause;
 use scanner::OPEN_LIMIT;
-use work_table::Edge;
-use work_table::TABLE_LIMIT;
-use work_table::TRUTH_TABLE_LEAST;
-use work_table::TRUTH_TABLE_MOST;
-use work_table::WORD_LIMIT;
 use work_table::clear;
-use work_table::first_edge;
 use work_table::get;
-use work_table::second_edge;
 
 // What filling answers: the covered count.
 pub enum Filling {

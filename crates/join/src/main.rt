@@ -10,8 +10,8 @@ use job::JOB_LIMIT;
 use job::Parsing;
 use libc::STDIN_FILENO;
 use libc::STDOUT_FILENO;
+use node_records::TABLE_LIMIT;
 use report::LINE_LIMIT;
-use work_table::TABLE_LIMIT;
 
 // A job has at most JOB_LIMIT bytes; one more shows that the input has more.
 const INPUT_LIMIT: usize = JOB_LIMIT + 1;

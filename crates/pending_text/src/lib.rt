@@ -8,7 +8,7 @@ ghost use Rattle.theory_reading.specs.Bytes.{blank};
 ghost use Rattle.theory_writing.specs.Texts.{decimal, tildeIf, storing};
 ghost use Rattle.theory_engine.specs.Pending.{pushAll, waitIn, closeIn};
 ghost use Rattle.theory_engine.specs.Engine.{sendText};
-use work_table::least;
+use node_records::least;
 
 // So many bytes wait at most, in round numbers: `waiting-room`.
 pub const WAITING_LIMIT: usize = 2400;

@@ -40,7 +40,7 @@ use Rattle.scanner.specs.declared.Outcome.the-variants.{Got, Fault, RanOut}
 use Rattle.scanner.specs.declared.Place.{Place}
 use Rattle.scanner.specs.declared.Ref.{Ref}
 use Rattle.reader.specs.declared.Run.{Run}
-use Rattle.work_table.specs.declared.NodeRecord.{NodeRecord}
+use Rattle.node_records.specs.declared.NodeRecord.{NodeRecord}
 use Rattle.reader.specs.declared.Taken.{Taken}
 use Rattle.reader.specs.declared.Iteration.{Iteration}
 use Rattle.reader.specs.Taking.{failsOf, isKeptOf, isBadOf, nextStamp, storedRun, takenOf}

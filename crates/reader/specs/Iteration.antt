@@ -16,7 +16,7 @@ use Rattle.scanner.specs.declared.NextToken.{NextToken}
 use Rattle.scanner.specs.declared.Open.{Open}
 use Rattle.scanner.specs.declared.Ref.{Ref}
 use Rattle.reader.specs.declared.Run.{Run}
-use Rattle.work_table.specs.declared.NodeRecord.{NodeRecord}
+use Rattle.node_records.specs.declared.NodeRecord.{NodeRecord}
 use Rattle.reader.specs.declared.Taken.{Taken}
 use Rattle.reader.specs.Taking.{takenOf}
 use Rattle.work_table.specs.Table.{getIn, storeAt}

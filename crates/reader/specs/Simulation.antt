@@ -26,7 +26,7 @@ use Rattle.scanner.specs.declared.Open.{Open}
 use Rattle.scanner.specs.declared.Ref.{Ref}
 use Rattle.reader.specs.declared.Pair.{Pair}
 use Rattle.reader.specs.declared.Run.{Run}
-use Rattle.work_table.specs.declared.NodeRecord.{NodeRecord}
+use Rattle.node_records.specs.declared.NodeRecord.{NodeRecord}
 use Rattle.work_table.specs.TableLaws.{recordNode}
 use Rattle.reader.specs.declared.Taken.{Taken}
 use Rattle.reader.specs.Taking.{goesOf, failsOf, movedTo, passedTo, sizedTo, foundTo, isKeptOf, closedTwo, closedTo, isBadOf, nextStamp}

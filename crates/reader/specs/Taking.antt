@@ -13,7 +13,7 @@ use Rattle.scanner.specs.declared.Context.{Context}
 use Rattle.scanner.specs.declared.Open.{Open}
 use Rattle.scanner.specs.declared.Ref.{Ref}
 use Rattle.reader.specs.declared.Run.{Run}
-use Rattle.work_table.specs.declared.NodeRecord.{NodeRecord}
+use Rattle.node_records.specs.declared.NodeRecord.{NodeRecord}
 use Rattle.reader.specs.declared.Taken.{Taken}
 
 abbrev pub goesOf : Run → Taken

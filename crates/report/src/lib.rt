@@ -16,7 +16,7 @@ use checker::Refusal;
 use meeting::Ending;
 use meeting::Writing;
 use meeting::Written;
-use work_table::OPTION_LIMIT;
+use node_records::OPTION_LIMIT;
 
 // The last line has room.
 pub const LINE_LIMIT: usize = 80;

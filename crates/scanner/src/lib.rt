@@ -525,7 +525,7 @@ fn stage_of(m: Context) -> Stage
     }
 }
 
-// The marks by number, in the order of their names
+// The contexts by number, in the order of their names
 pub fn context_number(m: Context) -> u8
     ensures { λ r. ⌜ r ≡ contextNumber (contextOf m) ⌝ }
 {

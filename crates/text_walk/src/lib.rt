@@ -23,6 +23,8 @@ use meeting::half_of;
 use meeting::progress_after;
 use meeting::progress_of;
 use meeting::second;
+use node_records::OPTION_LIMIT;
+use node_records::differs;
 use operands::Begun;
 use operands::Operand;
 use operands::edge_of;
@@ -36,8 +38,6 @@ use pending_text::push_tilde;
 use pending_text::send;
 use pending_text::wait;
 use scanner::OPEN_LIMIT;
-use work_table::OPTION_LIMIT;
-use work_table::differs;
 
 // ---- The walk
 

@@ -13,9 +13,9 @@ use Rattle.theory_engine.specs.Applying.{Source, firstSource, secondSource, fix
 use Rattle.theory_engine.specs.Operands.{Operand, atEdge, edgeOf, settle, firstOperand}
 use Rattle.work_table.specs.Table.{getIn}
 use Rattle.work_table.specs.TableLaws.{recordNode, tableOf, table-node}
-use Rattle.work_table.specs.Edges.{firstEdge, secondEdge}
-use Rattle.work_table.specs.declared.Edge.{Edge}
-use Rattle.work_table.specs.declared.NodeRecord.{NodeRecord}
+use Rattle.node_records.specs.Edges.{firstEdge, secondEdge}
+use Rattle.node_records.specs.declared.Edge.{Edge}
+use Rattle.node_records.specs.declared.NodeRecord.{NodeRecord}
 
 -- ---- The operator ----------------------------------------------------------------------------
 

@@ -8,7 +8,7 @@ ghost use Rattle.theory_engine.specs.Cells.{cell, putCell};
 ghost use Rattle.theory_engine.specs.Hashing.{stir};
 ghost use Rattle.theory_engine.specs.Recycling.{oneMore, unlinkIn, linkIn, freeOf, bucketOf, fitsAt, searchIn, findIn, insertIn, removeIn, moreIn};
 ghost use Rattle.theory_engine.specs.Recycling.{fewerIn, orphanIn, orphansIn, releaseIn, adoptIn, noteIn, placeIn, storeIn, nextIn};
-use work_table::TABLE_LIMIT;
+use node_records::TABLE_LIMIT;
 
 // ---- Records: the cells of a number are 0 level, 1 and 2 children, 3 complement, 4 stamp, 5 parents, 6 and 7 the numbers after and before it in the
 // queue, 8 and 9 those in its bucket; 10 and 11 are the first and the last number of the bucket that has this place.

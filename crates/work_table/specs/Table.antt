@@ -12,7 +12,7 @@ use lib.Dec.{ltb, eqb}
 use lib.ListN.{length, getD, set, drop, replicate, drop-of-length-le, List·getD-eq-default}
 use mathlib.Core.Logic.{⊎-elim}
 use Rattle.theory_lists.specs.Lists.{decide-le}
-use Rattle.work_table.specs.declared.NodeRecord.{NodeRecord}
+use Rattle.node_records.specs.declared.NodeRecord.{NodeRecord}
 
 abbrev pub noNodeRecord : NodeRecord
 noNodeRecord = record { level = 0; first = 0; second = 0; complement = false; stamp = 0; parents = 0 }

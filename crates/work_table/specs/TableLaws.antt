@@ -16,7 +16,7 @@ use Rattle.theory_reading.specs.Limits.{tableLimit}
 use Rattle.theory_reading.specs.LimitLaws.{few-parents}
 use Rattle.theory_reading.specs.Nodes.{Node, newNode, noNode, node}
 use Rattle.theory_reading.specs.ParentCounts.{edges, parents, parents-set, parents-most, parents-fresh, edges-parents}
-use Rattle.work_table.specs.declared.NodeRecord.{NodeRecord}
+use Rattle.node_records.specs.declared.NodeRecord.{NodeRecord}
 use Rattle.work_table.specs.Table.{noNodeRecord, recordOf, listOf, getIn, putAt, countedTo, countedList, countAt, storeAt, noRecord, clearTo}
 use Rattle.work_table.specs.Table.{get-above, get-here, put-none, put-here, count-none, count-above, count-here}
 

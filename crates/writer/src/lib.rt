@@ -24,6 +24,10 @@ use meeting::numbered;
 use meeting::progress_after;
 use meeting::progress_of;
 use meeting::second;
+use node_records::TABLE_LIMIT;
+use node_records::TRUTH_TABLE_LEAST;
+use node_records::TRUTH_TABLE_MOST;
+use node_records::differs;
 use pending_text::Sent;
 use pending_text::WAITING_LIMIT;
 use pending_text::push;
@@ -33,10 +37,6 @@ use pending_text::send;
 use pending_text::wait;
 use scanner::Cause;
 use unique_table::clear;
-use work_table::TABLE_LIMIT;
-use work_table::TRUTH_TABLE_LEAST;
-use work_table::TRUTH_TABLE_MOST;
-use work_table::differs;
 
 // ---- The walk over a truth table
 

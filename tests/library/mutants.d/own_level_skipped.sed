@@ -1,2 +1,2 @@
-# crates/work_table/src/lib.rt
+# crates/node_records/src/lib.rt
 /^pub fn skips/,/^}/s/^    i < l/    i <= l/

@@ -1,2 +1,2 @@
-# crates/work_table/src/lib.rt
+# crates/node_records/src/lib.rt
 s/complement: differs(x.complement, e.complement),/complement: e.complement,/

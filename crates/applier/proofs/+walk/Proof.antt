@@ -19,7 +19,7 @@ use Rattle.work_table.proofs.get.Reads as get
 use Rattle.edges.proofs.second_edge.Reads as second-edge
 use Rattle.operation_cache.proofs.slot.Reads as slot
 use Rattle.meeting.proofs.constant.Reads as constant
-use Rattle.work_table.proofs.differs.Reads as differs
+use Rattle.node_records.proofs.differs.Reads as differs
 use Rattle.meeting.proofs.half_of.Reads as half-of
 use Rattle.meeting.proofs.kept.Reads as kept
 use Rattle.meeting.proofs.numbered.Reads as numbered

@@ -2,7 +2,7 @@
 -- Assumes nothing.
 use mathlib.Core.Path.{ap}
 use Rattle.reader.specs.OpenCells.{opensIn}
-use Rattle.work_table.specs.declared.Edge.{Edge}
+use Rattle.node_records.specs.declared.Edge.{Edge}
 use borrow.Author.Needs.{needs}
 use Rattle.blocks.proofs.block_of.Statement.{statement}
 use Rattle.blocks.proofs.block_of.Tie as tie

@@ -3,7 +3,7 @@
 use mathlib.Core.Path.{refl, sym, ap, _∙_}
 use lib.Dec.{eqb}
 use borrow.Author.Tests.{ne-eqb, eq-eqb, not-true, not-false}
-use Rattle.work_table.specs.declared.NodeRecord.{NodeRecord}
+use Rattle.node_records.specs.declared.NodeRecord.{NodeRecord}
 use borrow.Author.Needs.{needs}
 use Rattle.blocks.proofs.is_whole.Statement.{statement}
 use Rattle.blocks.proofs.is_whole.Tie as tie

@@ -15,9 +15,9 @@ use Rattle.decider.proofs.+walk_down.Tie.{close}
 use Rattle.decider.proofs.walk_down.Reads as walk-down
 use Rattle.decider.proofs.walk_down.Kinds as walk-down-kinds
 use Rattle.decider.proofs.+walk_down.Lts-walk_down as walk-down-lts
-use Rattle.work_table.proofs.first_edge.Reads as first-edge
+use Rattle.node_records.proofs.first_edge.Reads as first-edge
 use Rattle.work_table.proofs.get.Reads as get
-use Rattle.work_table.proofs.second_edge.Reads as second-edge
+use Rattle.node_records.proofs.second_edge.Reads as second-edge
 use Rattle.decider.proofs.verdict_of.Reads as verdict-of
 
 abbrev μ : Measures 1 walk-down-kinds.ps ℕ

@@ -7,7 +7,7 @@ use Rattle.theory_reading.specs.Calls.{verdictOf}
 use Rattle.theory_reading.specs.Deciding.{complemented, options}
 use Rattle.theory_reading.specs.TableWalk.{tableWalk}
 use Rattle.work_table.specs.TableLaws.{tableOf}
-use Rattle.work_table.specs.declared.Edge.{Edge}
+use Rattle.node_records.specs.declared.Edge.{Edge}
 use borrow.Author.Needs.{needs}
 use Rattle.decider.proofs.word_at.Statement.{statement}
 use Rattle.decider.proofs.word_at.Tie as tie

@@ -14,10 +14,10 @@ use Rattle.filler.proofs.+fill_node.Tie.{close}
 use Rattle.filler.proofs.fill_node.Reads as fill-node
 use Rattle.filler.proofs.fill_node.Kinds as fill-node-kinds
 use Rattle.filler.proofs.+fill_node.Lts-fill_node as fill-node-lts
-use Rattle.work_table.proofs.first_edge.Reads as first-edge
+use Rattle.node_records.proofs.first_edge.Reads as first-edge
 use Rattle.work_table.proofs.get.Reads as get
 use Rattle.filler.proofs.put_edge.Reads as put-edge
-use Rattle.work_table.proofs.second_edge.Reads as second-edge
+use Rattle.node_records.proofs.second_edge.Reads as second-edge
 
 abbrev μ : Measures 2 fill-node-kinds.ps ℕ
 μ κs a = a .1 .1 .1 .0

@@ -10,7 +10,7 @@ use Rattle.writer.proofs.walk.Kinds as walk-kinds
 use Rattle.writer.proofs.+walk.Lts-walk as walk-lts
 use Rattle.writer.proofs.all_bytes.Reads as all-bytes-reads
 use Rattle.meeting.proofs.constant.Reads as constant-reads
-use Rattle.work_table.proofs.differs.Reads as differs-reads
+use Rattle.node_records.proofs.differs.Reads as differs-reads
 use Rattle.meeting.proofs.half_of.Reads as half-of-reads
 use Rattle.writer.proofs.is_again.Reads as is-again-reads
 use Rattle.meeting.proofs.kept.Reads as kept-reads

@@ -3,8 +3,8 @@ use mathlib.Core.Bool.{cond, _||_}
 use Prim.Native.Nat.{ℕ}
 use lib.Dec.{ltb, eqb}
 use Rattle.theory_lists.specs.Lists.{differ}
-use Rattle.work_table.specs.declared.Edge.{Edge}
-use Rattle.work_table.specs.declared.NodeRecord.{NodeRecord}
+use Rattle.node_records.specs.declared.Edge.{Edge}
+use Rattle.node_records.specs.declared.NodeRecord.{NodeRecord}
 
 -- the children of the node of level i that e stands for; x: the record of its number. Inside brackets `(A)` both are e again
 abbrev pub firstEdge : NodeRecord → ℕ → Edge → Edge

@@ -2,8 +2,8 @@
 -- Assumes nothing.
 use mathlib.Core.Path.{refl, sym, _∙_}
 use borrow.Author.Needs.{needs}
-use Rattle.work_table.proofs.second_edge.Statement.{statement}
-use Rattle.work_table.proofs.second_edge.Tie as tie
+use Rattle.node_records.proofs.second_edge.Statement.{statement}
+use Rattle.node_records.proofs.second_edge.Tie as tie
 
 skips-requires : tie.Need-skips-requires
 skips-requires c κs = search needs

@@ -2,8 +2,8 @@
 -- Assumes nothing.
 use mathlib.Core.Path.{refl}
 use borrow.Author.Tests.{eq-eqb, ne-eqb}
-use Rattle.work_table.proofs.skips.Statement.{statement}
-use Rattle.work_table.proofs.skips.Tie as tie
+use Rattle.node_records.proofs.skips.Statement.{statement}
+use Rattle.node_records.proofs.skips.Tie as tie
 
 returns : tie.Need-returns
 returns c = rw (eq-eqb _ _ (c .if1 .taken)) refl
