@@ -114,7 +114,7 @@ trace n bytes = traceOn (suc (length bytes)) n bytes (traced (goes fresh) (drawi
 
 -- ---- The decision ----------------------------------------------------------------------------
 
--- a node has just ended: the marks from `afterDigit` on
+-- a node has just ended: the contexts from `afterDigit` on
 abbrev pub ended : Context → Bool
 ended m = leb (contextNumber afterDigit) (contextNumber m)
 

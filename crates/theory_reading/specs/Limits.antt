@@ -1,4 +1,4 @@
--- The limits of document 01, each named once. No law but a computed example depends on their values. Assumes nothing.
+-- The limits of document 01, each named once. What laws need of their values stands in LimitLaws. Assumes nothing.
 use Prim.Native.Nat.{ℕ, _+_, _^_}
 
 -- "The option count n is 0 to 32."

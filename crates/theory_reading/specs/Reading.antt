@@ -76,7 +76,7 @@ ending r p = place (p .at) (p .context) (p .opens) r
 abbrev pub passed : ℕ → State → Place → Ref → State
 passed n s q r = state (ending r q) (s .size) (s .covered + wordsAt n (s .place)) (s .complement) (s .table) (s .pair)
 
--- the marks by number, in the order of their names
+-- the contexts by number, in the order of their names
 abbrev pub contextNumber : Context → ℕ
 contextNumber start = 0
 contextNumber lead = 1

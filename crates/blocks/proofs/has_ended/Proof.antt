@@ -1,4 +1,4 @@
--- The marks from `afterDigit` on are those after a node.
+-- The contexts from `afterDigit` on are those after a node.
 -- Assumes nothing.
 use mathlib.Core.Path.{ap₂}
 use lib.Dec.{leb}

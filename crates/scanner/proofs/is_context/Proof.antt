@@ -1,4 +1,4 @@
--- Two marks are the same if their numbers are.
+-- Two contexts are the same if their numbers are.
 -- Assumes nothing.
 use mathlib.Core.Path.{ap₂}
 use lib.Dec.{eqb}
