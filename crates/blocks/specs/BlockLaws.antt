@@ -22,13 +22,13 @@ use Rattle.theory_reading.specs.Settled.{never-some, trace-onward}
 use Rattle.theory_reading.specs.Reaching.{At, at-fault, at-end, at-grows, at-most, at-passes}
 use Rattle.theory_reading.specs.Aligned.{Multiple, at-nested, at-aligned}
 use Rattle.theory_reading.specs.Lasting.{Lasts, Ordered, at-ordered, at-lasts, at-sits}
-use Rattle.scanner.specs.Abstraction.{contextOf, causeOf}
+use Rattle.elements.specs.Abstraction.{contextOf, causeOf}
 use Rattle.reader.specs.Simulation.{child-of}
 use Rattle.work_table.specs.TableLaws.{tableOf}
 use Rattle.reader.specs.Advance.{stateAt, HaltsAt}
 use Rattle.reader.specs.Loop.{Stands, stands-first, stands-covered, PassedLast, Ends, ReachedBy}
 use Rattle.reader.specs.ReadOn.{firstCursor, ReadTo, readAll, read-reaches, read-within}
-use Rattle.scanner.specs.declared.Opens.{Opens}
+use Rattle.elements.specs.declared.Opens.{Opens}
 use Rattle.reader.specs.declared.Run.{Run}
 use Rattle.reader.specs.OpenCells.{ReadReached, ReadCursor}
 use Rattle.blocks.specs.Blocks.{ReadBlock, blockOf, Next, nextOf, nextBlock, word-passed}

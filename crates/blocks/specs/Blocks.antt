@@ -18,14 +18,14 @@ use Rattle.theory_reading.specs.TableWalk.{tableWalk}
 use Rattle.theory_reading.specs.Reaching.{At, decided-passed}
 use Rattle.work_table.specs.TableLaws.{tableOf}
 use Rattle.node_records.specs.declared.Edge.{Edge}
-use Rattle.scanner.specs.Abstraction.{refOf, openOf, insideOpen, opensOf, deepOf, openList}
-use Rattle.scanner.specs.PlaceLaws.{deep-self}
+use Rattle.elements.specs.Abstraction.{refOf, openOf, insideOpen, opensOf, deepOf, openList}
+use Rattle.elements.specs.OpenLaws.{deep-self}
 use Rattle.reader.specs.Simulation.{child-of}
 use Rattle.reader.specs.Advance.{stateAt}
 use Rattle.reader.specs.OpenCells.{ReadReached, ReadCursor, cursorIn}
 use Rattle.reader.specs.Loop.{Ends, ReachedBy}
 use Rattle.reader.specs.ReadOn.{ReadTo, readFrom}
-use Rattle.scanner.specs.declared.Open.{Open}
+use Rattle.elements.specs.declared.Open.{Open}
 use Rattle.blocks.specs.declared.Block.{Block}
 
 -- ---- Definitions -----------------------------------------------------------------------------

@@ -12,7 +12,7 @@ use Rattle.theory_reading.specs.Limits.{optionLimit, openLimit, tableLimit, wor
 use Rattle.theory_reading.specs.Causes as C
 use Rattle.theory_reading.specs.Calls as R
 use Rattle.theory_reading.specs.Deciding.{ended}
-use Rattle.scanner.specs.Abstraction.{contextOf}
+use Rattle.elements.specs.Abstraction.{contextOf}
 use Rattle.work_table.specs.Table.{getIn}
 use Rattle.reader.specs.OpenCells.{ReadReached, cursorIn}
 use Rattle.reader.specs.Loop.{firstRun, firstOpens, stands-first}
@@ -21,7 +21,7 @@ use Rattle.checker.specs.CheckCorrect.{checkedBy}
 use Rattle.reader.specs.ReadOn.{ReadTo, readOn, readAll, firstCursor, startCursor, readFrom, read-within}
 use Rattle.blocks.specs.Blocks.{ReadBlock, blockOf}
 use Rattle.blocks.specs.declared.Loaded.{Loaded}
-use Rattle.scanner.specs.declared.Ref.{Ref}
+use Rattle.elements.specs.declared.Ref.{Ref}
 use Rattle.reader.specs.declared.Cursor.{Cursor}
 
 -- ---- Definitions -----------------------------------------------------------------------------

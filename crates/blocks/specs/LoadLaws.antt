@@ -21,8 +21,8 @@ use Rattle.theory_reading.specs.Covered.{parity, covered}
 use Rattle.theory_reading.specs.TableWalk.{tableWalk}
 use Rattle.theory_reading.specs.Lasting.{Ordered}
 use Rattle.theory_reading.specs.Rooted.{Rooted, reading-ordered, rooted-decides, rooted-deep, rooted-covers}
-use Rattle.scanner.specs.Abstraction.{contextOf, refOf, openList}
-use Rattle.scanner.specs.OpenLaws.{open-none}
+use Rattle.elements.specs.Abstraction.{contextOf, refOf, openList}
+use Rattle.elements.specs.OpenLaws.{open-none}
 use Rattle.work_table.specs.Table.{noRecord}
 use Rattle.work_table.specs.TableLaws.{tableOf}
 use Rattle.reader.specs.Simulation.{child-of}

@@ -2,7 +2,7 @@
 use mathlib.Core.Bool.{cond}
 use Rattle.theory_reading.specs.Causes as C
 use Rattle.theory_reading.specs.Calls as R
-use Rattle.scanner.specs.Abstraction.{causeOf}
+use Rattle.elements.specs.Abstraction.{causeOf}
 use Rattle.checker.specs.declared.Refusal.{Refusal}
 use Rattle.checker.specs.declared.Checked.{Checked}
 use Rattle.checker.specs.declared.Checking.{Checking}

@@ -15,7 +15,7 @@ use Rattle.theory_reading.specs.Settled.{fault-leaves}
 use Rattle.theory_reading.specs.CallLaws.{zeroes-table, zeroes-done}
 use Rattle.theory_reading.specs.Reaching.{At, at-fault, at-end, at-covered}
 use Rattle.work_table.specs.Table.{noRecord, clearTo}
-use Rattle.scanner.specs.Abstraction.{contextOf, causeOf}
+use Rattle.elements.specs.Abstraction.{contextOf, causeOf}
 use Rattle.reader.specs.Advance.{stateAt, HaltsAt}
 use Rattle.reader.specs.OpenCells.{ReadReached}
 use Rattle.reader.specs.Loop.{Ends, ReachedBy}

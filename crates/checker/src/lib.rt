@@ -4,20 +4,20 @@ ghost use mathlib.Core.List.{[]};
 ghost use Rattle.theory_reading.specs.Causes.{refusal};
 ghost use Rattle.theory_reading.specs.Calls.{Checks};
 ghost use Rattle.work_table.specs.Table.{noRecord};
-ghost use Rattle.scanner.specs.Abstraction.{causeOf};
+ghost use Rattle.elements.specs.Abstraction.{causeOf};
 ghost use Rattle.reader.specs.OpenCells.{reachedIn};
 ghost use Rattle.checker.specs.Answers.{refusalOf, checkingOf};
 ghost use Rattle.checker.specs.CheckCorrect.{checkedBy};
+use elements::Cause;
+use elements::Context;
+use elements::OPEN_LIMIT;
+use elements::is_context;
 use node_records::OPTION_LIMIT;
 use node_records::TABLE_LIMIT;
 use node_records::WORD_LIMIT;
 use reader::Reached;
 use reader::first_cursor;
 use reader::read_on;
-use scanner::Cause;
-use scanner::Context;
-use scanner::OPEN_LIMIT;
-use scanner::is_context;
 use work_table::clear;
 
 // Why a call is turned down: the cause, the stream (0: none) and the byte.

@@ -16,7 +16,7 @@ use Rattle.theory_reading.specs.Calls as R
 use Rattle.theory_reading.specs.Prefix.{trace-reading}
 use Rattle.theory_reading.specs.Reaching.{decided-not}
 use Rattle.work_table.specs.Table.{noRecord}
-use Rattle.scanner.specs.Abstraction.{causeOf}
+use Rattle.elements.specs.Abstraction.{causeOf}
 use Rattle.reader.specs.Advance.{stateAt}
 use Rattle.reader.specs.OpenCells.{ReadReached}
 use Rattle.reader.specs.Loop.{Ends, ReachedBy}

@@ -17,6 +17,8 @@ use blocks::edge_of;
 use checker::Refusal;
 use checker::early;
 use checker::late;
+use elements::Cause;
+use elements::OPEN_LIMIT;
 use node_records::Edge;
 use node_records::OPTION_LIMIT;
 use node_records::TABLE_LIMIT;
@@ -27,8 +29,6 @@ use reader::Cursor;
 use reader::Reached;
 use reader::first_cursor;
 use reader::read_on;
-use scanner::Cause;
-use scanner::OPEN_LIMIT;
 use work_table::clear;
 use work_table::get;
 

@@ -22,7 +22,7 @@ use Rattle.theory_reading.specs.Settled.{never-some}
 use Rattle.theory_reading.specs.Passing.{startTrace}
 use Rattle.theory_reading.specs.Filling.{putNode}
 use Rattle.theory_reading.specs.Reaching.{At, at-fault, at-end, at-end-trace, at-within, at-most, filled-first, filled-alike, filled-on}
-use Rattle.scanner.specs.Abstraction.{refOf, causeOf, openList}
+use Rattle.elements.specs.Abstraction.{refOf, causeOf, openList}
 use Rattle.work_table.specs.Table.{noRecord}
 use Rattle.work_table.specs.TableLaws.{tableOf}
 use Rattle.reader.specs.Simulation.{child-of}
@@ -36,7 +36,7 @@ use Rattle.reader.specs.ReadOn.{startCursor, readFrom, read-called}
 use Rattle.blocks.specs.BlockLaws.{passed-from, passed-covers}
 use Rattle.node_records.specs.declared.Edge.{Edge}
 use Rattle.reader.specs.declared.Cursor.{Cursor}
-use Rattle.scanner.specs.declared.Opens.{Opens}
+use Rattle.elements.specs.declared.Opens.{Opens}
 use Rattle.reader.specs.declared.Run.{Run}
 use Rattle.reader.specs.OpenCells.{ReadReached, opensIn}
 

@@ -19,6 +19,8 @@ use blocks::edge_of;
 use checker::Refusal;
 use checker::early;
 use checker::late;
+use elements::Cause;
+use elements::OPEN_LIMIT;
 use node_records::Edge;
 use node_records::TABLE_LIMIT;
 use node_records::TRUTH_TABLE_LEAST;
@@ -29,8 +31,6 @@ use node_records::second_edge;
 use reader::Cursor;
 use reader::first_cursor;
 use reader::read_on;
-use scanner::Cause;
-use scanner::OPEN_LIMIT;
 use work_table::clear;
 use work_table::get;
 

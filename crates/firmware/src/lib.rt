@@ -2,7 +2,7 @@
 ghost use mathlib.Core.Path.{_≡_};
 ghost use Rattle.theory_lists.specs.Lists.{bit};
 ghost use Rattle.theory_reading.specs.Causes.{causeRow};
-ghost use Rattle.scanner.specs.Abstraction.{causeOf};
+ghost use Rattle.elements.specs.Abstraction.{causeOf};
 ghost use Rattle.checker.specs.Answers.{checkingOf};
 ghost use Rattle.decider.specs.Answers.{verdictsOf, decidingOf};
 ghost use Rattle.filler.specs.Answers.{fillingOf};
@@ -10,8 +10,8 @@ ghost use Rattle.firmware.specs.Numbers.{verdictNumber, checkedNumbers, 
 use checker::Checking;
 use decider::Deciding;
 use decider::Verdict;
+use elements::Cause;
 use filler::Filling;
-use scanner::Cause;
 
 #[repr(C)]
 pub struct RuleChecked {

@@ -10,7 +10,7 @@ use Rattle.reader.specs.ReadOn.{startCursor}
 use Rattle.blocks.specs.Blocks.{ReadBlock, blockIn}
 use Rattle.reader.specs.OpenCells.{cursorIn}
 use Rattle.blocks.specs.declared.Block.{Block}
-use Rattle.scanner.specs.declared.Opens.{Opens}
+use Rattle.elements.specs.declared.Opens.{Opens}
 use Rattle.operands.specs.declared.Operand.{Operand}
 use Rattle.operands.specs.declared.Begun.{Begun}
 

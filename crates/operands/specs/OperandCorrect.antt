@@ -12,7 +12,7 @@ use Rattle.theory_combining.specs.EdgeCorrect.{first-edge}
 use Rattle.reader.specs.ReadOn.{startCursor, cursor-first}
 use Rattle.blocks.specs.Blocks.{Next, nextBlock, ReadBlock}
 use Rattle.blocks.specs.declared.Block.{Block}
-use Rattle.scanner.specs.declared.Opens.{Opens}
+use Rattle.elements.specs.declared.Opens.{Opens}
 use Rattle.reader.specs.OpenCells.{ReadCursor, cursorIn}
 use Rattle.reader.specs.declared.Cursor.{Cursor}
 use Rattle.edges.specs.Abstraction.{edgeIn}

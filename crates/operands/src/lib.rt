@@ -6,15 +6,15 @@ ghost use Prim.Native.Nat.{ℕ, _+_};
 ghost use Rattle.theory_engine.specs.Operands.{settle, firstOperand, secondOperand};
 ghost use Rattle.theory_combining.specs.BlockReaders.{deepOf, sourceOf, nextReader};
 ghost use Rattle.blocks.specs.Blocks.{blockIn};
-ghost use Rattle.scanner.specs.declared.Opens.{Opens};
+ghost use Rattle.elements.specs.declared.Opens.{Opens};
 ghost use Rattle.operands.specs.Abstraction.{operandOn, operandOf, begunIn, readBy, arrived, begunFrom};
 use blocks::Block;
 use blocks::next_block;
 use edges::Edge;
 use edges::first_edge;
 use edges::second_edge;
+use elements::OPEN_LIMIT;
 use reader::first_cursor;
-use scanner::OPEN_LIMIT;
 use work_table::get as record_at;
 
 // An input at a part: inside its text, at the block that was read last, which begins with the part and is smaller; or at an edge

@@ -14,7 +14,7 @@ use Rattle.theory_reading.specs.Bytes.{colon}
 use Rattle.theory_reading.specs.Nodes.{Node, noNode, node, stamp, terminal, entry, temporary, bars}
 use Rattle.theory_reading.specs.Causes.{notStorable}
 use Rattle.theory_reading.specs.Element as T
-use Rattle.scanner.specs.Kinds.{kindTable}
+use Rattle.kinds.specs.Kinds.{kindTable}
 use Rattle.scanner.specs.ScannedToken as G
 use Rattle.theory_reading.specs.Reading.{State, Reading, goes, fails, isStart, isTwo, barredColon, firstDigit, withElement, after, advance}
 use Rattle.theory_reading.specs.Deciding.{drawing, Trace}
@@ -23,22 +23,27 @@ use Rattle.theory_lists.specs.Lookups.{lookup-inside}
 use Rattle.theory_reading.specs.StepLaws.{AheadBy, digitPlace, step-ahead}
 use Rattle.theory_reading.specs.ParentCounts.{parents}
 use Rattle.scanner.specs.Capped.{capOutcome, capStep}
-use Rattle.scanner.specs.Abstraction.{contextOf, refOf, elementOf, causeOf, outcomeOf, outcomeIn, numberOf, openOf, insideOpen, opensOf, deepOf}
-use Rattle.scanner.specs.Abstraction.{openList, sideOf, lowAt, highAt, nextToken, nextTokenView, NextTokenView}
-use Rattle.scanner.specs.OpenLaws.{open-length, low-suc, Begun, Firm, scan-firm}
-use Rattle.scanner.specs.PlaceLaws.{deep-self, token-depth, place-step}
-use Rattle.scanner.specs.declared.Cause.{Cause}
-use Rattle.scanner.specs.declared.Cause.the-variants.{WrongByte, NotStorable, BadNumber}
-use Rattle.scanner.specs.declared.Element.{Element}
-use Rattle.scanner.specs.declared.Element.the-variants as E
+use Rattle.elements.specs.Abstraction.{contextOf, refOf, elementOf, causeOf, outcomeOf, openOf, insideOpen, opensOf, deepOf}
+use Rattle.scanner.specs.TokenView.{outcomeIn, numberOf}
+use Rattle.elements.specs.Abstraction.{openList, lowAt, highAt}
+use Rattle.scanner.specs.TokenView.{sideOf, nextToken, nextTokenView, NextTokenView}
+use Rattle.elements.specs.OpenLaws.{open-length, low-suc}
+use Rattle.scanner.specs.ChangeLaws.{Begun, Firm, scan-firm}
+use Rattle.elements.specs.OpenLaws.{deep-self}
+use Rattle.scanner.specs.TokenLaws.{token-depth}
+use Rattle.places.specs.PlaceLaws.{place-step}
+use Rattle.elements.specs.declared.Cause.{Cause}
+use Rattle.elements.specs.declared.Cause.the-variants.{WrongByte, NotStorable, BadNumber}
+use Rattle.elements.specs.declared.Element.{Element}
+use Rattle.elements.specs.declared.Element.the-variants as E
 use Rattle.scanner.specs.declared.NextToken.{NextToken}
-use Rattle.scanner.specs.declared.Context.{Context}
-use Rattle.scanner.specs.declared.Open.{Open}
-use Rattle.scanner.specs.declared.Opens.{Opens}
-use Rattle.scanner.specs.declared.Outcome.{Outcome}
-use Rattle.scanner.specs.declared.Outcome.the-variants.{Got, Fault, RanOut}
-use Rattle.scanner.specs.declared.Place.{Place}
-use Rattle.scanner.specs.declared.Ref.{Ref}
+use Rattle.elements.specs.declared.Context.{Context}
+use Rattle.elements.specs.declared.Open.{Open}
+use Rattle.elements.specs.declared.Opens.{Opens}
+use Rattle.elements.specs.declared.Outcome.{Outcome}
+use Rattle.elements.specs.declared.Outcome.the-variants.{Got, Fault, RanOut}
+use Rattle.places.specs.declared.Place.{Place}
+use Rattle.elements.specs.declared.Ref.{Ref}
 use Rattle.reader.specs.declared.Run.{Run}
 use Rattle.node_records.specs.declared.NodeRecord.{NodeRecord}
 use Rattle.reader.specs.declared.Taken.{Taken}

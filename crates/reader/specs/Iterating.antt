@@ -15,23 +15,24 @@ use Rattle.theory_reading.specs.Limits.{openLimit}
 use Rattle.theory_reading.specs.Causes as C
 use Rattle.theory_reading.specs.Element as T
 use Rattle.theory_reading.specs.StepLaws.{digitPlace}
-use Rattle.scanner.specs.Kinds.{kindTable}
+use Rattle.kinds.specs.Kinds.{kindTable}
 use Rattle.scanner.specs.ScannedToken as G
 use Rattle.scanner.specs.Capped.{capOutcome}
-use Rattle.scanner.specs.Abstraction.{contextOf, causeOf, elementOf, outcomeOf, outcomeIn, numberOf, outcomeBy, deepOf, sideOf, nextToken}
-use Rattle.scanner.specs.Abstraction.{nextTokenView, NextTokenView}
-use Rattle.scanner.specs.PlaceLaws.{token-depth}
-use Rattle.scanner.specs.declared.Cause.{Cause}
-use Rattle.scanner.specs.declared.Cause.the-variants.{OptionCount, OperatorCode, SizeToWrite, WorkTable, WordRange, TruthTable, WrongByte}
-use Rattle.scanner.specs.declared.Cause.the-variants.{DeclaredSize, TooDeep, NotInTable, OtherLevel, NotStorable, BadNumber}
-use Rattle.scanner.specs.declared.Element.{Element}
-use Rattle.scanner.specs.declared.Element.the-variants as E
+use Rattle.elements.specs.Abstraction.{contextOf, causeOf, elementOf, outcomeOf, deepOf}
+use Rattle.scanner.specs.TokenView.{outcomeIn, numberOf, outcomeBy, sideOf, nextToken}
+use Rattle.scanner.specs.TokenView.{nextTokenView, NextTokenView}
+use Rattle.scanner.specs.TokenLaws.{token-depth}
+use Rattle.elements.specs.declared.Cause.{Cause}
+use Rattle.elements.specs.declared.Cause.the-variants.{OptionCount, OperatorCode, SizeToWrite, WorkTable, WordRange, TruthTable, WrongByte}
+use Rattle.elements.specs.declared.Cause.the-variants.{DeclaredSize, TooDeep, NotInTable, OtherLevel, NotStorable, BadNumber}
+use Rattle.elements.specs.declared.Element.{Element}
+use Rattle.elements.specs.declared.Element.the-variants as E
 use Rattle.scanner.specs.declared.NextToken.{NextToken}
-use Rattle.scanner.specs.declared.Context.{Context}
-use Rattle.scanner.specs.declared.Context.the-variants as M
-use Rattle.scanner.specs.declared.Open.{Open}
-use Rattle.scanner.specs.declared.Outcome.{Outcome}
-use Rattle.scanner.specs.declared.Outcome.the-variants.{Got, Fault, RanOut}
+use Rattle.elements.specs.declared.Context.{Context}
+use Rattle.elements.specs.declared.Context.the-variants as M
+use Rattle.elements.specs.declared.Open.{Open}
+use Rattle.elements.specs.declared.Outcome.{Outcome}
+use Rattle.elements.specs.declared.Outcome.the-variants.{Got, Fault, RanOut}
 use Rattle.reader.specs.declared.Run.{Run}
 use Rattle.scanner.specs.declared.Token.{Token}
 use Rattle.scanner.specs.declared.Token.the-variants as S

@@ -9,12 +9,13 @@ use lib.ListN.{getD}
 use Rattle.theory_reading.specs.Bytes.{colon}
 use Rattle.theory_reading.specs.Reading.{isTwo}
 use Rattle.theory_reading.specs.StepLaws.{digitPlace}
-use Rattle.scanner.specs.Kinds.{kindTable}
-use Rattle.scanner.specs.Abstraction.{contextOf, nextToken, nextTokenView}
-use Rattle.scanner.specs.declared.Element.{Element}
+use Rattle.kinds.specs.Kinds.{kindTable}
+use Rattle.elements.specs.Abstraction.{contextOf}
+use Rattle.scanner.specs.TokenView.{nextToken, nextTokenView}
+use Rattle.elements.specs.declared.Element.{Element}
 use Rattle.scanner.specs.declared.NextToken.{NextToken}
-use Rattle.scanner.specs.declared.Open.{Open}
-use Rattle.scanner.specs.declared.Ref.{Ref}
+use Rattle.elements.specs.declared.Open.{Open}
+use Rattle.elements.specs.declared.Ref.{Ref}
 use Rattle.reader.specs.declared.Run.{Run}
 use Rattle.node_records.specs.declared.NodeRecord.{NodeRecord}
 use Rattle.reader.specs.declared.Taken.{Taken}

@@ -9,12 +9,12 @@ use lib.ListN.{length, replicate, length-replicate}
 use Rattle.theory_reading.specs.Limits.{optionLimit, openLimit, tableLimit, wordLimit}
 use Rattle.theory_reading.specs.Reading.{State, isStart}
 use Rattle.theory_reading.specs.Reaching.{At, at-start, at-next, at-covered, at-stamp}
-use Rattle.scanner.specs.Abstraction.{contextOf, insideOpen, terminalRef, temporaryRef, opensOf}
-use Rattle.scanner.specs.declared.Cause.the-variants.{WrongByte}
-use Rattle.scanner.specs.declared.Open.{Open}
-use Rattle.scanner.specs.declared.Opens.{Opens}
-use Rattle.scanner.specs.declared.Context.{Context}
-use Rattle.scanner.specs.declared.Context.the-variants.{Start}
+use Rattle.elements.specs.Abstraction.{contextOf, insideOpen, terminalRef, temporaryRef, opensOf}
+use Rattle.elements.specs.declared.Cause.the-variants.{WrongByte}
+use Rattle.elements.specs.declared.Open.{Open}
+use Rattle.elements.specs.declared.Opens.{Opens}
+use Rattle.elements.specs.declared.Context.{Context}
+use Rattle.elements.specs.declared.Context.the-variants.{Start}
 use Rattle.reader.specs.declared.Run.{Run}
 use Rattle.reader.specs.declared.Iteration.{Iteration}
 use Rattle.work_table.specs.Table.{getIn}

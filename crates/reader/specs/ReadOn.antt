@@ -11,11 +11,11 @@ use lib.ListN.{length, replicate}
 use borrow.Author.Tests.{lt-ltb, le-ltb, ltb-false}
 use Rattle.theory_lists.specs.Lists.{decide-le}
 use Rattle.theory_reading.specs.Limits.{optionLimit, openLimit, tableLimit, wordLimit}
-use Rattle.scanner.specs.declared.Cause.{Cause}
-use Rattle.scanner.specs.declared.Cause.the-variants.{WrongByte}
+use Rattle.elements.specs.declared.Cause.{Cause}
+use Rattle.elements.specs.declared.Cause.the-variants.{WrongByte}
 use Rattle.reader.specs.declared.Cursor.{Cursor}
-use Rattle.scanner.specs.declared.Open.{Open}
-use Rattle.scanner.specs.declared.Opens.{Opens}
+use Rattle.elements.specs.declared.Open.{Open}
+use Rattle.elements.specs.declared.Opens.{Opens}
 use Rattle.reader.specs.declared.Run.{Run}
 use Rattle.reader.specs.declared.Iteration.{Iteration}
 use Rattle.reader.specs.Advance.{lowOf, nodesTo, opensTo, Iterates}

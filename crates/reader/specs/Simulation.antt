@@ -17,13 +17,13 @@ use Rattle.theory_reading.specs.Causes.{tooDeep, notStorable, badNumber}
 use Rattle.theory_reading.specs.Reading.{Children, children, State, state, Fault, Reading, goes, fails, wordsAt, ending, isStart, sized, found}
 use Rattle.theory_reading.specs.Reading.{closed, isBad, stored, withElement}
 use Rattle.theory_reading.specs.ParentCounts.{parents, parents-none}
-use Rattle.scanner.specs.Abstraction.{contextOf, refOf, entryRef, elementOf, causeOf, openOf}
-use Rattle.scanner.specs.declared.Cause.the-variants.{WrongByte, TooDeep, NotStorable, BadNumber}
-use Rattle.scanner.specs.declared.Element.{Element}
-use Rattle.scanner.specs.declared.Element.the-variants.{Opening, Number, Constant, Turn, Closing, Storing, End}
-use Rattle.scanner.specs.declared.Context.{Context}
-use Rattle.scanner.specs.declared.Open.{Open}
-use Rattle.scanner.specs.declared.Ref.{Ref}
+use Rattle.elements.specs.Abstraction.{contextOf, refOf, entryRef, elementOf, causeOf, openOf}
+use Rattle.elements.specs.declared.Cause.the-variants.{WrongByte, TooDeep, NotStorable, BadNumber}
+use Rattle.elements.specs.declared.Element.{Element}
+use Rattle.elements.specs.declared.Element.the-variants.{Opening, Number, Constant, Turn, Closing, Storing, End}
+use Rattle.elements.specs.declared.Context.{Context}
+use Rattle.elements.specs.declared.Open.{Open}
+use Rattle.elements.specs.declared.Ref.{Ref}
 use Rattle.reader.specs.declared.Pair.{Pair}
 use Rattle.reader.specs.declared.Run.{Run}
 use Rattle.node_records.specs.declared.NodeRecord.{NodeRecord}

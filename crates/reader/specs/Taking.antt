@@ -4,14 +4,14 @@ use Prim.Native.Nat.{ℕ, _+_, _-_, _^_}
 use lib.Dec.{ltb, eqb}
 use Rattle.theory_reading.specs.Limits.{tableLimit}
 use Rattle.theory_reading.specs.Reading.{isStart, isLead}
-use Rattle.scanner.specs.Abstraction.{contextOf, terminalRef, temporaryRef, entryRef}
-use Rattle.scanner.specs.declared.Cause.{Cause}
-use Rattle.scanner.specs.declared.Cause.the-variants.{WrongByte, DeclaredSize, TooDeep, NotInTable, OtherLevel, NotStorable, BadNumber}
-use Rattle.scanner.specs.declared.Element.{Element}
-use Rattle.scanner.specs.declared.Element.the-variants.{Opening, Number, Constant, Turn, Closing, Storing, End}
-use Rattle.scanner.specs.declared.Context.{Context}
-use Rattle.scanner.specs.declared.Open.{Open}
-use Rattle.scanner.specs.declared.Ref.{Ref}
+use Rattle.elements.specs.Abstraction.{contextOf, terminalRef, temporaryRef, entryRef}
+use Rattle.elements.specs.declared.Cause.{Cause}
+use Rattle.elements.specs.declared.Cause.the-variants.{WrongByte, DeclaredSize, TooDeep, NotInTable, OtherLevel, NotStorable, BadNumber}
+use Rattle.elements.specs.declared.Element.{Element}
+use Rattle.elements.specs.declared.Element.the-variants.{Opening, Number, Constant, Turn, Closing, Storing, End}
+use Rattle.elements.specs.declared.Context.{Context}
+use Rattle.elements.specs.declared.Open.{Open}
+use Rattle.elements.specs.declared.Ref.{Ref}
 use Rattle.reader.specs.declared.Run.{Run}
 use Rattle.node_records.specs.declared.NodeRecord.{NodeRecord}
 use Rattle.reader.specs.declared.Taken.{Taken}

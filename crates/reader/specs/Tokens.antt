@@ -2,11 +2,11 @@
 use mathlib.Core.Path.{_≡_, refl, _∙_}
 use mathlib.Core.Bool.{Bool, true, false, cond}
 use Prim.Native.Nat.{ℕ}
-use Rattle.scanner.specs.Abstraction.{outcomeBy}
-use Rattle.scanner.specs.declared.Cause.{Cause}
-use Rattle.scanner.specs.declared.Element.{Element}
-use Rattle.scanner.specs.declared.Element.the-variants.{Opening, Number, Constant, Turn, Closing, Storing, End}
-use Rattle.scanner.specs.declared.Outcome.the-variants.{Got, Fault, RanOut}
+use Rattle.scanner.specs.TokenView.{outcomeBy}
+use Rattle.elements.specs.declared.Cause.{Cause}
+use Rattle.elements.specs.declared.Element.{Element}
+use Rattle.elements.specs.declared.Element.the-variants.{Opening, Number, Constant, Turn, Closing, Storing, End}
+use Rattle.elements.specs.declared.Outcome.the-variants.{Got, Fault, RanOut}
 use Rattle.scanner.specs.declared.Token.{Token}
 use Rattle.scanner.specs.declared.Token.the-variants as S
 

@@ -12,7 +12,7 @@ use lib.Seq.{drop-cons}
 use Rattle.theory_reading.specs.Bytes.{digitZero}
 use Rattle.theory_reading.specs.Element.{Element, opening, number, constant, turn, closing, storing, end, Scan, read, unread, Outcome, got, fault}
 use Rattle.theory_reading.specs.Element.{ranOut, Step}
-use Rattle.scanner.specs.Kinds.{digitIn, digitsBy, numberBy}
+use Rattle.kinds.specs.Kinds.{digitIn, digitsBy, numberBy}
 use Rattle.scanner.specs.ScannedToken.{ScannedToken}
 
 -- the largest number that code holds

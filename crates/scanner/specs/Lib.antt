@@ -1,8 +1,7 @@
-pub mod Kinds
 pub mod ScannedToken
 pub mod Capped
 pub mod ScannedTokenLaws
-pub mod Abstraction
-pub mod OpenLaws
-pub mod PlaceLaws
+pub mod TokenView
 pub mod ScannedViewLaws
+pub mod ChangeLaws
+pub mod TokenLaws

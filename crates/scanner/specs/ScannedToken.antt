@@ -8,8 +8,8 @@ use mathlib.Core.Option.{Option, none, some}
 use Prim.Native.Nat.{ℕ, _+_}
 use lib.Dec.{ltb, eqb}
 use lib.ListN.{length, getElem?}
-use Rattle.scanner.specs.Kinds.{kindTable, digitIn, blankIn, lineFeedIn, dotIn, openerIn, closerIn, tildeIn, colonIn, numberBy, digit-in}
-use Rattle.scanner.specs.Kinds.{blank-in, line-feed-in, dot-in, opener-in, closer-in, tilde-in, colon-in, number-by}
+use Rattle.kinds.specs.Kinds.{kindTable, digitIn, blankIn, lineFeedIn, dotIn, openerIn, closerIn, tildeIn, colonIn, numberBy, digit-in}
+use Rattle.kinds.specs.Kinds.{blank-in, line-feed-in, dot-in, opener-in, closer-in, tilde-in, colon-in, number-by}
 use Rattle.theory_reading.specs.Limits.{openLimit}
 use Rattle.theory_reading.specs.Bytes.{opener, closer, tilde, colon, dot, blank, lineFeed, isDigit}
 use Rattle.theory_reading.specs.Nodes.{Ref}

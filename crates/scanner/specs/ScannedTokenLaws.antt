@@ -15,7 +15,7 @@ use Rattle.theory_reading.specs.Limits.{openLimit}
 use Rattle.theory_reading.specs.Causes.{wrongByte, tooDeep}
 use Rattle.theory_reading.specs.Element.{opening, number, constant, turn, closing, storing, Context, lead, begins, afterDigit, afterOne, Scan, read}
 use Rattle.theory_reading.specs.Element.{unread}
-use Rattle.scanner.specs.Kinds.{digitIn, blankIn, lineFeedIn, openerIn, closerIn, tildeIn, numberBy}
+use Rattle.kinds.specs.Kinds.{digitIn, blankIn, lineFeedIn, openerIn, closerIn, tildeIn, numberBy}
 use Rattle.scanner.specs.ScannedToken.{Change, same, push, pop, secondPush, second, Top, ScannedToken, gave, failed, waited, sizeLine, scanSize}
 use Rattle.scanner.specs.ScannedToken.{scanNumber, scanStoring, scanNode, scanSpace, scanColon, scanInner, scanTokenBy, scanToken}
 use Rattle.scanner.specs.Capped.{cap, capScan, capScanned}

@@ -8,11 +8,12 @@ use Rattle.theory_reading.specs.Element as T
 use Rattle.scanner.specs.ScannedToken as G
 use Rattle.scanner.specs.Capped.{capScanned}
 use Rattle.scanner.specs.ScannedTokenLaws.{scan-here}
-use Rattle.scanner.specs.Kinds.{and-off, digitIn, numberBy}
-use Rattle.scanner.specs.Abstraction.{contextOf, stageOf, isAfter, plain, scannedView, gaveBy, numbered}
+use Rattle.kinds.specs.Kinds.{and-off, digitIn, numberBy}
+use Rattle.elements.specs.Abstraction.{contextOf}
+use Rattle.scanner.specs.TokenView.{stageOf, isAfter, plain, scannedView, gaveBy, numbered}
 use Rattle.scanner.specs.declared.Token.the-variants as S
-use Rattle.scanner.specs.declared.Context.{Context}
-use Rattle.scanner.specs.declared.Context.the-variants.{Start, Lead, Begins, AfterDigit, AfterTwo, AfterOne, Over}
+use Rattle.elements.specs.declared.Context.{Context}
+use Rattle.elements.specs.declared.Context.the-variants.{Start, Lead, Begins, AfterDigit, AfterTwo, AfterOne, Over}
 use Rattle.scanner.specs.declared.Stage.{Stage}
 use Rattle.scanner.specs.declared.Stage.the-variants.{First, Node, Ended, Past}
 

@@ -1,26 +1,31 @@
 ghost use mathlib.Core.Path.{_≡_};
-ghost use mathlib.Core.Bool.{cond, _&&_};
+ghost use mathlib.Core.Bool.{cond};
 ghost use Prim.Native.Nat.{_+_, _*_, _-_, _<_, _≤_};
-ghost use lib.Dec.{eqb};
 ghost use lib.ListN.{length, getD, getElem?};
 ghost use Rattle.theory_reading.specs.Bytes.{digitZero};
-ghost use Rattle.theory_reading.specs.Element.{begin, step};
-ghost use Rattle.theory_reading.specs.Reading.{contextNumber, isContext};
-ghost use Rattle.scanner.specs.Kinds.{kindTable, kindIn, digitIn, numberBy};
+ghost use Rattle.kinds.specs.Kinds.{digitIn, numberBy};
 ghost use Rattle.scanner.specs.ScannedToken.{scanToken, scanEnd, scanInner, scanColon, scanSpace, scanNode, scanNumber, scanStoring, scanSize};
 ghost use Rattle.scanner.specs.ScannedToken.{scanLead, scanEnded, wrongAt};
-ghost use Rattle.scanner.specs.Capped.{cap, capScan, capScanned, capStep};
-ghost use Rattle.scanner.specs.Abstraction.{outcomeIn, scanOf, contextOf, topsOf, scannedView, plain, numbered, gaveBy, failedBy, waitedBy};
-ghost use Rattle.scanner.specs.Abstraction.{stageOf, isAfter, insideOpen, begunOpen, sideOf, spotsOf, deepOf, nextTokenView, nextToken};
-ghost use Rattle.scanner.specs.Abstraction.{placeOf, steppedOf};
-
-mod kind;
-
-// At most so many nodes are open at one time.
-pub const OPEN_LIMIT: usize = 32;
-
-// The last place among them.
-const LAST_OPEN: usize = OPEN_LIMIT - 1;
+ghost use Rattle.scanner.specs.Capped.{cap, capScan, capScanned};
+ghost use Rattle.scanner.specs.TokenView.{scanOf, topsOf, scannedView, plain, numbered, gaveBy, failedBy, waitedBy};
+ghost use Rattle.elements.specs.Abstraction.{contextOf};
+ghost use Rattle.scanner.specs.TokenView.{stageOf, isAfter, sideOf, nextTokenView, nextToken};
+ghost use Rattle.elements.specs.Abstraction.{begunOpen, deepOf};
+use elements::Cause;
+use elements::Context;
+use elements::OPEN_LIMIT;
+use elements::Open;
+use elements::Ref;
+use elements::begun;
+use elements::is_context;
+use kinds::BRACKET;
+use kinds::DIGIT;
+use kinds::LINE_END;
+use kinds::MARK;
+use kinds::POINT;
+use kinds::SPACE;
+use kinds::is_kind;
+use kinds::is_one;
 
 // Bytes of a stream, named as their definitions are: those whose kind has another byte too, and the space, for the reader.
 const OPENER: u8 = b'(';
@@ -35,82 +40,7 @@ pub const BLANK: u8 = b' ';
 
 const DIGIT_ZERO: u8 = b'0';
 
-// ---- Kinds
-
-// The kind of each byte. A call has it built once and lends it.
-pub fn kinds() -> [u8; 256]
-    ensures { λ r. ⌜ r ≡ kindTable ⌝ }
-{
-    kind::KINDS
-}
-
-// k, here and below: a table of kinds, lent
-fn is_kind(k: &[u8; 256], b: u8, n: u8) -> bool
-    ensures { λ r. ⌜ r ≡ kindIn (now (k .entry)) n b ⌝ }
-{
-    let i = b as usize;
-    k[i] == n
-}
-
-// The byte a, of a kind that has two.
-fn is_one(k: &[u8; 256], b: u8, n: u8, a: u8) -> bool
-    ensures { λ r. ⌜ r ≡ (kindIn (now (k .entry)) n b && eqb b a) ⌝ }
-{
-    if is_kind(k, b, n) { b == a } else { false }
-}
-
-// ---- Elements and places
-
-pub enum Element {
-    Opening,
-    Number(u32),
-    Constant,
-    Turn,
-    Closing,
-    Storing(u32),
-    End,
-}
-
-// What stands before a place.
-pub enum Context {
-    Start,
-    Lead,
-    Begins,
-    AfterDigit,
-    AfterTwo,
-    AfterOne,
-    Over,
-}
-
-// What a node refers to: a number with its stamp; with the number 0 the terminal, if the stamp is 0 too, else nothing that stays.
-#[repr(C)]
-pub struct Ref {
-    pub number: u32,
-    pub stamp: u32,
-}
-
-// The causes of document 01, 1 to 13.
-pub enum Cause {
-    OptionCount,
-    OperatorCode,
-    SizeToWrite,
-    WorkTable,
-    WordRange,
-    TruthTable,
-    WrongByte,
-    DeclaredSize,
-    TooDeep,
-    NotInTable,
-    OtherLevel,
-    NotStorable,
-    BadNumber,
-}
-
-pub enum Outcome {
-    Got(Element),
-    Fault(Cause, usize),
-    RanOut,
-}
+// ---- Tokens
 
 // The innermost open node: none is open; its first child is not done; it is.
 enum Top {
@@ -205,7 +135,7 @@ fn number_at(k: &[u8; 256], s: &[u8], at: usize) -> Num
     let mut v = digit(b);
     while i < s.len() {
         let c = s[i];
-        if !is_kind(k, c, kind::DIGIT) {
+        if !is_kind(k, c, DIGIT) {
             return Num {
                 value: v as u32,
                 next: i,
@@ -288,7 +218,7 @@ fn scan_size(k: &[u8; 256], s: &[u8], at: usize, m: Context, d: usize) -> Scanne
         return waited(at, m, d);
     }
     let b = s[e];
-    if is_kind(k, b, kind::LINE_END) {
+    if is_kind(k, b, LINE_END) {
         return gave(
             Token::Number,
             x.value,
@@ -371,7 +301,7 @@ fn scan_node(k: &[u8; 256], s: &[u8], at: usize, m: Context, d: usize, two: bool
         (getD (now (s .entry)) at 0))) ⌝ }
 {
     let b = s[at];
-    if is_one(k, b, kind::BRACKET, OPENER) {
+    if is_one(k, b, BRACKET, OPENER) {
         if OPEN_LIMIT <= d {
             return failed(at, m, d, Cause::TooDeep, at);
         }
@@ -385,7 +315,7 @@ fn scan_node(k: &[u8; 256], s: &[u8], at: usize, m: Context, d: usize, two: bool
             false,
         );
     }
-    if !is_kind(k, b, kind::DIGIT) {
+    if !is_kind(k, b, DIGIT) {
         return failed(at, m, d, Cause::WrongByte, at);
     }
     scan_number(k, s, at, at, m, d, two)
@@ -402,7 +332,7 @@ fn scan_space(k: &[u8; 256], s: &[u8], at: usize, m: Context, d: usize) -> Scann
         return waited(at, m, d);
     }
     let b = s[i];
-    if !is_kind(k, b, kind::DIGIT) {
+    if !is_kind(k, b, DIGIT) {
         return failed(at, m, d, Cause::WrongByte, i);
     }
     scan_number(k, s, i, at, m, d, true)
@@ -419,7 +349,7 @@ fn scan_colon(k: &[u8; 256], s: &[u8], at: usize, m: Context, d: usize) -> Scann
         return waited(at, m, d);
     }
     let b = s[i];
-    if !is_kind(k, b, kind::DIGIT) {
+    if !is_kind(k, b, DIGIT) {
         return failed(at, m, d, Cause::WrongByte, i);
     }
     scan_storing(k, s, i, at, m, d)
@@ -439,10 +369,10 @@ fn scan_inner(
         (getD (now (s .entry)) at 0))) ⌝ }
 {
     let b = s[at];
-    if is_one(k, b, kind::MARK, TILDE) {
+    if is_one(k, b, MARK, TILDE) {
         return gave(Token::Turn, 0, at + 1, Context::Begins, d, true, true);
     }
-    if is_one(k, b, kind::BRACKET, CLOSER) {
+    if is_one(k, b, BRACKET, CLOSER) {
         return gave(
             Token::Closing,
             0,
@@ -454,10 +384,10 @@ fn scan_inner(
         );
     }
     if digital {
-        if is_kind(k, b, kind::SPACE) {
+        if is_kind(k, b, SPACE) {
             return scan_space(k, s, at, m, d);
         }
-        if is_kind(k, b, kind::DIGIT) {
+        if is_kind(k, b, DIGIT) {
             return failed(at, m, d, Cause::WrongByte, at);
         }
     }
@@ -488,14 +418,14 @@ fn scan_end(
     let b = s[at];
     match top {
         Top::Empty => {
-            if is_kind(k, b, kind::POINT) {
+            if is_kind(k, b, POINT) {
                 return gave(Token::End, 0, at + 1, Context::Over, d, false, false);
             }
             failed(at, m, d, Cause::WrongByte, at)
         }
         Top::Inner => scan_inner(k, s, at, m, d, digital),
         Top::Outer => {
-            if is_one(k, b, kind::BRACKET, CLOSER) {
+            if is_one(k, b, BRACKET, CLOSER) {
                 return gave(
                     Token::Closing,
                     0,
@@ -525,27 +455,6 @@ fn stage_of(m: Context) -> Stage
     }
 }
 
-// The contexts by number, in the order of their names
-pub fn context_number(m: Context) -> u8
-    ensures { λ r. ⌜ r ≡ contextNumber (contextOf m) ⌝ }
-{
-    match m {
-        Context::Start => 0,
-        Context::Lead => 1,
-        Context::Begins => 2,
-        Context::AfterDigit => 3,
-        Context::AfterTwo => 4,
-        Context::AfterOne => 5,
-        Context::Over => 6,
-    }
-}
-
-pub fn is_context(m: Context, k: Context) -> bool
-    ensures { λ r. ⌜ r ≡ isContext (contextOf k) (contextOf m) ⌝ }
-{
-    context_number(m) == context_number(k)
-}
-
 // At the size.
 fn scan_first(k: &[u8; 256], s: &[u8], at: usize, m: Context, d: usize) -> ScannedToken
     requires { ⌜ at < length (now s) ⌝ }
@@ -554,7 +463,7 @@ fn scan_first(k: &[u8; 256], s: &[u8], at: usize, m: Context, d: usize) -> Scann
         (wrongAt at (contextOf m)))) ⌝ }
 {
     let b = s[at];
-    if is_kind(k, b, kind::DIGIT) {
+    if is_kind(k, b, DIGIT) {
         return scan_size(k, s, at, m, d);
     }
     failed(at, m, d, Cause::WrongByte, at)
@@ -567,7 +476,7 @@ fn scan_begin(k: &[u8; 256], s: &[u8], at: usize, m: Context, d: usize) -> Scann
         ⌝ }
 {
     let b = s[at];
-    if is_one(k, b, kind::MARK, TILDE) {
+    if is_one(k, b, MARK, TILDE) {
         if is_context(m, Context::Lead) {
             return gave(Token::Turn, 0, at + 1, Context::Begins, d, false, false);
         }
@@ -583,7 +492,7 @@ fn scan_ended(k: &[u8; 256], s: &[u8], at: usize, m: Context, top: Top, d: usize
 {
     let b = s[at];
     if is_context(m, Context::AfterTwo) {
-        if is_one(k, b, kind::MARK, COLON) {
+        if is_one(k, b, MARK, COLON) {
             return scan_colon(k, s, at, m, d);
         }
     }
@@ -606,59 +515,7 @@ fn scan_token(k: &[u8; 256], s: &[u8], at: usize, m: Context, top: Top, d: usize
     }
 }
 
-// ---- The place
-
-// An open node: whether its second child has begun; what its first child was, and whether a `~` stands after it.
-#[repr(C)]
-pub struct Open {
-    pub first: Ref,
-    pub second: bool,
-    pub complement: bool,
-}
-
-// The open nodes, the outermost first, and how many there are.
-#[repr(C)]
-pub struct Opens {
-    pub nodes: [Open; OPEN_LIMIT],
-    pub depth: usize,
-}
-
-pub struct Place {
-    pub at: usize,
-    pub context: Context,
-    pub opens: Opens,
-    pub last: Ref,
-}
-
-// What a step comes to, and the place after it: the old one, unless an element was given.
-pub struct Stepped {
-    pub outcome: Outcome,
-    pub place: Place,
-}
-
-fn inside() -> Open
-    ensures { λ r. ⌜ r ≡ insideOpen ⌝ }
-{
-    let r = Ref {
-        number: 0,
-        stamp: 0,
-    };
-    Open {
-        second: false,
-        complement: false,
-        first: r,
-    }
-}
-
-fn begun(r: Ref, t: bool) -> Open
-    ensures { λ x. ⌜ x ≡ begunOpen r t ⌝ }
-{
-    Open {
-        second: true,
-        complement: t,
-        first: r,
-    }
-}
+// ---- The next token
 
 // The innermost of d open nodes, which is e.
 fn top_of(d: usize, e: Open) -> Top
@@ -672,33 +529,6 @@ fn top_of(d: usize, e: Open) -> Top
         return Top::Outer;
     }
     Top::Inner
-}
-
-// Where the entry of the innermost of d open nodes stands, and the one after it.
-pub struct Spots {
-    pub low: usize,
-    pub high: usize,
-}
-
-pub fn spots_of(d: usize) -> Spots
-    ensures { λ r. ⌜ r ≡ spotsOf d ⌝ }
-{
-    if d == 0 {
-        return Spots {
-            low: LAST_OPEN,
-            high: 0,
-        };
-    }
-    if d < OPEN_LIMIT {
-        return Spots {
-            low: d - 1,
-            high: d,
-        };
-    }
-    Spots {
-        low: LAST_OPEN,
-        high: LAST_OPEN,
-    }
 }
 
 fn deep(d: usize) -> usize
@@ -758,77 +588,4 @@ fn entry_of(low: Open, last: Ref, two: bool, t: bool) -> Open
         return begun(last, t);
     }
     low
-}
-
-fn outcome_of(x: NextToken) -> Outcome
-    ensures { λ r. ⌜ r ≡ outcomeIn x ⌝ }
-{
-    let w = x.token;
-    match w {
-        Token::Opening => Outcome::Got(Element::Opening),
-        Token::Number => Outcome::Got(Element::Number(x.number)),
-        Token::Constant => Outcome::Got(Element::Constant),
-        Token::Turn => Outcome::Got(Element::Turn),
-        Token::Closing => Outcome::Got(Element::Closing),
-        Token::Storing => Outcome::Got(Element::Storing(x.number)),
-        Token::End => Outcome::Got(Element::End),
-        Token::Fault => {
-            let c = x.cause;
-            Outcome::Fault(c, x.byte)
-        }
-        Token::Out => Outcome::RanOut,
-    }
-}
-
-impl Place {
-    // Before the first byte of a stream.
-    pub fn begin() -> Place
-        ensures { λ r. ⌜ placeOf r ≡ begin ⌝ }
-    {
-        let e = inside();
-        let o = Opens {
-            nodes: [e; OPEN_LIMIT],
-            depth: 0,
-        };
-        let r = Ref {
-            number: 0,
-            stamp: 1,
-        };
-        Place {
-            at: 0,
-            context: Context::Start,
-            opens: o,
-            last: r,
-        }
-    }
-
-    // One element on. Faults are of cause 7, and of cause 9 at a 33rd open bracket.
-    pub fn step(self, s: &[u8]) -> Stepped
-        ensures { λ r. ⌜ steppedOf r ≡ capStep (step (placeOf self) (now (s .entry))) ⌝ }
-    {
-        let k = kinds();
-        let mut o = self.opens;
-        let d = o.depth;
-        let p = spots_of(d);
-        let i = p.low;
-        let j = p.high;
-        let low = o.nodes[i];
-        let last = self.last;
-        let m = self.context;
-        let x = next_token(&k, s, self.at, m, last, d, low);
-        let l = x.low;
-        o.nodes[j] = inside();
-        o.nodes[i] = l;
-        o.depth = x.depth;
-        let m1 = x.context;
-        Stepped {
-            outcome: outcome_of(x),
-            place: Place {
-                at: x.at,
-                context: m1,
-                opens: o,
-                last: last,
-            },
-        }
-    }
 }

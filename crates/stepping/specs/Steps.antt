@@ -6,7 +6,7 @@ use lib.Dec.{eqb}
 use Rattle.theory_reading.specs.Causes.{causeRow}
 use Rattle.theory_reading.specs.Element as T
 use Rattle.theory_reading.specs.Reading.{contextNumber}
-use Rattle.scanner.specs.Abstraction.{openList, refOf}
+use Rattle.elements.specs.Abstraction.{openList, refOf}
 use Rattle.stepping.specs.declared.RulePlace.{RulePlace}
 use Rattle.stepping.specs.declared.RuleStepped.{RuleStepped}
 

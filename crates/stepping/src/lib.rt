@@ -2,16 +2,17 @@
 ghost use mathlib.Core.Path.{_≡_};
 ghost use Rattle.theory_reading.specs.Element.{begin, step};
 ghost use Rattle.scanner.specs.Capped.{capStep};
-ghost use Rattle.scanner.specs.Abstraction.{contextOf, elementOf, outcomeOf, placeOf};
+ghost use Rattle.elements.specs.Abstraction.{contextOf, elementOf, outcomeOf};
+ghost use Rattle.places.specs.Abstraction.{placeOf};
 ghost use Rattle.stepping.specs.Steps.{contextFrom, placeFrom, gotNumbers, outcomeNumbers, stepNumbers, stepGiven};
+use elements::Context;
+use elements::Element;
+use elements::Opens;
+use elements::Outcome;
+use elements::Ref;
+use elements::context_number;
 use firmware::cause_number;
-use scanner::Context;
-use scanner::Element;
-use scanner::Opens;
-use scanner::Outcome;
-use scanner::Place;
-use scanner::Ref;
-use scanner::context_number;
+use places::Place;
 
 #[repr(C)]
 pub struct RulePlace {

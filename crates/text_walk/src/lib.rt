@@ -15,6 +15,7 @@ ghost use Rattle.text_walk.specs.Abstraction.{firstValue, gapIn, gapBy, 
 use applier::apply;
 use blocks::Block;
 use edges::operate;
+use elements::OPEN_LIMIT;
 use meeting::Half;
 use meeting::Progress;
 use meeting::Walked;
@@ -37,7 +38,6 @@ use pending_text::push_number;
 use pending_text::push_tilde;
 use pending_text::send;
 use pending_text::wait;
-use scanner::OPEN_LIMIT;
 
 // ---- The walk
 

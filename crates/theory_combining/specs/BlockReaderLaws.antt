@@ -16,7 +16,7 @@ use Rattle.theory_writing.specs.Run.{Input}
 use Rattle.theory_writing.specs.Calls.{orNo, inputOf}
 use Rattle.theory_engine.specs.ApplyLaws.{Shows, sourceWalk}
 use Rattle.theory_engine.specs.Sitting.{Sits}
-use Rattle.scanner.specs.Abstraction.{contextOf}
+use Rattle.elements.specs.Abstraction.{contextOf}
 use Rattle.reader.specs.ReadOn.{firstCursor}
 use Rattle.blocks.specs.Blocks.{Next, nextBlock}
 use Rattle.blocks.specs.BlockLaws.{StandsAt, first-stands, stands-read, next-stands}

@@ -10,6 +10,7 @@ ghost use Rattle.theory_writing.specs.Calls.{truthAt, Writes};
 ghost use Rattle.theory_engine.specs.Engine.{sameBytes, allBytes, alikeBytes, againHalf, walkIn, bodyIn, streamIn};
 ghost use Rattle.meeting.specs.Abstraction.{halfOf, progressOf, walkedOf, writtenOf, writingOf};
 use checker::early;
+use elements::Cause;
 use meeting::Half;
 use meeting::Progress;
 use meeting::Walked;
@@ -35,7 +36,6 @@ use pending_text::push_number;
 use pending_text::push_tilde;
 use pending_text::send;
 use pending_text::wait;
-use scanner::Cause;
 use unique_table::clear;
 
 // ---- The walk over a truth table

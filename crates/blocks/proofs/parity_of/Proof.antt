@@ -10,10 +10,10 @@ use borrow.Author.Tests.{eq-eqb, ne-eqb}
 use Rattle.theory_lists.specs.Lists.{differ}
 use Rattle.theory_reading.specs.Limits.{openLimit}
 use Rattle.theory_reading.specs.Covered.{parity}
-use Rattle.scanner.specs.Abstraction.{insideOpen, opensOf}
+use Rattle.elements.specs.Abstraction.{insideOpen, opensOf}
 use Rattle.reader.specs.OpenCells.{nodesIn, node-at}
 use Rattle.blocks.specs.Blocks.{deep-past, deep-all, parity-none, parity-more}
-use Rattle.scanner.specs.declared.Open.{Open}
+use Rattle.elements.specs.declared.Open.{Open}
 use borrow.Author.Needs.{needs}
 use Rattle.blocks.proofs.parity_of.Statement.{statement}
 use Rattle.blocks.proofs.parity_of.Tie as tie

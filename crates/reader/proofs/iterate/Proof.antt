@@ -3,7 +3,7 @@
 use mathlib.Core.Path.{refl, sym, ap, _∙_}
 use native.Mathlib.Omega.{arith}
 use lib.ListN.{length}
-use Rattle.scanner.specs.declared.Outcome.the-variants.{Got}
+use Rattle.elements.specs.declared.Outcome.the-variants.{Got}
 use Rattle.reader.specs.declared.Taken.{Taken}
 use Rattle.reader.specs.Advance.{wentBy, past, barred, out, fault, took, length-updated}
 use Rattle.reader.specs.Tokens.{token-fault, token-out, token-got}

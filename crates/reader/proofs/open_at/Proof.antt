@@ -3,10 +3,10 @@
 use mathlib.Core.Path.{ap, _∙_}
 use native.Mathlib.Omega.{arith}
 use lib.ListN.{getD}
-use Rattle.scanner.specs.Abstraction.{insideOpen}
-use Rattle.scanner.specs.PlaceLaws.{spots-low}
+use Rattle.elements.specs.Abstraction.{insideOpen}
+use Rattle.elements.specs.OpenLaws.{spots-low}
 use Rattle.reader.specs.OpenCells.{nodesIn, node-at}
-use Rattle.scanner.specs.declared.Spots.{Spots}
+use Rattle.elements.specs.declared.Spots.{Spots}
 use borrow.Author.Needs.{needs}
 use Rattle.reader.proofs.open_at.Statement.{statement}
 use Rattle.reader.proofs.open_at.Tie as tie

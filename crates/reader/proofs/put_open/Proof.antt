@@ -5,8 +5,8 @@ use mathlib.Core.List.{_∷_, []}
 use native.Mathlib.Omega.{arith}
 use lib.ListN.{set, replicate}
 use Rattle.reader.specs.OpenCells.{nodesIn, nodes-put}
-use Rattle.scanner.specs.PlaceLaws.{spots-low, spots-high}
-use Rattle.scanner.specs.declared.Spots.{Spots}
+use Rattle.elements.specs.OpenLaws.{spots-low, spots-high}
+use Rattle.elements.specs.declared.Spots.{Spots}
 use borrow.Author.Needs.{needs}
 use Rattle.reader.proofs.put_open.Statement.{statement}
 use Rattle.reader.proofs.put_open.Tie as tie

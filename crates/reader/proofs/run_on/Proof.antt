@@ -9,7 +9,7 @@ use Rattle.theory_reading.specs.Limits.{optionLimit, wordLimit}
 use Rattle.reader.specs.OpenCells.{opensIn}
 use Rattle.reader.specs.Loop.{iteration-length}
 use Rattle.reader.specs.ReadOn.{readAll, Leads, leads-first, leads-past, leads-halts, leads-moves, leads-goes}
-use Rattle.scanner.specs.Kinds.{kindTable}
+use Rattle.kinds.specs.Kinds.{kindTable}
 use borrow.Author.Needs.{needs}
 use Rattle.reader.proofs.run_on.Statement.{statement}
 use Rattle.reader.proofs.run_on.Tie as tie

@@ -1,7 +1,7 @@
 -- The token is made of what the calls promise.
 -- Assumes nothing.
-use Rattle.scanner.specs.PlaceLaws.{token-correct}
-use Rattle.scanner.specs.Abstraction.{contextOf}
+use Rattle.scanner.specs.TokenLaws.{token-correct}
+use Rattle.elements.specs.Abstraction.{contextOf}
 use borrow.Author.Needs.{needs}
 use Rattle.scanner.proofs.next_token.Statement.{statement}
 use Rattle.scanner.proofs.next_token.Tie as tie

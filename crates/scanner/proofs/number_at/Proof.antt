@@ -6,7 +6,7 @@ use Prim.Native.Nat.{ℕ, _≤_, _-_, _+_, _*_}
 use native.Mathlib.Omega.{arith}
 use lib.ListN.{length, drop, getD}
 use borrow.Author.Tests.{not-true, not-false}
-use Rattle.scanner.specs.Kinds.{digitIn, numberBy}
+use Rattle.kinds.specs.Kinds.{digitIn, numberBy}
 use Rattle.scanner.specs.Capped.{cap, capScan, numberMost, cappedOn, on-digit, on-stop, on-end, at-zero, at-digits, at-past}
 use borrow.Author.Needs.{needs}
 use Rattle.scanner.proofs.number_at.Statement.{statement}

@@ -8,10 +8,11 @@ use lib.ListN.{getD}
 use Rattle.theory_lists.specs.Lists.{and-true}
 use Rattle.theory_reading.specs.Reading.{isLead}
 use Rattle.theory_reading.specs.Element.{turn, begins}
-use Rattle.scanner.specs.Kinds.{tildeIn}
+use Rattle.kinds.specs.Kinds.{tildeIn}
 use Rattle.scanner.specs.ScannedToken.{same, gave, scanNode}
 use Rattle.scanner.specs.ScannedViewLaws.{and-left, and-right}
-use Rattle.scanner.specs.Abstraction.{contextOf, scannedView, plain}
+use Rattle.elements.specs.Abstraction.{contextOf}
+use Rattle.scanner.specs.TokenView.{scannedView, plain}
 use Rattle.scanner.specs.ScannedTokenLaws as G
 use borrow.Author.Needs.{needs}
 use Rattle.scanner.proofs.scan_begin.Statement.{statement}

@@ -3,7 +3,8 @@
 use mathlib.Core.Path.{sym, ap, _∙_}
 use native.Mathlib.Omega.{arith}
 use borrow.Author.Tests.{not-true, not-false}
-use Rattle.scanner.specs.Abstraction.{contextOf, scannedView, plain}
+use Rattle.elements.specs.Abstraction.{contextOf}
+use Rattle.scanner.specs.TokenView.{scannedView, plain}
 use Rattle.scanner.specs.ScannedTokenLaws as G
 use borrow.Author.Needs.{needs}
 use Rattle.scanner.proofs.scan_colon.Statement.{statement}

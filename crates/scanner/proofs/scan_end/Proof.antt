@@ -5,12 +5,13 @@ use mathlib.Core.Bool.{false}
 use Prim.Native.Nat.{ℕ, _+_}
 use lib.ListN.{getD}
 use Rattle.theory_reading.specs.Element.{end, closing, over, afterTwo}
-use Rattle.scanner.specs.Kinds.{dotIn, closerIn}
+use Rattle.kinds.specs.Kinds.{dotIn, closerIn}
 use Rattle.scanner.specs.ScannedToken.{same, pop, gave, wrongAt, scanEnd}
 use Rattle.scanner.specs.Capped.{capScanned}
-use Rattle.scanner.specs.Abstraction.{contextOf, topsOf, scannedView, plain, gaveBy}
+use Rattle.elements.specs.Abstraction.{contextOf}
+use Rattle.scanner.specs.TokenView.{topsOf, scannedView, plain, gaveBy}
 use Rattle.scanner.specs.declared.Token.the-variants.{Closing}
-use Rattle.scanner.specs.declared.Context.the-variants.{AfterTwo}
+use Rattle.elements.specs.declared.Context.the-variants.{AfterTwo}
 use Rattle.scanner.specs.declared.Top.{Top}
 use Rattle.scanner.specs.ScannedTokenLaws as G
 use borrow.Author.Needs.{needs}

@@ -7,11 +7,12 @@ use Prim.Native.Nat.{_+_}
 use lib.ListN.{getD, getElem?}
 use Rattle.theory_lists.specs.Lists.{and-true}
 use Rattle.theory_reading.specs.Reading.{isTwo}
-use Rattle.scanner.specs.Kinds.{colonIn}
+use Rattle.kinds.specs.Kinds.{colonIn}
 use Rattle.scanner.specs.ScannedToken.{scanColon, scanEnd}
 use Rattle.scanner.specs.Capped.{capScanned}
 use Rattle.scanner.specs.ScannedViewLaws.{and-left, and-right}
-use Rattle.scanner.specs.Abstraction.{contextOf, topsOf, isAfter, plain}
+use Rattle.elements.specs.Abstraction.{contextOf}
+use Rattle.scanner.specs.TokenView.{topsOf, isAfter, plain}
 use Rattle.scanner.specs.ScannedTokenLaws as G
 use borrow.Author.Needs.{needs}
 use Rattle.scanner.proofs.scan_ended.Statement.{statement}

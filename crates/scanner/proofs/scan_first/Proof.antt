@@ -2,9 +2,10 @@
 -- Assumes nothing.
 use mathlib.Core.Path.{sym, ap, _∙_}
 use lib.ListN.{getD}
-use Rattle.scanner.specs.Kinds.{digitIn, numberBy}
+use Rattle.kinds.specs.Kinds.{digitIn, numberBy}
 use Rattle.scanner.specs.ScannedToken.{scanSize, wrongAt}
-use Rattle.scanner.specs.Abstraction.{contextOf, scannedView, plain}
+use Rattle.elements.specs.Abstraction.{contextOf}
+use Rattle.scanner.specs.TokenView.{scannedView, plain}
 use Rattle.scanner.specs.ScannedTokenLaws as G
 use borrow.Author.Needs.{needs}
 use Rattle.scanner.proofs.scan_first.Statement.{statement}

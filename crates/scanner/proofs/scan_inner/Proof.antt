@@ -5,9 +5,10 @@ use mathlib.Core.Bool.{false}
 use mathlib.Core.Logic.{⊎-elim}
 use Prim.Native.Nat.{ℕ, _+_}
 use lib.ListN.{getD}
-use Rattle.scanner.specs.Abstraction.{contextOf, scannedView, plain, gaveBy}
+use Rattle.elements.specs.Abstraction.{contextOf}
+use Rattle.scanner.specs.TokenView.{scannedView, plain, gaveBy}
 use Rattle.scanner.specs.declared.Token.the-variants.{Closing}
-use Rattle.scanner.specs.declared.Context.the-variants.{AfterOne}
+use Rattle.elements.specs.declared.Context.the-variants.{AfterOne}
 use Rattle.scanner.specs.ScannedTokenLaws as G
 use borrow.Author.Needs.{needs}
 use Rattle.scanner.proofs.scan_inner.Statement.{statement}

@@ -6,7 +6,8 @@ use native.Mathlib.Omega.{arith}
 use lib.ListN.{getD}
 use borrow.Author.Tests.{not-true, not-false}
 use Rattle.scanner.specs.ScannedViewLaws.{seen-push}
-use Rattle.scanner.specs.Abstraction.{contextOf, scannedView, plain}
+use Rattle.elements.specs.Abstraction.{contextOf}
+use Rattle.scanner.specs.TokenView.{scannedView, plain}
 use Rattle.scanner.specs.ScannedTokenLaws as G
 use borrow.Author.Needs.{needs}
 use Rattle.scanner.proofs.scan_node.Statement.{statement}

@@ -3,10 +3,11 @@
 use mathlib.Core.Path.{ap, _∙_}
 use lib.ListN.{getD}
 use borrow.Author.Tests.{not-true, not-false}
-use Rattle.scanner.specs.Kinds.{numberBy}
+use Rattle.kinds.specs.Kinds.{numberBy}
 use Rattle.scanner.specs.ScannedViewLaws.{seen-constant, seen-value}
-use Rattle.scanner.specs.Abstraction.{contextOf, scannedView, plain, numbered}
-use Rattle.scanner.specs.declared.Context.the-variants.{AfterDigit}
+use Rattle.elements.specs.Abstraction.{contextOf}
+use Rattle.scanner.specs.TokenView.{scannedView, plain, numbered}
+use Rattle.elements.specs.declared.Context.the-variants.{AfterDigit}
 use Rattle.scanner.specs.ScannedTokenLaws as G
 use borrow.Author.Needs.{needs}
 use Rattle.scanner.proofs.scan_number.Statement.{statement}

@@ -4,8 +4,9 @@ use mathlib.Core.Path.{sym, ap, _∙_}
 use native.Mathlib.Omega.{arith}
 use lib.ListN.{getD}
 use borrow.Author.Tests.{not-true, not-false}
-use Rattle.scanner.specs.Kinds.{numberBy}
-use Rattle.scanner.specs.Abstraction.{contextOf, scannedView, plain}
+use Rattle.kinds.specs.Kinds.{numberBy}
+use Rattle.elements.specs.Abstraction.{contextOf}
+use Rattle.scanner.specs.TokenView.{scannedView, plain}
 use Rattle.scanner.specs.ScannedTokenLaws as G
 use borrow.Author.Needs.{needs}
 use Rattle.scanner.proofs.scan_size.Statement.{statement}

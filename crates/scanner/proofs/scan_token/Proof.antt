@@ -3,7 +3,8 @@
 use mathlib.Core.Path.{sym, ap, _∙_}
 use native.Mathlib.Omega.{arith}
 use Rattle.scanner.specs.ScannedViewLaws.{stage-scan}
-use Rattle.scanner.specs.Abstraction.{contextOf, topsOf, scannedView, plain}
+use Rattle.elements.specs.Abstraction.{contextOf}
+use Rattle.scanner.specs.TokenView.{topsOf, scannedView, plain}
 use Rattle.scanner.specs.declared.Stage.the-variants.{First, Node, Ended, Past}
 use Rattle.scanner.specs.ScannedTokenLaws as G
 use borrow.Author.Needs.{needs}

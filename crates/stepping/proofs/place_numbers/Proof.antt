@@ -1,7 +1,7 @@
 -- Only the context is held otherwise. Assumes nothing.
 use mathlib.Core.Path.{ap, _∙_}
 use Rattle.theory_reading.specs.Element as T
-use Rattle.scanner.specs.Abstraction.{contextOf, openList, refOf}
+use Rattle.elements.specs.Abstraction.{contextOf, openList, refOf}
 use Rattle.stepping.specs.Steps.{contextFrom, context-back}
 use borrow.Author.Needs.{needs}
 use Rattle.stepping.proofs.place_numbers.Statement.{statement}

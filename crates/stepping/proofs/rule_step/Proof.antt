@@ -2,7 +2,7 @@
 use mathlib.Core.Path.{ap, _∙_}
 use Rattle.theory_reading.specs.Element as T
 use Rattle.scanner.specs.Capped.{capStep}
-use Rattle.scanner.specs.Abstraction.{outcomeOf, openList, refOf}
+use Rattle.elements.specs.Abstraction.{outcomeOf, openList, refOf}
 use Rattle.stepping.specs.Steps.{outcomeNumbers, stepNumbers}
 use borrow.Author.Needs.{needs}
 use Rattle.stepping.proofs.rule_step.Statement.{statement}
