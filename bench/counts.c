@@ -39,7 +39,7 @@ static bool combine_all(const job *j, uint32_t size, uint64_t counts[COUNTERS])
         if (answer.ending != RULE_WHOLE)
             return false;
         for (k = 0; k < COUNTERS; k++)
-            counts[k] += table3[0].cells[k];
+            counts[k] += ((const uint32_t *)table3)[k];
         from.bytes = places[i % 2];
         from.length = (size_t)answer.written;
     }

@@ -13,9 +13,6 @@
 /* No word: it is past all. */
 #define NO_WORD UINT64_MAX
 
-/* The cells of a record. A level of 0 is a number that was never given out. */
-enum { LEVEL, FIRST, SECOND, TURNED, STAMP, PARENTS };
-
 typedef enum { DONE, RAN_OUT, FAULT } result;
 
 /* What a node stands for: a number, and how often it had been given out by then. */
@@ -49,9 +46,9 @@ static bool is_digit(uint8_t byte)
     return byte >= '0' && byte <= '9';
 }
 
-static uint32_t *record(parser *p, uint32_t number)
+static rule_record *record(parser *p, uint32_t number)
 {
-    return p->records[number - 1].cells;
+    return &p->records[number - 1];
 }
 
 /* The number at this place. A `0` is complete with that digit. Above the largest size the value has no meaning but to be above it. */
@@ -81,12 +78,12 @@ static bool walk(parser *p, uint32_t number)
 {
     bool decision = false;
     while (number != 0) {
-        const uint32_t *cells = record(p, number);
-        if ((p->word >> (p->n - cells[LEVEL]) & 1) == 0) {
-            number = cells[FIRST];
+        const rule_record *node = record(p, number);
+        if ((p->word >> (p->n - node->level) & 1) == 0) {
+            number = node->first;
         } else {
-            decision ^= cells[TURNED];
-            number = cells[SECOND];
+            decision ^= node->complement;
+            number = node->second;
         }
     }
     return decision;
@@ -102,19 +99,20 @@ static void pass(parser *p, uint64_t words, uint32_t number, bool turned)
 
 static bool bars(parser *p, standing child)
 {
-    return child.number == TEMPORARY || (child.number != 0 && record(p, child.number)[STAMP] != child.stamp);
+    return child.number == TEMPORARY || (child.number != 0 && record(p, child.number)->stamp != child.stamp);
 }
 
 static void count_parent(parser *p, uint32_t number, uint32_t by)
 {
     if (number != 0)
-        record(p, number)[PARENTS] += by;
+        record(p, number)->parents += by;
 }
 
 /* A `:` after a two-child node. */
 static result store(parser *p, uint32_t level, standing first, bool turned, standing second, standing *node)
 {
-    uint32_t value, *cells;
+    uint32_t value;
+    rule_record *stored;
     size_t begin = p->at + 1;
     result got;
     if (bars(p, first) || bars(p, second))
@@ -127,20 +125,20 @@ static result store(parser *p, uint32_t level, standing first, bool turned, stan
     got = number(p, &value);
     if (got != DONE)
         return got;
-    if (value == 0 || value > p->size || record(p, value)[PARENTS] != 0 || first.number == value || second.number == value)
+    if (value == 0 || value > p->size || record(p, value)->parents != 0 || first.number == value || second.number == value)
         return fault(p, RULE_BAD_NUMBER, begin);
-    cells = record(p, value);
-    count_parent(p, cells[FIRST], UINT32_MAX);
-    count_parent(p, cells[SECOND], UINT32_MAX);
-    cells[LEVEL] = level;
-    cells[FIRST] = first.number;
-    cells[SECOND] = second.number;
-    cells[TURNED] = turned;
-    cells[STAMP]++;
+    stored = record(p, value);
+    count_parent(p, stored->first, UINT32_MAX);
+    count_parent(p, stored->second, UINT32_MAX);
+    stored->level = level;
+    stored->first = first.number;
+    stored->second = second.number;
+    stored->complement = turned;
+    stored->stamp++;
     count_parent(p, first.number, 1);
     count_parent(p, second.number, 1);
     node->number = value;
-    node->stamp = cells[STAMP];
+    node->stamp = stored->stamp;
     p->digit = true;
     return DONE;
 }
@@ -156,11 +154,11 @@ static result leaf(parser *p, uint32_t level, bool turned, standing *node)
     node->number = value;
     node->stamp = 0;
     if (value != 0) {
-        if (value > p->size || record(p, value)[LEVEL] == 0)
+        if (value > p->size || record(p, value)->level == 0)
             return fault(p, RULE_NOT_IN_TABLE, begin);
-        if (record(p, value)[LEVEL] != level)
+        if (record(p, value)->level != level)
             return fault(p, RULE_OTHER_LEVEL, begin);
-        node->stamp = record(p, value)[STAMP];
+        node->stamp = record(p, value)->stamp;
     }
     pass(p, UINT64_C(1) << (p->n + 1 - level), value, turned);
     p->digit = true;

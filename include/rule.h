@@ -39,14 +39,33 @@ extern "C" {
  * it was. On every other return all its records are zero, those beyond RULE_RECORDS too.
  */
 
-/* A record of a work table for reading; its cells have no meaning to the caller. */
+/*
+ * A record of a work table for reading: a stored node. The caller need not set the fields; they tell how large a record is, and what a debugger shows
+ * while a call runs.
+ */
 typedef struct {
-    uint32_t cells[6];
+    uint32_t level;      /* 1 to n; 0: none */
+    uint32_t first;      /* the children, by number; 0: the terminal */
+    uint32_t second;
+    uint32_t complement; /* whether the edge to the second is complemented */
+    uint32_t stamp;      /* how often the number was given out */
+    uint32_t parents;    /* how many records have the number as a child */
 } rule_record;
 
-/* A record of a work table for writing; its cells have no meaning to the caller. */
+/* A record of a work table for writing: a stored node, and its places in the recycling queue and in the unique table. */
 typedef struct {
-    uint32_t cells[12];
+    uint32_t level;
+    uint32_t first;
+    uint32_t second;
+    uint32_t complement;
+    uint32_t stamp;
+    uint32_t parents;
+    uint32_t after;    /* the numbers after and before it in the queue */
+    uint32_t before;
+    uint32_t next;     /* those in its bucket */
+    uint32_t previous;
+    uint32_t head;     /* the first and the last number of the bucket that has this place */
+    uint32_t tail;
 } rule_node;
 
 #define RULE_RECORDS 1024

@@ -5,7 +5,25 @@
 #define AT(type, field, offset) _Static_assert(offsetof(type, field) == (offset), #type " " #field)
 
 SIZE(rule_record, 24);
+AT(rule_record, level, 0);
+AT(rule_record, first, 4);
+AT(rule_record, second, 8);
+AT(rule_record, complement, 12);
+AT(rule_record, stamp, 16);
+AT(rule_record, parents, 20);
 SIZE(rule_node, 48);
+AT(rule_node, level, 0);
+AT(rule_node, first, 4);
+AT(rule_node, second, 8);
+AT(rule_node, complement, 12);
+AT(rule_node, stamp, 16);
+AT(rule_node, parents, 20);
+AT(rule_node, after, 24);
+AT(rule_node, before, 28);
+AT(rule_node, next, 32);
+AT(rule_node, previous, 36);
+AT(rule_node, head, 40);
+AT(rule_node, tail, 44);
 SIZE(rule_checked, 32);
 AT(rule_checked, stream, 4);
 AT(rule_checked, byte, 8);

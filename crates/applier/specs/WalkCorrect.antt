@@ -29,20 +29,21 @@ use Rattle.meeting.specs.declared.Half.{Half}
 use Rattle.meeting.specs.declared.Progress.{Progress}
 use Rattle.meeting.specs.declared.Walked.{Walked}
 use Rattle.edges.specs.Abstraction.{edgeIn}
-use Rattle.edges.specs.declared.Edge.{Edge}
+use Rattle.edges.specs.declared.TableEdge.{TableEdge}
 use Rattle.operation_cache.specs.Abstraction.{keyCells, holds, tellsBy, notedBy}
 use Rattle.operation_cache.specs.declared.Key.{Key}
 use Rattle.operation_cache.specs.declared.Told.{Told}
 use Rattle.applier.specs.Abstraction.{recalledOf, applied}
+use Rattle.node_records.specs.declared.WriterRecord.{WriterRecord}
 
 -- two inputs at their edges
-abbrev pub pair : Edge → List (List ℕ) → Edge → List (List ℕ) → List Source
+abbrev pub pair : TableEdge → List NodeRecord → TableEdge → List NodeRecord → List Source
 pair x t y u = edgeIn x t ∷ edgeIn y u ∷ []
 
 -- ---- What code reads of an edge --------------------------------------------------------------
 
 -- its record, r
-module _ (x : Edge) (t : List (List ℕ)) (r : NodeRecord) (read : r ≡ getIn t (x .size) (x .number)) where
+module _ (x : TableEdge) (t : List NodeRecord) (r : NodeRecord) (read : r ≡ getIn t (x .size) (x .number)) where
   same-node : recordNode r ≡ node (tableOf t (x .size)) (x .number)
   same-node = ap recordNode read ∙ sym (table-node t (x .size) (x .number))
 
@@ -67,19 +68,19 @@ half-asks d i t p h = (omega (arith, p, h), omega (arith, p, h))
 -- ---- What is returned ------------------------------------------------------------------------
 
 -- a part of which the progress is as it was
-pub kept-in : (r : Walked) (h : Half) (x : Progress) (t : List (List ℕ)) (out w : List ℕ) (μ : List (List ℕ)) → r ≡ record { half = h; progress = x }
+pub kept-in : (r : Walked) (h : Half) (x : Progress) (t : List WriterRecord) (out w : List ℕ) (μ : List (List ℕ)) → r ≡ record { half = h; progress = x }
     → recalledOf r t out w μ ≡ unnoted (E.kept (halfOf h) t out w (progressOf x)) μ
 kept-in r h x t out w μ e = ap (λ (r : Walked). recalledOf r t out w μ) e
 
 -- the constant, v
-pub constant-in : (r : Walked) (h : Half) (x : Progress) (v : Bool) (t : List (List ℕ)) (out w : List ℕ) (μ : List (List ℕ))
+pub constant-in : (r : Walked) (h : Half) (x : Progress) (v : Bool) (t : List WriterRecord) (out w : List ℕ) (μ : List (List ℕ))
     → r ≡ record { half = h; progress = x }
     → h ≡ record { number = 0; stamp = 0; skipped = 0; temporary = false; complement = v; wrote = false }
     → recalledOf r t out w μ ≡ unnoted (E.kept (E.constantHalf v) t out w (progressOf x)) μ
 constant-in r h x v t out w μ e f = ap (λ (w : E.Walked). record { walked = w; memo = μ }) (kept-as r h x v t out w e f)
 
 -- what the first half came to (h), again
-pub again-in : (r : Walked) (g h : Half) (x : Progress) (v : Bool) (t : List (List ℕ)) (out w : List ℕ) (μ : List (List ℕ))
+pub again-in : (r : Walked) (g h : Half) (x : Progress) (v : Bool) (t : List WriterRecord) (out w : List ℕ) (μ : List (List ℕ))
     → r ≡ record { half = g; progress = x }
     → g ≡ record { number = h .number; stamp = h .stamp; skipped = h .skipped; temporary = false; complement = v; wrote = false }
     → recalledOf r t out w μ ≡ unnoted (E.kept (E.numberHalf (h .number) (h .stamp) (h .skipped) v false) t out w (progressOf x)) μ
@@ -88,14 +89,14 @@ again-in r g h x v t out w μ e f = ap (λ (w : E.Walked). record { walked = w; 
 -- ---- The ways --------------------------------------------------------------------------------
 
 -- past the options or levels of a rule
-pub applied-past : (op size d i m : ℕ) (xs : List Source) (μ t : List (List ℕ)) (out w : List ℕ) (progress : E.Progress) (b : Bool)
+pub applied-past : (op size d i m : ℕ) (xs : List Source) (μ : List (List ℕ)) (t : List WriterRecord) (out w : List ℕ) (progress : E.Progress) (b : Bool)
     → (ltb optionLimit d || ltb levelLimit i) ≡ b → b ≡ true
     → unnoted (E.kept (E.constantHalf false) t out w progress) μ ≡ applied op size d i m xs μ t out w progress
 applied-past op size d i m xs μ t out w progress b e f =
     sym (ap (λ (b : Bool). cond b (unnoted (E.kept (E.constantHalf false) t out w progress) μ)
     (recallIn slotOf (operate op) size d i m xs μ t out w progress)) (e ∙ f))
 
-pub applied-within : (op size d i m : ℕ) (xs : List Source) (μ t : List (List ℕ)) (out w : List ℕ) (progress : E.Progress) → d ≤ optionLimit
+pub applied-within : (op size d i m : ℕ) (xs : List Source) (μ : List (List ℕ)) (t : List WriterRecord) (out w : List ℕ) (progress : E.Progress) → d ≤ optionLimit
     → i ≤ levelLimit
     → recallIn slotOf (operate op) size d i m xs μ t out w progress ≡ applied op size d i m xs μ t out w progress
 applied-within op size d i m xs μ t out w progress h k =
@@ -103,7 +104,7 @@ applied-within op size d i m xs μ t out w progress h k =
     (recallIn slotOf (operate op) size d i m xs μ t out w progress)) (ap₂ _||_ (le-ltb optionLimit d h) (le-ltb levelLimit i k)))
 
 -- a part of e options, d + 1 of them; r₁, r₂: the records of the inputs' numbers, k: its key, s: the place of that
-module _ (op size d i m : ℕ) (x y : Edge) (t₁ t₂ μ t : List (List ℕ)) (out w : List ℕ) (progress : E.Progress) (e : ℕ) (n : e ≡ suc d)
+module _ (op size d i m : ℕ) (x y : TableEdge) (t₁ t₂ : List NodeRecord) (μ : List (List ℕ)) (t : List WriterRecord) (out w : List ℕ) (progress : E.Progress) (e : ℕ) (n : e ≡ suc d)
     (open′ : fixed (operate op) (pair x t₁ y t₂) ≡ false) (r₁ r₂ : NodeRecord) (read₁ : r₁ ≡ getIn t₁ (x .size) (x .number))
     (read₂ : r₂ ≡ getIn t₂ (y .size) (y .number)) (k : Key)
     (keyed : keyCells k ≡ x .number ∷ r₁ .stamp ∷ bit (x .complement) ∷ y .number ∷ r₂ .stamp ∷ bit (y .complement) ∷ []) (s : ℕ)
@@ -159,9 +160,9 @@ module _ (op size d i m : ℕ) (x y : Edge) (t₁ t₂ μ t : List (List ℕ)) (
       ∙ ap (λ (r : List ℕ). toldHalf r i t) entry-same)
 
   -- it does not; x₁, y₁: the edges at the first half, p: what waits before it, a: what it came to
-  module _ (untold : g .known ≡ false) (x₁ y₁ : Edge) (p : Waiting) (a : Recalled)
-      (first₁ : (t : List (List ℕ)) → r₁ ≡ getIn t (x .size) (x .number) → edgeIn x₁ t ≡ firstSource i (edgeIn x t))
-      (first₂ : (t : List (List ℕ)) → r₂ ≡ getIn t (y .size) (y .number) → edgeIn y₁ t ≡ firstSource i (edgeIn y t))
+  module _ (untold : g .known ≡ false) (x₁ y₁ : TableEdge) (p : Waiting) (a : Recalled)
+      (first₁ : (t : List NodeRecord) → r₁ ≡ getIn t (x .size) (x .number) → edgeIn x₁ t ≡ firstSource i (edgeIn x t))
+      (first₂ : (t : List NodeRecord) → r₂ ≡ getIn t (y .size) (y .number) → edgeIn y₁ t ≡ firstSource i (edgeIn y t))
       (pushed : p ≡ pushAll w m (opener ∷ []))
       (walked : a ≡ recallIn slotOf (operate op) size d (i + 1) (p .count) (pair x₁ t₁ y₁ t₂) μ t out (p .bytes) progress) where
     went : pair x₁ t₁ y₁ t₂ ≡ firstSource i (edgeIn x t₁) ∷ firstSource i (edgeIn y t₂) ∷ []
@@ -177,11 +178,11 @@ module _ (op size d i m : ℕ) (x y : Edge) (t₁ t₂ μ t : List (List ℕ)) (
 
     -- h, z: what the first half came to, and the progress after it; b: both inputs pass; x₂, y₂: the edges at the second half; v: what its first
     -- word comes to, u: the `~` between the halves; c: the second half, f: after both
-    module _ (h : E.Half) (z : E.Progress) (b : Bool) (x₂ y₂ : Edge) (v u : Bool) (q r : Waiting) (c : Recalled) (f : E.Walked)
+    module _ (h : E.Half) (z : E.Progress) (b : Bool) (x₂ y₂ : TableEdge) (v u : Bool) (q r : Waiting) (c : Recalled) (f : E.Walked)
         (came : h ≡ a .walked .half) (left : z ≡ a .walked .progress) (goes : z .full ≡ false)
         (pass : b ≡ ((eqb (x .number) 0 || ltb i (r₁ .level)) && ((eqb (y .number) 0 || ltb i (r₂ .level)) && true)))
-        (second₁ : (t : List (List ℕ)) → r₁ ≡ getIn t (x .size) (x .number) → edgeIn x₂ t ≡ secondSource i (edgeIn x t))
-        (second₂ : (t : List (List ℕ)) → r₂ ≡ getIn t (y .size) (y .number) → edgeIn y₂ t ≡ secondSource i (edgeIn y t))
+        (second₁ : (t : List NodeRecord) → r₁ ≡ getIn t (x .size) (x .number) → edgeIn x₂ t ≡ secondSource i (edgeIn x t))
+        (second₂ : (t : List NodeRecord) → r₂ ≡ getIn t (y .size) (y .number) → edgeIn y₂ t ≡ secondSource i (edgeIn y t))
         (first : v ≡ operate op (x₂ .complement ∷ y₂ .complement ∷ [])) (complement : u ≡ differ (h .complement) v)
         (waited : q ≡ waitIn (a .walked .waits) (p .count) (h .wrote) (h .skipped) (h .number))
         (ready : r ≡ pushAll (q .bytes) (q .count) (tildeIf u)) (met : f ≡ E.secondIn size i (r .count) u h (c .walked)) where

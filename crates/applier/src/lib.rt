@@ -10,7 +10,7 @@ ghost use Rattle.theory_engine.specs.Recalling.{recallIn};
 ghost use Rattle.meeting.specs.Abstraction.{progressOf};
 ghost use Rattle.edges.specs.Abstraction.{edgeIn};
 ghost use Rattle.applier.specs.Abstraction.{recalledOf, applied};
-use edges::Edge;
+use edges::TableEdge;
 use edges::both_pass;
 use edges::first_edge;
 use edges::is_fixed;
@@ -25,7 +25,9 @@ use meeting::kept;
 use meeting::numbered;
 use meeting::progress_of;
 use meeting::second;
+use node_records::NodeRecord;
 use node_records::OPTION_LIMIT;
+use node_records::WriterRecord;
 use node_records::differs;
 use operation_cache::Told;
 use operation_cache::key_of;
@@ -66,11 +68,11 @@ fn walk(
     d: u32,
     i: u32,
     m: usize,
-    x: Edge,
-    y: Edge,
-    t1: &[[u32; 6]],
-    t2: &[[u32; 6]],
-    t: &mut [[u32; 12]],
+    x: TableEdge,
+    y: TableEdge,
+    t1: &[NodeRecord],
+    t2: &[NodeRecord],
+    t: &mut [WriterRecord],
     out: &mut [u8],
     w: &mut [u8],
     c: &mut [[u32; 9]],
@@ -131,11 +133,11 @@ pub fn apply(
     d: u32,
     i: u32,
     m: usize,
-    x: Edge,
-    y: Edge,
-    t1: &[[u32; 6]],
-    t2: &[[u32; 6]],
-    t: &mut [[u32; 12]],
+    x: TableEdge,
+    y: TableEdge,
+    t1: &[NodeRecord],
+    t2: &[NodeRecord],
+    t: &mut [WriterRecord],
     out: &mut [u8],
     w: &mut [u8],
     c: &mut [[u32; 9]],

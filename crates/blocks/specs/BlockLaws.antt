@@ -32,11 +32,12 @@ use Rattle.elements.specs.declared.Opens.{Opens}
 use Rattle.reader.specs.declared.Run.{Run}
 use Rattle.reader.specs.OpenCells.{ReadReached, ReadCursor}
 use Rattle.blocks.specs.Blocks.{ReadBlock, blockOf, Next, nextOf, nextBlock, word-passed}
+use Rattle.node_records.specs.declared.NodeRecord.{NodeRecord}
 
 -- ---- What the loop passes --------------------------------------------------------------------
 
 -- x: what the loop reaches from where r stands, with r's covered count as its stop
-module _ (n : ℕ) (bytes : List ℕ) (r : Run) (o : Opens) (t : List (List ℕ)) (h : Stands n bytes r o t) (x : ReadReached) (u : List (List ℕ))
+module _ (n : ℕ) (bytes : List ℕ) (r : Run) (o : Opens) (t : List NodeRecord) (h : Stands n bytes r o t) (x : ReadReached) (u : List NodeRecord)
     (reached : ReachedBy n bytes (r .covered) x u) where
   abbrev s : State
   s = stateAt r o t
@@ -180,22 +181,22 @@ verdict-decision n bytes w d l e =
 -- ---- The next block --------------------------------------------------------------------------
 
 -- A cursor stands where reading does.
-abbrev pub StandsAt : ℕ → List ℕ → ReadCursor → List (List ℕ) → Type 0
+abbrev pub StandsAt : ℕ → List ℕ → ReadCursor → List NodeRecord → Type 0
 StandsAt n bytes c t = Stands n bytes (c .run) (c .opens) t
 
 -- So the first one, whatever the table holds.
-pub first-stands : (n : ℕ) (bytes : List ℕ) (t : List (List ℕ)) → tableLimit ≤ length t → StandsAt n bytes firstCursor t
+pub first-stands : (n : ℕ) (bytes : List ℕ) (t : List NodeRecord) → tableLimit ≤ length t → StandsAt n bytes firstCursor t
 first-stands n bytes t h = stands-first n bytes t h
 
 -- It covers no more words than the stream does.
-pub stands-read : (n : ℕ) (bytes : List ℕ) (c : ReadCursor) (t : List (List ℕ)) → StandsAt n bytes c t
+pub stands-read : (n : ℕ) (bytes : List ℕ) (c : ReadCursor) (t : List NodeRecord) → StandsAt n bytes c t
     → c .run .covered ≤ reading n bytes .state .covered
 stands-read n bytes c t h =
     omega (arith, at-all n bytes (h .steps) (stateAt (c .run) (c .opens) t) (h .here), trace-covered n bytes)
 
 -- b, u: the next block of a cursor that stands where reading does, and the table after it
-module _ (n : ℕ) (bytes : List ℕ) (few : n ≤ optionLimit) (c : ReadCursor) (t : List (List ℕ)) (h : StandsAt n bytes c t) (b : ReadBlock)
-    (u : List (List ℕ)) (called : record { block = b; table = u } ≡ nextBlock n bytes c t) where
+module _ (n : ℕ) (bytes : List ℕ) (few : n ≤ optionLimit) (c : ReadCursor) (t : List NodeRecord) (h : StandsAt n bytes c t) (b : ReadBlock)
+    (u : List NodeRecord) (called : record { block = b; table = u } ≡ nextBlock n bytes c t) where
   abbrev z : ReadTo
   z = readAll n bytes (c .run .covered) (c .run) (c .opens) t
 

@@ -27,6 +27,7 @@ use Rattle.reader.specs.Loop.{Ends, ReachedBy}
 use Rattle.reader.specs.ReadOn.{ReadTo, readFrom}
 use Rattle.elements.specs.declared.Open.{Open}
 use Rattle.blocks.specs.declared.Block.{Block}
+use Rattle.node_records.specs.declared.NodeRecord.{NodeRecord}
 
 -- ---- Definitions -----------------------------------------------------------------------------
 
@@ -35,7 +36,7 @@ abbrev pub edgeAt : ReadReached → Edge
 edgeAt r = record { number = r .run .last .number; complement = differ (parity (openList (r .opens))) (r .run .complement) }
 
 -- the word w, which the loop's last element passed
-abbrev pub wordAt : List (List ℕ) → ℕ → ReadReached → ℕ → R.Verdict
+abbrev pub wordAt : List NodeRecord → ℕ → ReadReached → ℕ → R.Verdict
 wordAt t n r w = R.verdictOf (complemented (edgeAt r .complement) (tableWalk (tableOf t (r .run .size)) (r .deep + 1) (edgeAt r .number)
     (options (n - r .deep) (w - r .from))))
 
@@ -75,18 +76,18 @@ blockOf y = record {
 -- a block, and the lent table after it
 pub record Next : Type 0 where
   pub block : ReadBlock
-  pub table : List (List ℕ)
+  pub table : List NodeRecord
 
 abbrev pub nextOf : ReadTo → Next
 nextOf z = record { block = blockOf (z .reached); table = z .table }
 
 -- THE NEXT BLOCK: reads on until more words are covered
-unfoldable pub nextBlock : ℕ → List ℕ → ReadCursor → List (List ℕ) → Next
+unfoldable pub nextBlock : ℕ → List ℕ → ReadCursor → List NodeRecord → Next
 unfolding readFrom
 nextBlock n bytes c t = nextOf (readFrom n bytes (c .run .covered) c t)
 
 -- So for a call: y, u: what the loop reaches, and the table after it; b: the block that is made of it
-pub next-called : (n : ℕ) (bytes : List ℕ) (c : ReadCursor) (t : List (List ℕ)) (b : ReadBlock) (y : ReadReached) (u : List (List ℕ))
+pub next-called : (n : ℕ) (bytes : List ℕ) (c : ReadCursor) (t : List NodeRecord) (b : ReadBlock) (y : ReadReached) (u : List NodeRecord)
     → record { reached = y; table = u } ≡ readFrom n bytes (c .run .covered) c t → b ≡ blockOf y → record { block = b; table = u }
     ≡ nextBlock n bytes c t
 unfolding nextBlock
@@ -95,7 +96,7 @@ next-called n bytes c t b y u k e = ap (λ (x : ReadBlock). record { block = x; 
 -- ---- A word that was passed ------------------------------------------------------------------
 
 -- The word that the loop's last element passed, by the table.
-pub word-passed : (n : ℕ) (bytes : List ℕ) (w : ℕ) (r : ReadReached) (u : List (List ℕ)) → ReachedBy n bytes w r u → r .halted ≡ false
+pub word-passed : (n : ℕ) (bytes : List ℕ) (w : ℕ) (r : ReadReached) (u : List NodeRecord) → ReachedBy n bytes w r u → r .halted ≡ false
     → R.verdict n (trace n bytes) w ≡ wordAt u n r w
 word-passed n bytes w r u h e =
     let k = subst (Ends n bytes w r u (h .stands .steps)) e (h .ends) in

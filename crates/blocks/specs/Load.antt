@@ -23,6 +23,7 @@ use Rattle.blocks.specs.Blocks.{ReadBlock, blockOf}
 use Rattle.blocks.specs.declared.Loaded.{Loaded}
 use Rattle.elements.specs.declared.Ref.{Ref}
 use Rattle.reader.specs.declared.Cursor.{Cursor}
+use Rattle.node_records.specs.declared.NodeRecord.{NodeRecord}
 
 -- ---- Definitions -----------------------------------------------------------------------------
 
@@ -34,10 +35,10 @@ pub record LoadTo : Type 0 where
   pub size : ℕ
   pub number : ℕ
   pub complement : Bool
-  pub table : List (List ℕ)
+  pub table : List NodeRecord
 
 -- as code has it; u: the table after it
-abbrev pub loadIn : Loaded → List (List ℕ) → LoadTo
+abbrev pub loadIn : Loaded → List NodeRecord → LoadTo
 loadIn x u = record {
   answer = checkingOf (x .checking);
   whole = x .whole;
@@ -49,15 +50,15 @@ loadIn x u = record {
 }
 
 -- turned down before anything is read
-abbrev pub refusedLoad : C.Cause → List (List ℕ) → LoadTo
+abbrev pub refusedLoad : C.Cause → List NodeRecord → LoadTo
 refusedLoad c t = record { answer = C.refused (C.refusal c 0 0); whole = false; size = 0; number = 0; complement = false; table = t }
 
 -- a is the terminal, or a number that was not given out again
-abbrev pub staysIn : List (List ℕ) → ℕ → Ref → Bool
+abbrev pub staysIn : List NodeRecord → ℕ → Ref → Bool
 staysIn t z a = eqb (getIn t z (a .number) .stamp) (a .stamp)
 
 -- no fault was met, no node is open, and the one that has just ended is in the table
-abbrev pub wholeBy : ReadReached → List (List ℕ) → Bool
+abbrev pub wholeBy : ReadReached → List NodeRecord → Bool
 wholeBy y t = not (y .faulty) && (eqb (y .opens .depth) 0 && (ended (contextOf (y .run .context)) && staysIn t (y .run .size) (y .run .last)))
 
 -- what is made of what the loop reaches
@@ -75,7 +76,7 @@ loadOf z =
     }
 
 -- LOADING a stream: causes 1 and 4, then the stream is read to its end
-unfoldable pub load : ℕ → List ℕ → List (List ℕ) → LoadTo
+unfoldable pub load : ℕ → List ℕ → List NodeRecord → LoadTo
 unfolding readOn
 load n bytes t =
     cond (ltb optionLimit n) (refusedLoad C.optionCount t)
@@ -83,7 +84,7 @@ load n bytes t =
 
 -- ---- The ways through code -------------------------------------------------------------------
 
-module _ (n : ℕ) (bytes : List ℕ) (t : List (List ℕ)) where
+module _ (n : ℕ) (bytes : List ℕ) (t : List NodeRecord) where
   pub load-options : (x : LoadTo) → optionLimit < n → x ≡ refusedLoad C.optionCount t → x ≡ load n bytes t
   unfolding load
   load-options x h e = rw (lt-ltb optionLimit n h) e
@@ -98,7 +99,7 @@ module _ (n : ℕ) (bytes : List ℕ) (t : List (List ℕ)) where
   load-on few room = rw (le-ltb optionLimit n few, le-ltb (length t) tableLimit room) refl
 
   -- y, u: what the loop reaches, and the table after it; b, a, w: the block, the answer and whether it is whole, as code has them
-  pub load-correct : n ≤ optionLimit → tableLimit ≤ length t → (c : Cursor) → c ≡ startCursor → (y : ReadReached) (u : List (List ℕ))
+  pub load-correct : n ≤ optionLimit → tableLimit ≤ length t → (c : Cursor) → c ≡ startCursor → (y : ReadReached) (u : List NodeRecord)
       → record { reached = y; table = u } ≡ readFrom n bytes wordLimit (cursorIn c (replicate openLimit (replicate 4 0))) t → (b : ReadBlock) → b
       ≡ blockOf y
       → (a : C.Result R.Checked) → a ≡ checkedBy y → (w : Bool) → w ≡ wholeBy y u

@@ -23,7 +23,7 @@ use Rattle.theory_reading.specs.Lasting.{Ordered}
 use Rattle.theory_reading.specs.Rooted.{Rooted, reading-ordered, rooted-decides, rooted-deep, rooted-covers}
 use Rattle.elements.specs.Abstraction.{contextOf, refOf, openList}
 use Rattle.elements.specs.OpenLaws.{open-none}
-use Rattle.work_table.specs.Table.{noRecord}
+use Rattle.node_records.specs.Records.{noRecord}
 use Rattle.work_table.specs.TableLaws.{tableOf}
 use Rattle.reader.specs.Simulation.{child-of}
 use Rattle.reader.specs.Advance.{stateAt, bars-record}
@@ -32,6 +32,7 @@ use Rattle.reader.specs.Loop.{firstRun, firstOpens, stands-first}
 use Rattle.checker.specs.CheckCorrect.{checkedBy, Reads, all-reads, check-options, check-table, check-correct}
 use Rattle.reader.specs.ReadOn.{ReadTo, readAll, read-length, read-reaches}
 use Rattle.blocks.specs.Load.{LoadTo, staysIn, wholeBy, refusedLoad, loadOf, load, load-options, load-table, load-on}
+use Rattle.node_records.specs.declared.NodeRecord.{NodeRecord}
 
 -- ---- What is made of what the loop reaches ---------------------------------------------------
 
@@ -46,13 +47,13 @@ ended-later T.afterOne e = refl
 ended-later T.over e = refl
 
 -- what whole says
-record Whole (y : ReadReached) (u : List (List ℕ)) : Type 0 where
+record Whole (y : ReadReached) (u : List NodeRecord) : Type 0 where
   clean : y .faulty ≡ false
   alone : y .opens .depth ≡ 0
   done : ended (contextOf (y .run .context)) ≡ true
   stays : staysIn u (y .run .size) (y .run .last) ≡ true
 
-whole-says : (y : ReadReached) (u : List (List ℕ)) → wholeBy y u ≡ true → Whole y u
+whole-says : (y : ReadReached) (u : List NodeRecord) → wholeBy y u ≡ true → Whole y u
 whole-says y u = go (y .faulty) (eqb (y .opens .depth) 0) (ended (contextOf (y .run .context))) refl refl refl
   where
     go : (a b c : Bool) → y .faulty ≡ a → eqb (y .opens .depth) 0 ≡ b → ended (contextOf (y .run .context)) ≡ c
@@ -63,7 +64,7 @@ whole-says y u = go (y .faulty) (eqb (y .opens .depth) 0) (ended (contextOf (y .
     go false true true i j k e = record { clean = i; alone = eqb-true (y .opens .depth) 0 j; done = k; stays = e }
 
 -- y, u: what the loop reaches at the end of the stream, and the table after it
-module _ (n : ℕ) (bytes : List ℕ) (y : ReadReached) (u : List (List ℕ)) (h : Reads n bytes y u) (w : Whole y u) where
+module _ (n : ℕ) (bytes : List ℕ) (y : ReadReached) (u : List NodeRecord) (h : Reads n bytes y u) (w : Whole y u) where
   abbrev s : State
   s = stateAt (y .run) (y .opens) u
 
@@ -109,7 +110,7 @@ module _ (n : ℕ) (bytes : List ℕ) (y : ReadReached) (u : List (List ℕ)) (h
 
 -- ---- Loading ---------------------------------------------------------------------------------
 
-module _ (n : ℕ) (bytes : List ℕ) (t : List (List ℕ)) where
+module _ (n : ℕ) (bytes : List ℕ) (t : List NodeRecord) where
   abbrev z : ReadTo
   z = readAll n bytes wordLimit firstRun firstOpens t
 
@@ -132,9 +133,9 @@ module _ (n : ℕ) (bytes : List ℕ) (t : List (List ℕ)) where
   -- LOADING ANSWERS as checking does.
   pub load-answer : load n bytes t .answer ≡ R.check noRecord n bytes t .answer
   load-answer = load-ways (λ (x : LoadTo). x .answer ≡ R.check noRecord n bytes t .answer)
-      (λ h. ap (λ (x : R.Read R.Checked (List ℕ)). x .answer) (check-options n bytes t _ h refl))
-      (λ few h. ap (λ (x : R.Read R.Checked (List ℕ)). x .answer) (check-table n bytes t _ few h refl))
-      (λ few room. ap (λ (x : R.Read R.Checked (List ℕ)). x .answer)
+      (λ h. ap (λ (x : R.Read R.Checked NodeRecord). x .answer) (check-options n bytes t _ h refl))
+      (λ few h. ap (λ (x : R.Read R.Checked NodeRecord). x .answer) (check-table n bytes t _ few h refl))
+      (λ few room. ap (λ (x : R.Read R.Checked NodeRecord). x .answer)
       (check-correct n bytes t (checkedBy (z .reached)) (C.cleared noRecord t) (z .reached) (z .table) few room (reads few room) refl refl))
 
   -- The table is as long as it was.
@@ -143,7 +144,7 @@ module _ (n : ℕ) (bytes : List ℕ) (t : List (List ℕ)) where
       (λ few room. read-length (suc (length bytes)) n bytes wordLimit firstRun firstOpens 0 0 t)
 
 -- x: what a call comes to, which is whole
-module _ (n : ℕ) (bytes : List ℕ) (t : List (List ℕ)) (x : LoadTo) (called : x ≡ load n bytes t) (whole : x .whole ≡ true) where
+module _ (n : ℕ) (bytes : List ℕ) (t : List NodeRecord) (x : LoadTo) (called : x ≡ load n bytes t) (whole : x .whole ≡ true) where
   -- what holds of what was read
   abbrev Holds : (LoadTo → Type 0) → Type 0
   Holds P = n ≤ optionLimit → Reads n bytes (z n bytes t .reached) (z n bytes t .table) → Whole (z n bytes t .reached) (z n bytes t .table)

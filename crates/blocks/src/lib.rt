@@ -5,6 +5,7 @@ ghost use Prim.Native.Nat.{ℕ, _-_};
 ghost use Rattle.theory_reading.specs.Covered.{parity};
 ghost use Rattle.theory_reading.specs.Deciding.{ended};
 ghost use Rattle.elements.specs.Abstraction.{openList, contextOf, causeOf};
+ghost use Rattle.node_records.specs.declared.NodeRecord.{NodeRecord};
 ghost use Rattle.reader.specs.OpenCells.{opensIn, reachedIn, cursorIn};
 ghost use Rattle.blocks.specs.Blocks.{edgeAt, blockIn, blockOf, nextBlock};
 ghost use Rattle.blocks.specs.Load.{loadIn, refusedLoad, wholeBy, load};
@@ -16,6 +17,7 @@ use elements::Context;
 use elements::OPEN_LIMIT;
 use elements::context_number;
 use node_records::Edge;
+use node_records::NodeRecord;
 use node_records::OPTION_LIMIT;
 use node_records::TABLE_LIMIT;
 use node_records::WORD_LIMIT;
@@ -107,7 +109,7 @@ fn block_of(r: Reached, o: &[[u32; 4]; OPEN_LIMIT]) -> Block
 pub fn next_block(
     n: u32,
     s: &[u8],
-    t: &mut [[u32; 6]],
+    t: &mut [NodeRecord],
     o: &mut [[u32; 4]; OPEN_LIMIT],
     c: Cursor,
 ) -> Block
@@ -137,7 +139,7 @@ fn has_ended(m: Context) -> bool
 }
 
 // What ended last is the outermost node, and is the terminal or a number that was not given out again.
-fn is_whole(t: &[[u32; 6]], r: Reached) -> bool
+fn is_whole(t: &[NodeRecord], r: Reached) -> bool
     ensures { λ x. ⌜ x ≡ wholeBy (reachedIn r []) (now (t .entry)) ⌝ }
 {
     let f = r.faulty;
@@ -159,7 +161,7 @@ fn is_whole(t: &[[u32; 6]], r: Reached) -> bool
 
 // Turned down before anything is read.
 fn not_loaded(c: Cause) -> Loaded
-    ensures { λ r. ⌜ ((t : List (List ℕ)) → loadIn r t ≡ refusedLoad (causeOf c) t) ⌝ }
+    ensures { λ r. ⌜ ((t : List NodeRecord) → loadIn r t ≡ refusedLoad (causeOf c) t) ⌝ }
 {
     let b = Block {
         cursor: first_cursor(),
@@ -177,7 +179,7 @@ fn not_loaded(c: Cause) -> Loaded
 }
 
 // READING A WHOLE STREAM into its table, which is left as it is then: the answer of `check`, and the outermost node if the table has it.
-pub fn load(n: u32, s: &[u8], t: &mut [[u32; 6]]) -> Loaded
+pub fn load(n: u32, s: &[u8], t: &mut [NodeRecord]) -> Loaded
     ensures { λ r. ⌜ loadIn r (now (t .exit)) ≡ load n (now (s .entry)) (now (t .entry)) ⌝ }
 {
     if OPTION_LIMIT < n {

@@ -3,7 +3,7 @@ ghost use mathlib.Core.Path.{_≡_};
 ghost use mathlib.Core.List.{[]};
 ghost use Rattle.theory_reading.specs.Causes.{refusal};
 ghost use Rattle.theory_reading.specs.Calls.{Checks};
-ghost use Rattle.work_table.specs.Table.{noRecord};
+ghost use Rattle.node_records.specs.Records.{noRecord};
 ghost use Rattle.elements.specs.Abstraction.{causeOf};
 ghost use Rattle.reader.specs.OpenCells.{reachedIn};
 ghost use Rattle.checker.specs.Answers.{refusalOf, checkingOf};
@@ -12,13 +12,14 @@ use elements::Cause;
 use elements::Context;
 use elements::OPEN_LIMIT;
 use elements::is_context;
+use node_records::NodeRecord;
 use node_records::OPTION_LIMIT;
 use node_records::TABLE_LIMIT;
 use node_records::WORD_LIMIT;
+use node_records::clear_records;
 use reader::Reached;
 use reader::first_cursor;
 use reader::read_on;
-use work_table::clear;
 
 // Why a call is turned down: the cause, the stream (0: none) and the byte.
 pub struct Refusal {
@@ -79,7 +80,7 @@ pub fn checked_at(r: Reached) -> Checking
 }
 
 // CHECKING a stream: causes 1 and 4, then those of the stream.
-pub fn check(n: u32, s: &[u8], t: &mut [[u32; 6]]) -> Checking
+pub fn check(n: u32, s: &[u8], t: &mut [NodeRecord]) -> Checking
     ensures { λ r. ⌜ Checks noRecord n (now (s .entry)) (now (t .entry)) (record { answer = checkingOf r; table = now (t .exit) }) ⌝ }
 {
     if OPTION_LIMIT < n {
@@ -91,6 +92,6 @@ pub fn check(n: u32, s: &[u8], t: &mut [[u32; 6]]) -> Checking
     let mut o = [[0u32; 4]; OPEN_LIMIT];
     let r = read_on(n, s, t, &mut o, first_cursor(), WORD_LIMIT);
     let z = t.len();
-    clear(t, z);
+    clear_records(t, z);
     checked_at(r)
 }

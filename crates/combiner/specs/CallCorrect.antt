@@ -27,6 +27,9 @@ use Rattle.operands.specs.Abstraction.{begunFrom}
 use Rattle.text_walk.specs.Abstraction.{streamBy}
 use Rattle.operands.specs.OperandCorrect.{begun-zero}
 use Rattle.text_walk.specs.TextsCorrect.{stream-within}
+use Rattle.node_records.specs.declared.NodeRecord.{NodeRecord}
+use Rattle.node_records.specs.declared.WriterRecord.{WriterRecord}
+use Rattle.node_records.specs.Records.{noRecord, noWriterRecord}
 
 -- ---- What the operator does not ask ----------------------------------------------------------
 
@@ -60,29 +63,29 @@ abbrev pub noOpens : List (List ℕ)
 noOpens = replicate openLimit (replicate 4 0)
 
 -- an input as code has it enters; l: what loading came to, u: the table then, v: as code tests whether it is asked
-enters : (n : ℕ) (s : List ℕ) (l : Loaded) (u : List (List ℕ)) (v w : Bool) → v ≡ w → (φ : T.Operand BlockReader)
+enters : (n : ℕ) (s : List ℕ) (l : Loaded) (u : List NodeRecord) (v w : Bool) → v ≡ w → (φ : T.Operand BlockReader)
     → φ ≡ entered v s (blockIn (l .block) noOpens) (loadIn l u) (begunFrom n s noOpens u)
     → φ ≡ entered w s (blockIn (l .block) noOpens) (loadIn l u) (begunOperand n s u)
 enters n s l u v w e φ h =
     h ∙ ap₂ (λ (v : Bool) (f : T.Operand BlockReader). entered v s (blockIn (l .block) noOpens) (loadIn l u) f) e (begun-zero n s u)
 
 -- past the tests; a and b: what loading came to, u₁ and u₂: the tables then
-module _ (n op size : ℕ) (x y out : List ℕ) (t₁ t₂ t : List (List ℕ)) (few : n ≤ optionLimit) (code : op ≤ 15) (fits : size ≤ tableLimit)
-    (room₁ : tableLimit ≤ length t₁) (room₂ : tableLimit ≤ length t₂) (room : tableLimit ≤ length t) (a b : Loaded) (u₁ u₂ : List (List ℕ))
+module _ (n op size : ℕ) (x y out : List ℕ) (t₁ t₂ : List NodeRecord) (t : List WriterRecord) (few : n ≤ optionLimit) (code : op ≤ 15) (fits : size ≤ tableLimit)
+    (room₁ : tableLimit ≤ length t₁) (room₂ : tableLimit ≤ length t₂) (room : tableLimit ≤ length t) (a b : Loaded) (u₁ u₂ : List NodeRecord)
     (h₁ : loadIn a u₁ ≡ load n x t₁) (h₂ : loadIn b u₂ ≡ load n y t₂) where
   -- i₁, i₂: as code tests what the operator does not ask; φ, ψ: the inputs where they enter; s: what the run sends, r: its answer
   pub ran : (c : ℕ) → done c ≡ bothIn (checkingOf (a .checking)) (checkingOf (b .checking)) → (i₁ i₂ : Bool) → i₁ ≡ ignoresFirst op
       → i₂ ≡ ignoresSecond op → (φ ψ : T.Operand BlockReader) → φ ≡ entered i₁ x (blockIn (a .block) noOpens) (loadIn a u₁) (begunFrom n x noOpens u₁)
-      → ψ ≡ entered i₂ y (blockIn (b .block) noOpens) (loadIn b u₂) (begunFrom n y noOpens u₂) → (t₀ : List (List ℕ))
-      → t₀ ≡ replicate (length t) (replicate 12 0) → (s : Sent)
+      → ψ ≡ entered i₂ y (blockIn (b .block) noOpens) (loadIn b u₂) (begunFrom n y noOpens u₂) → (t₀ : List WriterRecord)
+      → t₀ ≡ replicate (length t) noWriterRecord → (s : Sent)
       → s ≡ streamBy (record { n = n; op = op; size = size; covered = c }) (φ ∷ ψ ∷ []) (emptyRecords cacheEntries 9) t₀ out
       (replicate waitingLimit 0)
       → (r : Answer)
       → r ≡ record { written = s .written; covered = c; ending = cond (s .full) outputFull (cond (eqb c (2 ^ n)) whole inputEnded) }
-      → (v₁ v₂ v : List (List ℕ)) → v₁ ≡ replicate (length t₁) (replicate 6 0) → v₂ ≡ replicate (length t₂) (replicate 6 0)
-      → v ≡ replicate (length t) (replicate 12 0)
+      → (v₁ v₂ : List NodeRecord) (v : List WriterRecord) → v₁ ≡ replicate (length t₁) noRecord → v₂ ≡ replicate (length t₂) noRecord
+      → v ≡ replicate (length t) noWriterRecord
       → record { answer = done r; first = v₁; second = v₂; third = v; output = s .output }
-      ≡ combine (replicate 6 0) (replicate 12 0) n op size x y out t₁ t₂ t
+      ≡ combine noRecord noWriterRecord n op size x y out t₁ t₂ t
   ran c clean i₁ i₂ ie₁ ie₂ φ ψ φe ψe t₀ zero s sent =
       let w : List ℕ = replicate waitingLimit 0 in
       entered-correct n op size x y out t₁ t₂ t few code fits room₁ room₂ room (loadIn a u₁) (loadIn b u₂) h₁ h₂ slotOf cacheEntries 9 c clean w

@@ -6,6 +6,7 @@ ghost use lib.ListN.{length, replicate};
 ghost use Prim.Native.Nat.{_≤_, _^_};
 ghost use Rattle.theory_reading.specs.Limits.{optionLimit};
 ghost use Rattle.theory_reading.specs.Causes.{refusal, refused, done};
+ghost use Rattle.node_records.specs.Records.{noRecord, noWriterRecord};
 ghost use Rattle.elements.specs.Abstraction.{causeOf};
 ghost use Rattle.checker.specs.Answers.{refusalOf, checkingOf};
 ghost use Rattle.theory_writing.specs.Run.{whole, inputEnded, outputFull};
@@ -28,8 +29,12 @@ use elements::OPEN_LIMIT;
 use meeting::Writing;
 use meeting::Written;
 use meeting::ending_of;
+use node_records::NodeRecord;
 use node_records::OPTION_LIMIT;
 use node_records::TABLE_LIMIT;
+use node_records::WriterRecord;
+use node_records::clear_records;
+use node_records::clear_writer_records;
 use node_records::differs;
 use node_records::least;
 use operands::Begun;
@@ -40,8 +45,6 @@ use pending_text::Sent;
 use pending_text::WAITING_LIMIT;
 use text_walk::Task;
 use text_walk::stream;
-use unique_table::clear;
-use work_table::clear as clear_table;
 
 fn answer(n: u32, covered: u64, x: Sent) -> Written
     requires { ⌜ n ≤ optionLimit ⌝ }
@@ -156,7 +159,7 @@ fn ignores_second(op: u32) -> bool
 fn enter(
     n: u32,
     s: &[u8],
-    t: &mut [[u32; 6]],
+    t: &mut [NodeRecord],
     o: &mut [[u32; 4]; OPEN_LIMIT],
     l: Loaded,
     v: bool,
@@ -193,11 +196,11 @@ fn enter(
 }
 
 // Every record of a table for reading becomes zero.
-fn clear_records(t: &mut [[u32; 6]])
-    ensures { λ _. ⌜ now (t .exit) ≡ replicate (length (now (t .entry))) (replicate 6 0) ⌝ }
+fn clear_all(t: &mut [NodeRecord])
+    ensures { λ _. ⌜ now (t .exit) ≡ replicate (length (now (t .entry))) noRecord ⌝ }
 {
     let z = t.len();
-    clear_table(t, z);
+    clear_records(t, z);
 }
 
 // COMBINING two streams by an operator: causes 1 to 4, then those of stream 1, then those of stream 2.
@@ -208,11 +211,11 @@ pub fn combine(
     x: &[u8],
     y: &[u8],
     out: &mut [u8],
-    t1: &mut [[u32; 6]],
-    t2: &mut [[u32; 6]],
-    t: &mut [[u32; 12]],
+    t1: &mut [NodeRecord],
+    t2: &mut [NodeRecord],
+    t: &mut [WriterRecord],
 ) -> Writing
-    ensures { λ r. ⌜ Combines (replicate 6 0) (replicate 12 0) n op size (now (x .entry)) (now (y .entry)) (now (out .entry)) (now (t1 .entry))
+    ensures { λ r. ⌜ Combines noRecord noWriterRecord n op size (now (x .entry)) (now (y .entry)) (now (out .entry)) (now (t1 .entry))
         (now (t2 .entry)) (now (t .entry)) (record {
           answer = writingOf r;
           first = now (t1 .exit);
@@ -241,12 +244,12 @@ pub fn combine(
     }
     let a = load(n, x, t1);
     let b = load(n, y, t2);
-    clear(t);
+    clear_writer_records(t);
     let z = both_loaded(a, b);
     let refused = z.faulty;
     if refused {
-        clear_records(t1);
-        clear_records(t2);
+        clear_all(t1);
+        clear_all(t2);
         return Writing::Refused(refusal_of(z));
     }
     let c = z.covered;
@@ -277,8 +280,8 @@ pub fn combine(
         &mut w,
         &mut m,
     );
-    clear_records(t1);
-    clear_records(t2);
-    clear(t);
+    clear_all(t1);
+    clear_all(t2);
+    clear_writer_records(t);
     Writing::Done(answer(n, c, r))
 }

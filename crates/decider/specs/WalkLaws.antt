@@ -1,7 +1,8 @@
 -- Going down the nodes of the table as code does: an edge to a child at a time. Assumes nothing.
 use mathlib.Core.Path.{_≡_, refl, sym, ap, _∙_}
 use mathlib.Core.Logic.{⊎-elim}
-use mathlib.Core.Bool.{Bool, true, false, cond}
+use mathlib.Core.Bool.{Bool, true, false, cond, not}
+use lib.Dec.{eqb}
 use mathlib.Core.List.{List, _∷_}
 use Prim.Native.Nat.{ℕ, suc, _+_, _-_, _*_, _%_, _^_, _<_, _≤_}
 use native.Mathlib.Omega.{arith}
@@ -37,7 +38,7 @@ pub walk-over : (t : List Node) (i : ℕ) (e : Edge) (m w : ℕ) → (e .number 
 unfolding tableWalk options
 walk-over t i e m w some z = sym (ap (λ (k : ℕ). edgeWalk t i e (options k w)) z ∙ rw (ne-eqb (e .number) 0 some) refl)
 
-module _ (t : List (List ℕ)) (z i : ℕ) (e : Edge) (x : NodeRecord) (some : e .number ≡ 0 → ⊥) (got : x ≡ getIn t z (e .number)) where
+module _ (t : List NodeRecord) (z i : ℕ) (e : Edge) (x : NodeRecord) (some : e .number ≡ 0 → ⊥) (got : x ≡ getIn t z (e .number)) where
   here : node (tableOf t z) (e .number) ≡ recordNode x
   here = table-node t z (e .number) ∙ ap recordNode (sym got)
 
@@ -50,7 +51,7 @@ module _ (t : List (List ℕ)) (z i : ℕ) (e : Edge) (x : NodeRecord) (some : e
 
   -- the option picks the child
   gone : (o : Bool) (os : List Bool) → x .level ≤ i
-      → tableWalk (tableOf t z) i (e .number) (o ∷ os) ≡ cond o (complemented (x .complement) (tableWalk (tableOf t z) (i + 1) (x .second) os))
+      → tableWalk (tableOf t z) i (e .number) (o ∷ os) ≡ cond o (complemented (not (eqb (x .complement) 0)) (tableWalk (tableOf t z) (i + 1) (x .second) os))
       (tableWalk (tableOf t z) (i + 1) (x .first) os)
   gone o os h =
       tableWalk-go (tableOf t z) i (e .number) o os some (omega (arith, level-here, h))
@@ -66,7 +67,7 @@ module _ (t : List (List ℕ)) (z i : ℕ) (e : Edge) (x : NodeRecord) (some : e
   walk-second : (os : List Bool) → edgeWalk (tableOf t z) i e (true ∷ os) ≡ edgeWalk (tableOf t z) (i + 1) (secondEdge x i e) os
   walk-second os = ⊎-elim
       (λ (h : x .level ≤ i). rw (ne-eqb (e .number) 0 some, le-ltb i (x .level) h)
-      (ap (complemented (e .complement)) (gone true os h) ∙ complemented-twice (e .complement) (x .complement)
+      (ap (complemented (e .complement)) (gone true os h) ∙ complemented-twice (e .complement) (not (eqb (x .complement) 0))
       (tableWalk (tableOf t z) (i + 1) (x .second) os)))
       (λ (h : i < x .level). rw (ne-eqb (e .number) 0 some, lt-ltb i (x .level) h) (skipped true os h))
       (decide-le (x .level) i)

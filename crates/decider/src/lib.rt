@@ -6,7 +6,7 @@ ghost use Rattle.theory_reading.specs.Limits.{optionLimit, openLimit};
 ghost use Rattle.theory_reading.specs.Deciding.{decided, complemented, options};
 ghost use Rattle.theory_reading.specs.Calls.{verdictOf, Decides};
 ghost use Rattle.theory_reading.specs.TableWalk.{tableWalk};
-ghost use Rattle.work_table.specs.Table.{noRecord};
+ghost use Rattle.node_records.specs.Records.{noRecord};
 ghost use Rattle.work_table.specs.TableLaws.{tableOf};
 ghost use Rattle.reader.specs.OpenCells.{reachedIn};
 ghost use Rattle.blocks.specs.Blocks.{wordAt};
@@ -20,16 +20,17 @@ use checker::late;
 use elements::Cause;
 use elements::OPEN_LIMIT;
 use node_records::Edge;
+use node_records::NodeRecord;
 use node_records::OPTION_LIMIT;
 use node_records::TABLE_LIMIT;
 use node_records::WORD_LIMIT;
+use node_records::clear_records;
 use node_records::first_edge;
 use node_records::second_edge;
 use reader::Cursor;
 use reader::Reached;
 use reader::first_cursor;
 use reader::read_on;
-use work_table::clear;
 use work_table::get;
 
 pub enum Verdict {
@@ -51,7 +52,7 @@ fn verdict_of(b: bool) -> Verdict
 }
 
 // The word w of the node of level i, m options below it, that e stands for. z: how many numbers there are
-fn walk_down(t: &[[u32; 6]], z: u32, m: u32, i: u32, e: Edge, w: u64) -> Verdict
+fn walk_down(t: &[NodeRecord], z: u32, m: u32, i: u32, e: Edge, w: u64) -> Verdict
     requires { ⌜ (m ≤ optionLimit) × (i + m ≤ openLimit + optionLimit) ⌝ }
     ensures { λ r. ⌜ verdictsOf r ≡ verdictOf (complemented (e .complement) (tableWalk (tableOf (now (t .entry)) z) i (e .number) (options m w))) ⌝ }
 {
@@ -80,7 +81,7 @@ fn decided_at(r: Reached, v: Verdict) -> Deciding
 }
 
 // The word w, which the loop's last element passed.
-fn word_at(t: &[[u32; 6]], o: &[[u32; 4]; OPEN_LIMIT], n: u32, r: Reached, w: u64) -> Verdict
+fn word_at(t: &[NodeRecord], o: &[[u32; 4]; OPEN_LIMIT], n: u32, r: Reached, w: u64) -> Verdict
     requires { ⌜ (n ≤ optionLimit) × ((r .deep ≤ openLimit) × (r .from ≤ w)) ⌝ }
     ensures { λ x. ⌜ verdictsOf x ≡ wordAt (now (t .entry)) n (reachedIn r (now (o .entry))) w ⌝ }
 {
@@ -91,7 +92,7 @@ fn word_at(t: &[[u32; 6]], o: &[[u32; 4]; OPEN_LIMIT], n: u32, r: Reached, w: u6
 }
 
 // DECIDING a word: causes 1, 4 and 5, then those of the stream.
-pub fn decide(n: u32, s: &[u8], w: u64, t: &mut [[u32; 6]]) -> Deciding
+pub fn decide(n: u32, s: &[u8], w: u64, t: &mut [NodeRecord]) -> Deciding
     ensures { λ r. ⌜ Decides noRecord n (now (s .entry)) w (now (t .entry)) (record { answer = decidingOf r; table = now (t .exit) }) ⌝ }
 {
     if OPTION_LIMIT < n {
@@ -108,7 +109,7 @@ pub fn decide(n: u32, s: &[u8], w: u64, t: &mut [[u32; 6]]) -> Deciding
     let h = r.halted;
     if h {
         let z = t.len();
-        clear(t, z);
+        clear_records(t, z);
         return decided_at(r, Verdict::NotYet);
     }
     let v = word_at(t, &o, n, r, w);
@@ -119,6 +120,6 @@ pub fn decide(n: u32, s: &[u8], w: u64, t: &mut [[u32; 6]]) -> Deciding
     };
     let e = read_on(n, s, t, &mut o, c, WORD_LIMIT);
     let z = t.len();
-    clear(t, z);
+    clear_records(t, z);
     decided_at(e, v)
 }

@@ -4,6 +4,8 @@ ghost use Rattle.meeting.specs.Abstraction.{endingsOf, writingOf};
 ghost use Rattle.desk.specs.Numbers.{endingNumber, writtenNumbers, writeGiven, combineGiven};
 use meeting::Ending;
 use meeting::Writing;
+use node_records::NodeRecord;
+use node_records::WriterRecord;
 
 #[repr(C)]
 pub struct RuleWritten {
@@ -64,7 +66,7 @@ pub extern "C" fn rule_write(
     size: u32,
     truths: &[u8],
     output: &mut [u8],
-    table: &mut [[u32; 12]],
+    table: &mut [WriterRecord],
 ) -> RuleWritten
     ensures { λ r. ⌜ record { answer = r; table = now (table .exit); output = now (output .exit) }
         ≡ writeGiven n size (now (truths .entry)) (now (output .entry)) (now (table .entry)) ⌝ }
@@ -81,9 +83,9 @@ pub extern "C" fn rule_combine(
     stream1: &[u8],
     stream2: &[u8],
     output: &mut [u8],
-    table1: &mut [[u32; 6]],
-    table2: &mut [[u32; 6]],
-    table3: &mut [[u32; 12]],
+    table1: &mut [NodeRecord],
+    table2: &mut [NodeRecord],
+    table3: &mut [WriterRecord],
 ) -> RuleWritten
     ensures { λ r. ⌜ record {
       answer = r;

@@ -3,8 +3,9 @@ use mathlib.Core.List.{List}
 use Prim.Native.Nat.{ℕ}
 use Rattle.theory_engine.specs.Applying.{Source}
 use Rattle.work_table.specs.TableLaws.{tableOf}
-use Rattle.edges.specs.declared.Edge.{Edge}
+use Rattle.edges.specs.declared.TableEdge.{TableEdge}
+use Rattle.node_records.specs.declared.NodeRecord.{NodeRecord}
 
 -- an edge in the lent table of its input
-abbrev pub edgeIn : Edge → List (List ℕ) → Source
+abbrev pub edgeIn : TableEdge → List NodeRecord → Source
 edgeIn e t = record { table = tableOf t (e .size); number = e .number; complement = e .complement }

@@ -8,13 +8,13 @@ ghost use Rattle.theory_writing.specs.Run.{digitAt, operate};
 ghost use Rattle.work_table.specs.Table.{getIn};
 ghost use Rattle.theory_engine.specs.Applying.{firstSource, secondSource, fixed};
 ghost use Rattle.edges.specs.Abstraction.{edgeIn};
-use node_records::Edge as NodeEdge;
+use node_records::Edge;
 use node_records::NodeRecord;
 use node_records::differs;
 use node_records::first_edge as first_child;
 use node_records::second_edge as second_child;
 use node_records::skips;
-use unique_table::either;
+use writer_records::either;
 
 // ---- The operator
 
@@ -35,26 +35,26 @@ pub fn operate(op: u32, a: bool, b: bool) -> bool
 // ---- Edges
 
 // An input at an edge of its own table, which has so many numbers: a number (0: the terminal), turned about or not
-pub struct Edge {
+pub struct TableEdge {
     pub number: u32,
     pub complement: bool,
     pub size: u32,
 }
 
 // The edge x without its table, and the edge e in the table of x
-fn bare(x: Edge) -> NodeEdge
+fn bare(x: TableEdge) -> Edge
     ensures { λ r. ⌜ r ≡ record { number = x .number; complement = x .complement } ⌝ }
 {
-    NodeEdge {
+    Edge {
         number: x.number,
         complement: x.complement,
     }
 }
 
-fn beside(x: Edge, e: NodeEdge) -> Edge
+fn beside(x: TableEdge, e: Edge) -> TableEdge
     ensures { λ r. ⌜ r ≡ record { number = e .number; complement = e .complement; size = x .size } ⌝ }
 {
-    Edge {
+    TableEdge {
         number: e.number,
         complement: e.complement,
         size: x.size,
@@ -62,14 +62,14 @@ fn beside(x: Edge, e: NodeEdge) -> Edge
 }
 
 // The edge at the two halves of a part of level i; r: the record of its number
-pub fn first_edge(i: u32, x: Edge, r: NodeRecord) -> Edge
-    ensures { λ y. ⌜ ((t : List (List ℕ)) → r ≡ getIn t (x .size) (x .number) → edgeIn y t ≡ firstSource i (edgeIn x t)) ⌝ }
+pub fn first_edge(i: u32, x: TableEdge, r: NodeRecord) -> TableEdge
+    ensures { λ y. ⌜ ((t : List NodeRecord) → r ≡ getIn t (x .size) (x .number) → edgeIn y t ≡ firstSource i (edgeIn x t)) ⌝ }
 {
     beside(x, first_child(r, i, bare(x)))
 }
 
-pub fn second_edge(i: u32, x: Edge, r: NodeRecord) -> Edge
-    ensures { λ y. ⌜ ((t : List (List ℕ)) → r ≡ getIn t (x .size) (x .number) → edgeIn y t ≡ secondSource i (edgeIn x t)) ⌝ }
+pub fn second_edge(i: u32, x: TableEdge, r: NodeRecord) -> TableEdge
+    ensures { λ y. ⌜ ((t : List NodeRecord) → r ≡ getIn t (x .size) (x .number) → edgeIn y t ≡ secondSource i (edgeIn x t)) ⌝ }
 {
     beside(x, second_child(r, i, bare(x)))
 }
@@ -87,8 +87,8 @@ pub fn both_pass(i: u32, k: u32, r: NodeRecord, j: u32, s: NodeRecord) -> bool
 // ---- What terminals fix
 
 // With the first decision a, the operator gives the same for both decisions of y, or y is the terminal
-fn is_settled(op: u32, a: bool, y: Edge) -> bool
-    ensures { λ r. ⌜ ((t : List (List ℕ)) → r ≡ fixed (λ ds. operate op (a ∷ ds)) (edgeIn y t ∷ [])) ⌝ }
+fn is_settled(op: u32, a: bool, y: TableEdge) -> bool
+    ensures { λ r. ⌜ ((t : List NodeRecord) → r ≡ fixed (λ ds. operate op (a ∷ ds)) (edgeIn y t ∷ [])) ⌝ }
 {
     if y.number == 0 {
         return true;
@@ -97,8 +97,8 @@ fn is_settled(op: u32, a: bool, y: Edge) -> bool
 }
 
 // The terminals among x and y fix what the operator gives.
-pub fn is_fixed(op: u32, x: Edge, y: Edge) -> bool
-    ensures { λ r. ⌜ ((t u : List (List ℕ)) → r ≡ fixed (operate op) (edgeIn x t ∷ edgeIn y u ∷ [])) ⌝ }
+pub fn is_fixed(op: u32, x: TableEdge, y: TableEdge) -> bool
+    ensures { λ r. ⌜ ((t u : List NodeRecord) → r ≡ fixed (operate op) (edgeIn x t ∷ edgeIn y u ∷ [])) ⌝ }
 {
     if !is_settled(op, x.complement, y) {
         return false;

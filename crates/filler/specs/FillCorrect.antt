@@ -23,7 +23,7 @@ use Rattle.theory_reading.specs.Passing.{startTrace}
 use Rattle.theory_reading.specs.Filling.{putNode}
 use Rattle.theory_reading.specs.Reaching.{At, at-fault, at-end, at-end-trace, at-within, at-most, filled-first, filled-alike, filled-on}
 use Rattle.elements.specs.Abstraction.{refOf, causeOf, openList}
-use Rattle.work_table.specs.Table.{noRecord}
+use Rattle.node_records.specs.Records.{noRecord}
 use Rattle.work_table.specs.TableLaws.{tableOf}
 use Rattle.reader.specs.Simulation.{child-of}
 use Rattle.reader.specs.Advance.{stateAt, HaltsAt}
@@ -39,20 +39,21 @@ use Rattle.reader.specs.declared.Cursor.{Cursor}
 use Rattle.elements.specs.declared.Opens.{Opens}
 use Rattle.reader.specs.declared.Run.{Run}
 use Rattle.reader.specs.OpenCells.{ReadReached, opensIn}
+use Rattle.node_records.specs.declared.NodeRecord.{NodeRecord}
 
 -- What filling keeps: the truth table has the words that are covered where the loop stands.
-pub record FilledTo (n : ℕ) (bytes : List ℕ) (r : Run) (o : Opens) (t : List (List ℕ)) (v : List ℕ) : Type 0 where
+pub record FilledTo (n : ℕ) (bytes : List ℕ) (r : Run) (o : Opens) (t : List NodeRecord) (v : List ℕ) : Type 0 where
   pub stands : Stands n bytes r o t
   pub words : v ≡ bytesFrom (2 ^ n / 8) n (traceOn (stands .steps) n bytes startTrace) 0
 
 -- At the start it is all zero.
-filled-start : (n : ℕ) (bytes : List ℕ) (t : List (List ℕ)) (v : List ℕ) → tableLimit ≤ length t → v ≡ replicate (2 ^ n / 8) 0
+filled-start : (n : ℕ) (bytes : List ℕ) (t : List NodeRecord) (v : List ℕ) → tableLimit ≤ length t → v ≡ replicate (2 ^ n / 8) 0
     → FilledTo n bytes firstRun firstOpens t v
 unfolding stands-first
 filled-start n bytes t v room e = record { stands = stands-first n bytes t room; words = e ∙ sym (filled-first n bytes (2 ^ n / 8)) }
 
 -- So for code that begins there.
-pub filled-begun : (n : ℕ) (bytes : List ℕ) (t : List (List ℕ)) (v : List ℕ) (c : Cursor) → tableLimit ≤ length t → v ≡ replicate (2 ^ n / 8) 0 → c
+pub filled-begun : (n : ℕ) (bytes : List ℕ) (t : List NodeRecord) (v : List ℕ) (c : Cursor) → tableLimit ≤ length t → v ≡ replicate (2 ^ n / 8) 0 → c
     ≡ startCursor
     → FilledTo n bytes (c .run) (opensIn (replicate openLimit (replicate 4 0)) (c .depth)) t v
 filled-begun n bytes t v c room e ce =
@@ -60,8 +61,8 @@ filled-begun n bytes t v c room e ce =
     (filled-start n bytes t v room e)
 
 -- x: what the loop reaches from where r stands, with r's covered count as its stop
-module _ (n : ℕ) (bytes : List ℕ) (r : Run) (o : Opens) (t : List (List ℕ)) (v : List ℕ) (h : FilledTo n bytes r o t v) (few : n ≤ optionLimit)
-    (x : ReadReached) (u : List (List ℕ)) (called : record { reached = x; table = u }
+module _ (n : ℕ) (bytes : List ℕ) (r : Run) (o : Opens) (t : List NodeRecord) (v : List ℕ) (h : FilledTo n bytes r o t v) (few : n ≤ optionLimit)
+    (x : ReadReached) (u : List NodeRecord) (called : record { reached = x; table = u }
     ≡ readFrom n bytes (r .covered) (record { run = r; opens = o }) t) where
   reached : ReachedBy n bytes (r .covered) x u
   reached = read-called n bytes few (r .covered) (stands-covered n bytes few r o t (h .stands)) (record { run = r; opens = o }) t (h .stands)
@@ -167,7 +168,7 @@ module _ (n : ℕ) (bytes : List ℕ) (r : Run) (o : Opens) (t : List (List ℕ)
 abbrev pub filledBy : ReadReached → C.Result ℕ
 filledBy r = cond (r .faulty) (C.refused (lateOf r)) (C.done (r .run .covered))
 
-module _ (n : ℕ) (bytes old : List ℕ) (t : List (List ℕ)) where
+module _ (n : ℕ) (bytes old : List ℕ) (t : List NodeRecord) where
   pub fill-options : (a : C.Result ℕ) → isTruthCount n ≡ false → a ≡ C.refused (C.refusal C.optionCount 0 0)
       → record { answer = a; table = t; truths = old } ≡ R.fill noRecord n bytes old t
   unfolding R.fill R.fillAnswer C.gate C.tableAfter C.unlessRefused
@@ -183,7 +184,7 @@ module _ (n : ℕ) (bytes old : List ℕ) (t : List (List ℕ)) where
   unfolding R.fill R.fillAnswer C.gate C.tableAfter C.unlessRefused
   fill-length a few room h e = rw (e, few, le-ltb (length t) tableLimit room, ne-eqb (length old) (2 ^ n / 8) h) refl
 
-  fill-answer : (r : ReadReached) (u : List (List ℕ)) → isTruthCount n ≡ true → tableLimit ≤ length t → length old ≡ 2 ^ n / 8 → Reads n bytes r u
+  fill-answer : (r : ReadReached) (u : List NodeRecord) → isTruthCount n ≡ true → tableLimit ≤ length t → length old ≡ 2 ^ n / 8 → Reads n bytes r u
       → R.fillAnswer n bytes old (length t) ≡ filledBy r
   unfolding R.fillAnswer C.gate
   fill-answer r u few room l h =
@@ -191,13 +192,13 @@ module _ (n : ℕ) (bytes old : List ℕ) (t : List (List ℕ)) where
       (unless-read n bytes r u h (r .run .covered) (λ (x : Reading). x .state .covered) refl)
 
   -- v: the truth table, as it was if there is a fault
-  pub fill-correct : (a : C.Result ℕ) (z : List (List ℕ)) (v : List ℕ) (r : ReadReached) (u : List (List ℕ)) → isTruthCount n ≡ true
+  pub fill-correct : (a : C.Result ℕ) (z : List NodeRecord) (v : List ℕ) (r : ReadReached) (u : List NodeRecord) → isTruthCount n ≡ true
       → tableLimit ≤ length t → length old ≡ 2 ^ n / 8 → Reads n bytes r u
       → a ≡ filledBy r → z ≡ C.cleared noRecord t → v ≡ cond (r .faulty) old (R.bytesFrom (2 ^ n / 8) n (trace n bytes) 0)
       → record { answer = a; table = z; truths = v } ≡ R.fill noRecord n bytes old t
   unfolding R.fill C.unlessRefused
   fill-correct a z v r u few room l h e k i =
-      ap₂ (λ (b : C.Result ℕ) (y : List (List ℕ)). record { answer = b; table = y; truths = v }) e
+      ap₂ (λ (b : C.Result ℕ) (y : List NodeRecord). record { answer = b; table = y; truths = v }) e
       (k ∙ sym (table-after n bytes r u h (r .run .covered) t))
       ∙ ap (λ (x : List ℕ). record { answer = filledBy r; table = C.tableAfter noRecord (filledBy r) t; truths = x }) (i ∙ go (r .faulty))
       ∙ sym (ap (λ (b : C.Result ℕ). record {

@@ -144,7 +144,7 @@ two-cond m t i w bs true e f g = refl
 two-cond m t i w bs false e f g = refl
 
 -- Else it has the words of its first child, then those of its second.
-pub put-both : (m : ℕ) (t : List (List ℕ)) (z i : ℕ) (e : Edge) (w : ℕ) (bs : List ℕ)
+pub put-both : (m : ℕ) (t : List NodeRecord) (z i : ℕ) (e : Edge) (w : ℕ) (bs : List ℕ)
     → putNodeIn (suc m) (tableOf t z) i (e .number) (e .complement) w bs
     ≡ (let x = getIn t z (e .number) in
     let f = firstEdge x i e in
@@ -159,7 +159,7 @@ put-both m t z i e w bs =
     ∙ two-cond m (tableOf t z) i w bs (eqb (e .number) 0 || ltb i (getIn t z (e .number) .level)) e _ _
 
 -- a node as `fill_node` puts it
-pub put-correct : (m : ℕ) (t : List (List ℕ)) (z i : ℕ) (x : NodeRecord) (e f g : Edge) (w h : ℕ) (bs cs ds : List ℕ) → m ≤ truthTableMost
+pub put-correct : (m : ℕ) (t : List NodeRecord) (z i : ℕ) (x : NodeRecord) (e f g : Edge) (w h : ℕ) (bs cs ds : List ℕ) → m ≤ truthTableMost
     → (m ≡ 0 → ⊥)
     → x ≡ getIn t z (e .number) → f ≡ firstEdge x i e → g ≡ secondEdge x i e → h ≡ 1 * 2 ^ (m - 1) % 18446744073709551616
     → cs ≡ putNodeIn (m - 1) (tableOf t z) (i + 1) (f .number) (f .complement) w bs

@@ -9,7 +9,7 @@ ghost use Rattle.theory_reading.specs.Limits.{optionLimit, openLimit, tableLimi
 ghost use Rattle.theory_reading.specs.Reading.{reading};
 ghost use Rattle.theory_reading.specs.Deciding.{trace};
 ghost use Rattle.theory_reading.specs.Calls.{bytesFrom, Fills};
-ghost use Rattle.work_table.specs.Table.{noRecord};
+ghost use Rattle.node_records.specs.Records.{noRecord};
 ghost use Rattle.work_table.specs.TableLaws.{tableOf};
 ghost use Rattle.checker.specs.CheckCorrect.{AsLong};
 ghost use Rattle.filler.specs.Answers.{fillingOf};
@@ -22,16 +22,17 @@ use checker::late;
 use elements::Cause;
 use elements::OPEN_LIMIT;
 use node_records::Edge;
+use node_records::NodeRecord;
 use node_records::TABLE_LIMIT;
 use node_records::TRUTH_TABLE_LEAST;
 use node_records::TRUTH_TABLE_MOST;
 use node_records::WORD_LIMIT;
+use node_records::clear_records;
 use node_records::first_edge;
 use node_records::second_edge;
 use reader::Cursor;
 use reader::first_cursor;
 use reader::read_on;
-use work_table::clear;
 use work_table::get;
 
 // What filling answers: the covered count.
@@ -79,7 +80,7 @@ fn put_edge(v: &mut [u8], e: Edge, w: usize)
 }
 
 // The words from w on of the node of level i, m options below it, that e stands for. z: how many numbers there are
-fn fill_node(t: &[[u32; 6]], z: u32, v: &mut [u8], m: u32, i: u32, e: Edge, w: usize)
+fn fill_node(t: &[NodeRecord], z: u32, v: &mut [u8], m: u32, i: u32, e: Edge, w: usize)
     requires { ⌜ (m ≤ truthTableMost) × ((i + m ≤ openLimit + optionLimit) × (w + 2 ^ m ≤ truthLimit)) ⌝ }
     ensures { λ _. ⌜ now (v .exit) ≡ putNodeIn m (tableOf (now (t .entry)) z) i (e .number) (e .complement) w (now (v .entry)) ⌝ }
 {
@@ -96,7 +97,7 @@ fn fill_node(t: &[[u32; 6]], z: u32, v: &mut [u8], m: u32, i: u32, e: Edge, w: u
 // ---- The call
 
 // Node by node, the words that the stream covers.
-fn fill_words(n: u32, s: &[u8], v: &mut [u8], t: &mut [[u32; 6]])
+fn fill_words(n: u32, s: &[u8], v: &mut [u8], t: &mut [NodeRecord])
     requires { ⌜ (truthTableLeast ≤ n) × ((n ≤ truthTableMost) × ((tableLimit ≤ length (now t))
         × ((reading n (now s) .fault ≡ none) × (now v ≡ replicate (2 ^ n / 8) 0)))) ⌝ }
     ensures { λ _. ⌜ (now (v .exit) ≡ bytesFrom (2 ^ n / 8) n (trace n (now (s .entry))) 0) × AsLong (now (t .exit)) (now (t .entry)) ⌝ }
@@ -130,7 +131,7 @@ fn fill_words(n: u32, s: &[u8], v: &mut [u8], t: &mut [[u32; 6]])
 }
 
 // FILLING a truth table: causes 1, 4 and 6, then those of the stream, which is read once more to fill.
-pub fn fill(n: u32, s: &[u8], v: &mut [u8], t: &mut [[u32; 6]]) -> Filling
+pub fn fill(n: u32, s: &[u8], v: &mut [u8], t: &mut [NodeRecord]) -> Filling
     ensures { λ r. ⌜ Fills noRecord n (now (s .entry)) (now (v .entry)) (now (t .entry))
         (record { answer = fillingOf r; table = now (t .exit); truths = now (v .exit) }) ⌝ }
 {
@@ -151,13 +152,13 @@ pub fn fill(n: u32, s: &[u8], v: &mut [u8], t: &mut [[u32; 6]]) -> Filling
     let f = r.faulty;
     if f {
         let z = t.len();
-        clear(t, z);
+        clear_records(t, z);
         return Filling::Refused(late(r));
     }
     wipe(v);
     fill_words(n, s, v, t);
     let z = t.len();
-    clear(t, z);
+    clear_records(t, z);
     let q = r.run;
     Filling::Done(q.covered)
 }

@@ -6,10 +6,11 @@ use Prim.Native.Nat.{ℕ}
 use Rattle.theory_lists.specs.Lists.{bit}
 use Rattle.theory_reading.specs.Causes.{Result, refused, done, causeRow}
 use Rattle.theory_reading.specs.Calls as R
-use Rattle.work_table.specs.Table.{noRecord}
+use Rattle.node_records.specs.Records.{noRecord}
 use Rattle.firmware.specs.declared.RuleChecked.{RuleChecked}
 use Rattle.firmware.specs.declared.RuleDecided.{RuleDecided}
 use Rattle.firmware.specs.declared.RuleFilled.{RuleFilled}
+use Rattle.node_records.specs.declared.NodeRecord.{NodeRecord}
 
 abbrev pub extentNumber : R.Extent → ℕ
 extentNumber R.cut = 0
@@ -40,38 +41,38 @@ filledNumbers (done k) = record { cause = 0; stream = 0; byte = 0; covered = k }
 -- an answer, with the work table after the call
 pub record Given (A : Type 0) : Type 0 where
   pub answer : A
-  pub table : List (List ℕ)
+  pub table : List NodeRecord
 
-abbrev pub checkGiven : ℕ → List ℕ → List (List ℕ) → Given RuleChecked
+abbrev pub checkGiven : ℕ → List ℕ → List NodeRecord → Given RuleChecked
 checkGiven n bytes t = let c = R.check noRecord n bytes t in record { answer = checkedNumbers (c .answer); table = c .table }
 
-abbrev pub decideGiven : ℕ → List ℕ → ℕ → List (List ℕ) → Given RuleDecided
+abbrev pub decideGiven : ℕ → List ℕ → ℕ → List NodeRecord → Given RuleDecided
 decideGiven n bytes w t = let c = R.decide noRecord n bytes w t in record { answer = decidedNumbers (c .answer); table = c .table }
 
 -- The numbers of what a call answers.
-pub check-numbers : (r : RuleChecked) (a : Result R.Checked) (z : List (List ℕ)) (n : ℕ) (bytes : List ℕ) (t : List (List ℕ)) → r ≡ checkedNumbers a
+pub check-numbers : (r : RuleChecked) (a : Result R.Checked) (z : List NodeRecord) (n : ℕ) (bytes : List ℕ) (t : List NodeRecord) → r ≡ checkedNumbers a
     → record { answer = a; table = z } ≡ R.check noRecord n bytes t
     → record { answer = r; table = z } ≡ checkGiven n bytes t
 check-numbers r a z n bytes t e h = ap (λ (x : RuleChecked). record { answer = x; table = z }) e
-    ∙ ap (λ (x : R.Read R.Checked (List ℕ)). record { answer = checkedNumbers (x .answer); table = x .table }) h
+    ∙ ap (λ (x : R.Read R.Checked NodeRecord). record { answer = checkedNumbers (x .answer); table = x .table }) h
 
-pub decide-numbers : (r : RuleDecided) (a : Result R.Verdict) (z : List (List ℕ)) (n : ℕ) (bytes : List ℕ) (w : ℕ) (t : List (List ℕ)) → r
+pub decide-numbers : (r : RuleDecided) (a : Result R.Verdict) (z : List NodeRecord) (n : ℕ) (bytes : List ℕ) (w : ℕ) (t : List NodeRecord) → r
     ≡ decidedNumbers a → record { answer = a; table = z } ≡ R.decide noRecord n bytes w t
     → record { answer = r; table = z } ≡ decideGiven n bytes w t
 decide-numbers r a z n bytes w t e h = ap (λ (x : RuleDecided). record { answer = x; table = z }) e
-    ∙ ap (λ (x : R.Read R.Verdict (List ℕ)). record { answer = decidedNumbers (x .answer); table = x .table }) h
+    ∙ ap (λ (x : R.Read R.Verdict NodeRecord). record { answer = decidedNumbers (x .answer); table = x .table }) h
 
 -- likewise with the truth table
 pub record GivenWords : Type 0 where
   pub answer : RuleFilled
-  pub table : List (List ℕ)
+  pub table : List NodeRecord
   pub truths : List ℕ
 
-abbrev pub fillGiven : ℕ → List ℕ → List ℕ → List (List ℕ) → GivenWords
+abbrev pub fillGiven : ℕ → List ℕ → List ℕ → List NodeRecord → GivenWords
 fillGiven n bytes old t = let c = R.fill noRecord n bytes old t in record { answer = filledNumbers (c .answer); table = c .table; truths = c .truths }
 
-pub fill-numbers : (r : RuleFilled) (a : Result ℕ) (z : List (List ℕ)) (v : List ℕ) (n : ℕ) (bytes old : List ℕ) (t : List (List ℕ)) → r
+pub fill-numbers : (r : RuleFilled) (a : Result ℕ) (z : List NodeRecord) (v : List ℕ) (n : ℕ) (bytes old : List ℕ) (t : List NodeRecord) → r
     ≡ filledNumbers a → record { answer = a; table = z; truths = v } ≡ R.fill noRecord n bytes old t
     → record { answer = r; table = z; truths = v } ≡ fillGiven n bytes old t
 fill-numbers r a z v n bytes old t e h = ap (λ (x : RuleFilled). record { answer = x; table = z; truths = v }) e
-    ∙ ap (λ (x : R.Fill (List ℕ)). record { answer = filledNumbers (x .answer); table = x .table; truths = x .truths }) h
+    ∙ ap (λ (x : R.Fill NodeRecord). record { answer = filledNumbers (x .answer); table = x .table; truths = x .truths }) h

@@ -12,6 +12,7 @@ use decider::Deciding;
 use decider::Verdict;
 use elements::Cause;
 use filler::Filling;
+use node_records::NodeRecord;
 
 #[repr(C)]
 pub struct RuleChecked {
@@ -95,7 +96,7 @@ fn checked_numbers(a: Checking) -> RuleChecked
 
 // CHECKING a stream
 #[no_mangle]
-pub extern "C" fn rule_check(n: u32, stream: &[u8], table: &mut [[u32; 6]]) -> RuleChecked
+pub extern "C" fn rule_check(n: u32, stream: &[u8], table: &mut [NodeRecord]) -> RuleChecked
     ensures { λ r. ⌜ record { answer = r; table = now (table .exit) } ≡ checkGiven n (now (stream .entry)) (now (table .entry)) ⌝ }
 {
     checked_numbers(checker::check(n, stream, table))
@@ -141,7 +142,7 @@ pub extern "C" fn rule_decide(
     n: u32,
     stream: &[u8],
     word: u64,
-    table: &mut [[u32; 6]],
+    table: &mut [NodeRecord],
 ) -> RuleDecided
     ensures { λ r. ⌜ record { answer = r; table = now (table .exit) } ≡ decideGiven n (now (stream .entry)) word (now (table .entry)) ⌝ }
 {
@@ -176,7 +177,7 @@ pub extern "C" fn rule_fill(
     n: u32,
     stream: &[u8],
     truths: &mut [u8],
-    table: &mut [[u32; 6]],
+    table: &mut [NodeRecord],
 ) -> RuleFilled
     ensures { λ r. ⌜ record { answer = r; table = now (table .exit); truths = now (truths .exit) }
         ≡ fillGiven n (now (stream .entry)) (now (truths .entry)) (now (table .entry)) ⌝ }

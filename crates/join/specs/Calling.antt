@@ -15,6 +15,10 @@ use Rattle.theory_writing.specs.Join.{Job, jobLimit, report, called, answered}
 use Rattle.claims.specs.Runs.{ran}
 use Rattle.theory_engine.specs.Pending.{waiting}
 use Rattle.report.specs.Printing.{lineLimit, reportText, reportIn, text-there}
+use Rattle.node_records.specs.Records.{noRecord, noWriterRecord}
+use Rattle.node_records.specs.declared.NodeRecord.{NodeRecord}
+use Rattle.node_records.specs.declared.WriterRecord.{WriterRecord}
+use Rattle.job_call.specs.Called.{ownCall}
 use Rattle.join.specs.Joining.{reportLimit}
 
 -- an answer that has an output comes with no more options than the limit
@@ -86,7 +90,7 @@ module _ {R S : Type 0} (z : R) (o : S) (n op size : ℕ) (x y out : List ℕ) (
       call-report = ap₂ (report n) (answers ∙ same-answer) (leaves ∙ same-output)
 
       -- what is then in a row that has room for it
-      pub call-printed : (r : List ℕ) {l : List ℕ} {k : ℕ} → reportLimit ≤ length r → waiting l k ≡ reportIn n a w r
+      call-printed : (r : List ℕ) {l : List ℕ} {k : ℕ} → reportLimit ≤ length r → waiting l k ≡ reportIn n a w r
           → length (reportText n a w) ≤ length w + lineLimit → (take k l ≡ answered (some job)) × (k ≤ length l)
       unfolding reportIn
       call-printed r i m o =
@@ -95,3 +99,17 @@ module _ {R S : Type 0} (z : R) (o : S) (n op size : ℕ) (x y out : List ℕ) (
             there .0 ∙ report-settled n a w (settled a answers) ∙ call-report,
             omega (arith, there .1, there .2, i, o, z, length-left),
           )
+
+-- the same for a call with tables of its own
+pub own-printed : (n op size : ℕ) (x y out : List ℕ) (a : Result Answer) (w : List ℕ) → (a ≡ ownCall n op size x y out .answer)
+    × (w ≡ ownCall n op size x y out .output) → out ≡ replicate jobLimit 0 → (r : List ℕ) {l : List ℕ} {k : ℕ} → reportLimit ≤ length r
+    → waiting l k ≡ reportIn n a w r → length (reportText n a w) ≤ length w + lineLimit
+    → (take k l ≡ answered (some (record { n = n; op = op; size = size; stream₁ = x; stream₂ = y }))) × (k ≤ length l)
+own-printed n op size x y out a w e p r i m o =
+    let c : Combine NodeRecord WriterRecord = ownCall n op size x y out in
+    let t : List NodeRecord = replicate tableLimit noRecord in
+    let v : List WriterRecord = replicate tableLimit noWriterRecord in
+    let long = length-replicate {A = NodeRecord} tableLimit noRecord in
+    call-printed noRecord noWriterRecord n op size x y out t t v a (c .first) (c .second) (c .third) w
+    (ap₂ (λ (b : Result Answer) (z : List ℕ). record { answer = b; first = c .first; second = c .second; third = c .third; output = z }) (e .0) (e .1))
+    p long long (length-replicate {A = WriterRecord} tableLimit noWriterRecord) r i m o

@@ -10,7 +10,6 @@ use job::JOB_LIMIT;
 use job::Parsing;
 use libc::STDIN_FILENO;
 use libc::STDOUT_FILENO;
-use node_records::TABLE_LIMIT;
 use report::LINE_LIMIT;
 
 // A job has at most JOB_LIMIT bytes; one more shows that the input has more.
@@ -27,10 +26,7 @@ fn run(n: u32, op: u32, size: u32, x: &[u8], y: &[u8], w: &mut [u8; REPORT_LIMIT
     ensures { λ r. ⌜ r ≤ length (now (w .exit)) ⌝ }
 {
     let mut out = [0u8; JOB_LIMIT];
-    let mut t = [[0u32; 6]; TABLE_LIMIT];
-    let mut u = [[0u32; 6]; TABLE_LIMIT];
-    let mut v = [[0u32; 12]; TABLE_LIMIT];
-    let a = combiner::combine(n, op, size, x, y, &mut out, &mut t, &mut u, &mut v);
+    let a = job_call::call(n, op, size, x, y, &mut out);
     report::print(n, a, &out, w)
 }
 

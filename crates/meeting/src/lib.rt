@@ -7,18 +7,19 @@ ghost use Rattle.theory_engine.specs.Engine.{isStale, alikeConstant, alikeNumbe
 ghost use Rattle.theory_engine.specs.Engine.{meetIn, secondIn, doneIn};
 ghost use Rattle.meeting.specs.Abstraction.{halfOf, progressOf, walkedOf, endingsOf};
 use checker::Refusal;
+use node_records::WriterRecord;
 use pending_text::Sent;
 use pending_text::close;
 use pending_text::push;
 use pending_text::send;
 use pending_text::wait;
 use unique_table::Ends;
-use unique_table::either;
 use unique_table::find;
 use unique_table::next_number;
-use unique_table::one_more;
 use unique_table::stamp_of;
 use unique_table::store;
+use writer_records::either;
+use writer_records::one_more;
 
 // ---- Halves
 
@@ -107,7 +108,7 @@ fn alike_constant(v: bool, a: Half, b: Half) -> bool
 }
 
 // Its number was given out again since.
-fn is_stale(t: &[[u32; 12]], a: Half) -> bool
+fn is_stale(t: &[WriterRecord], a: Half) -> bool
     ensures { λ r. ⌜ r ≡ isStale (now (t .entry)) (halfOf a) ⌝ }
 {
     if a.number == 0 {
@@ -117,7 +118,7 @@ fn is_stale(t: &[[u32; 12]], a: Half) -> bool
 }
 
 // Rule 2: same number, no `~`, not given out again since either half got it.
-fn alike_number(t: &[[u32; 12]], v: bool, a: Half, b: Half) -> bool
+fn alike_number(t: &[WriterRecord], v: bool, a: Half, b: Half) -> bool
     ensures { λ r. ⌜ r ≡ alikeNumber (now (t .entry)) v (halfOf a) (halfOf b) ⌝ }
 {
     if a.number == 0 {
@@ -136,7 +137,7 @@ fn alike_number(t: &[[u32; 12]], v: bool, a: Half, b: Half) -> bool
 }
 
 // Rule 3, of one half: temporary, or its number given out again since.
-fn is_barred(t: &[[u32; 12]], a: Half) -> bool
+fn is_barred(t: &[WriterRecord], a: Half) -> bool
     ensures { λ r. ⌜ r ≡ barredHalf (now (t .entry)) (halfOf a) ⌝ }
 {
     let x = a.temporary;
@@ -227,7 +228,7 @@ fn write_temporary(
     v: bool,
     a: Half,
     b: Half,
-    t: &mut [[u32; 12]],
+    t: &mut [WriterRecord],
     out: &mut [u8],
     w: &mut [u8],
     progress: Progress,
@@ -252,7 +253,7 @@ fn give(
     v: bool,
     a: Half,
     b: Half,
-    t: &mut [[u32; 12]],
+    t: &mut [WriterRecord],
     out: &mut [u8],
     w: &mut [u8],
     progress: Progress,
@@ -284,7 +285,7 @@ fn known(
     v: bool,
     a: Half,
     b: Half,
-    t: &mut [[u32; 12]],
+    t: &mut [WriterRecord],
     out: &mut [u8],
     w: &mut [u8],
     progress: Progress,
@@ -308,7 +309,7 @@ fn meet(
     v: bool,
     a: Half,
     b: Half,
-    t: &mut [[u32; 12]],
+    t: &mut [WriterRecord],
     out: &mut [u8],
     w: &mut [u8],
     progress: Progress,
@@ -349,7 +350,7 @@ pub fn second(
     v: bool,
     a: Half,
     b: Walked,
-    t: &mut [[u32; 12]],
+    t: &mut [WriterRecord],
     out: &mut [u8],
     w: &mut [u8],
 ) -> Walked

@@ -1,5 +1,5 @@
 -- Nodes of the table as code goes down them. Assumes nothing.
-use mathlib.Core.Bool.{cond, _||_}
+use mathlib.Core.Bool.{cond, not, _||_}
 use Prim.Native.Nat.{ℕ}
 use lib.Dec.{ltb, eqb}
 use Rattle.theory_lists.specs.Lists.{differ}
@@ -11,4 +11,4 @@ abbrev pub firstEdge : NodeRecord → ℕ → Edge → Edge
 firstEdge x i e = cond (eqb (e .number) 0 || ltb i (x .level)) e (record { number = x .first; complement = e .complement })
 
 abbrev pub secondEdge : NodeRecord → ℕ → Edge → Edge
-secondEdge x i e = cond (eqb (e .number) 0 || ltb i (x .level)) e (record { number = x .second; complement = differ (x .complement) (e .complement) })
+secondEdge x i e = cond (eqb (e .number) 0 || ltb i (x .level)) e (record { number = x .second; complement = differ (not (eqb (x .complement) 0)) (e .complement) })

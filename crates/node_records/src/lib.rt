@@ -1,10 +1,12 @@
-// A stored node by value: its record, its edges, and the limits of the code. Nothing here is lent.
+// The records of work tables, how they are read and written where they are lent, the edges of a stored node, and the limits of the code.
 ghost use mathlib.Core.Path.{_≡_};
 ghost use mathlib.Core.Bool.{cond, _||_};
 ghost use lib.Dec.{eqb, ltb};
+ghost use lib.ListN.{length};
 ghost use Prim.Native.Nat.{min};
 ghost use Rattle.theory_lists.specs.Lists.{differ};
 ghost use Rattle.node_records.specs.Edges.{firstEdge, secondEdge};
+ghost use Rattle.node_records.specs.Records.{noRecord, noWriterRecord, entryAt, putEntry, clearTo};
 
 // ---- Limits, by the names of the definitions
 
@@ -27,7 +29,7 @@ pub fn least(a: usize, b: usize) -> usize
     if a < b { a } else { b }
 }
 
-// A cell for a yes or a no.
+// A number for a yes or a no.
 pub fn bit(c: bool) -> u32
     ensures { λ x. ⌜ x ≡ cond c 1 0 ⌝ }
 {
@@ -36,15 +38,146 @@ pub fn bit(c: bool) -> u32
 
 // ---- Records
 
-// A record of the table: the level (0: none), the children, the edge to the second complemented, how often the number was given out, and how
-// many records have it as a child.
+// A record of a work table for reading: the level (0: none), the children, whether the edge to the second is complemented (0: it is not), how often the
+// number was given out, and how many records have it as a child.
+#[repr(C)]
 pub struct NodeRecord {
     pub level: u32,
     pub first: u32,
     pub second: u32,
-    pub complement: bool,
+    pub complement: u32,
     pub stamp: u32,
     pub parents: u32,
+}
+
+// A record of a work table for writing: a number's node as above; the numbers after and before it in the recycling queue, and in its bucket of the unique
+// table; and the first and the last number of the bucket that has this place.
+#[repr(C)]
+pub struct WriterRecord {
+    pub level: u32,
+    pub first: u32,
+    pub second: u32,
+    pub complement: u32,
+    pub stamp: u32,
+    pub parents: u32,
+    pub after: u32,
+    pub before: u32,
+    pub next: u32,
+    pub previous: u32,
+    pub head: u32,
+    pub tail: u32,
+}
+
+pub fn no_record() -> NodeRecord
+    ensures { λ x. ⌜ x ≡ noRecord ⌝ }
+{
+    NodeRecord {
+        level: 0,
+        first: 0,
+        second: 0,
+        complement: 0,
+        stamp: 0,
+        parents: 0,
+    }
+}
+
+pub fn no_writer_record() -> WriterRecord
+    ensures { λ x. ⌜ x ≡ noWriterRecord ⌝ }
+{
+    WriterRecord {
+        level: 0,
+        first: 0,
+        second: 0,
+        complement: 0,
+        stamp: 0,
+        parents: 0,
+        after: 0,
+        before: 0,
+        next: 0,
+        previous: 0,
+        head: 0,
+        tail: 0,
+    }
+}
+
+// ---- Lent records: that of the number k stands at place k - 1, and 0 and numbers past the end have none
+
+pub fn get_record(t: &[NodeRecord], k: u32) -> NodeRecord
+    ensures { λ x. ⌜ x ≡ entryAt noRecord (now (t .entry)) k ⌝ }
+{
+    if k == 0 {
+        return no_record();
+    }
+    let i = (k - 1) as usize;
+    if t.len() <= i {
+        return no_record();
+    }
+    t[i]
+}
+
+pub fn put_record(t: &mut [NodeRecord], k: u32, x: NodeRecord)
+    ensures { λ _. ⌜ now (t .exit) ≡ putEntry (now (t .entry)) k x ⌝ }
+{
+    if k == 0 {
+        return;
+    }
+    let i = (k - 1) as usize;
+    if t.len() <= i {
+        return;
+    }
+    t[i] = x;
+}
+
+// The first m records become zero.
+pub fn clear_records(t: &mut [NodeRecord], m: usize)
+    ensures { λ _. ⌜ now (t .exit) ≡ clearTo noRecord (now (t .entry)) m ⌝ }
+{
+    let e = least(m, t.len());
+    let x = no_record();
+    let mut i = 0;
+    while i < e {
+        t[i] = x;
+        i += 1;
+    }
+}
+
+pub fn get_writer_record(t: &[WriterRecord], k: u32) -> WriterRecord
+    ensures { λ x. ⌜ x ≡ entryAt noWriterRecord (now (t .entry)) k ⌝ }
+{
+    if k == 0 {
+        return no_writer_record();
+    }
+    let i = (k - 1) as usize;
+    if t.len() <= i {
+        return no_writer_record();
+    }
+    t[i]
+}
+
+pub fn put_writer_record(t: &mut [WriterRecord], k: u32, x: WriterRecord)
+    ensures { λ _. ⌜ now (t .exit) ≡ putEntry (now (t .entry)) k x ⌝ }
+{
+    if k == 0 {
+        return;
+    }
+    let i = (k - 1) as usize;
+    if t.len() <= i {
+        return;
+    }
+    t[i] = x;
+}
+
+// All records become zero.
+pub fn clear_writer_records(t: &mut [WriterRecord])
+    ensures { λ _. ⌜ now (t .exit) ≡ clearTo noWriterRecord (now (t .entry)) (length (now (t .entry))) ⌝ }
+{
+    let e = t.len();
+    let x = no_writer_record();
+    let mut i = 0;
+    while i < e {
+        t[i] = x;
+        i += 1;
+    }
 }
 
 // ---- Edges
@@ -94,6 +227,6 @@ pub fn second_edge(x: NodeRecord, i: u32, e: Edge) -> Edge
     }
     Edge {
         number: x.second,
-        complement: differs(x.complement, e.complement),
+        complement: differs(x.complement != 0, e.complement),
     }
 }

@@ -10,10 +10,11 @@ ghost use Rattle.elements.specs.declared.Opens.{Opens};
 ghost use Rattle.operands.specs.Abstraction.{operandOn, operandOf, begunIn, readBy, arrived, begunFrom};
 use blocks::Block;
 use blocks::next_block;
-use edges::Edge;
+use edges::TableEdge;
 use edges::first_edge;
 use edges::second_edge;
 use elements::OPEN_LIMIT;
+use node_records::NodeRecord;
 use reader::first_cursor;
 use work_table::get as record_at;
 
@@ -31,19 +32,19 @@ pub struct Begun {
 }
 
 // The edge that an input is at
-pub fn edge_of(f: Operand, b: Block) -> Edge
+pub fn edge_of(f: Operand, b: Block) -> TableEdge
     ensures { λ r. ⌜ r ≡ record { number = f .number; complement = f .complement; size = b .cursor .run .size } ⌝ }
 {
     let c = b.cursor;
     let q = c.run;
-    Edge {
+    TableEdge {
         number: f.number,
         complement: f.complement,
         size: q.size,
     }
 }
 
-fn at_edge(e: Edge) -> Operand
+fn at_edge(e: TableEdge) -> Operand
     ensures { λ r. ⌜ r ≡ record { inside = false; number = e .number; complement = e .complement } ⌝ }
 {
     Operand {
@@ -55,7 +56,7 @@ fn at_edge(e: Edge) -> Operand
 
 // A block as great as a part that i open nodes are around is an edge.
 fn settle(i: u32, f: Operand, b: Block) -> Operand
-    ensures { λ r. ⌜ ((n : ℕ) (o : Opens) (s : List ℕ) (t : List (List ℕ)) → operandOn r b o s t
+    ensures { λ r. ⌜ ((n : ℕ) (o : Opens) (s : List ℕ) (t : List NodeRecord) → operandOn r b o s t
         ≡ settle deepOf sourceOf (nextReader n) (i + 1) (operandOn f b o s t)) ⌝ }
 {
     let inside = f.inside;
@@ -73,7 +74,7 @@ fn settle(i: u32, f: Operand, b: Block) -> Operand
 }
 
 // THE FIRST HALF of a part of level i
-pub fn first_half(t: &[[u32; 6]], i: u32, f: Operand, b: Block) -> Operand
+pub fn first_half(t: &[NodeRecord], i: u32, f: Operand, b: Block) -> Operand
     ensures { λ r. ⌜ ((n : ℕ) (o : Opens) (s : List ℕ) → operandOn r b o s (now (t .entry))
         ≡ firstOperand deepOf sourceOf (nextReader n) i (operandOn f b o s (now (t .entry)))) ⌝ }
 {
@@ -90,7 +91,7 @@ pub fn first_half(t: &[[u32; 6]], i: u32, f: Operand, b: Block) -> Operand
 fn read_on(
     n: u32,
     s: &[u8],
-    t: &mut [[u32; 6]],
+    t: &mut [NodeRecord],
     o: &mut [[u32; 4]; OPEN_LIMIT],
     f: Operand,
     b: Block,
@@ -106,7 +107,7 @@ fn read_on(
     b
 }
 
-fn second_operand(t: &[[u32; 6]], i: u32, f: Operand, b: Block) -> Operand
+fn second_operand(t: &[NodeRecord], i: u32, f: Operand, b: Block) -> Operand
     ensures { λ r. ⌜ ((n : ℕ) (o : Opens) (s : List ℕ) → operandOn r b o s (now (t .entry)) ≡ arrived n i (operandOn f b o s (now (t .entry)))) ⌝ }
 {
     let inside = f.inside;
@@ -119,7 +120,7 @@ fn second_operand(t: &[[u32; 6]], i: u32, f: Operand, b: Block) -> Operand
 }
 
 // THE FIRST BLOCK of a stream: the input at the outermost node. o: cells for its open nodes
-pub fn begin(n: u32, s: &[u8], t: &mut [[u32; 6]], o: &mut [[u32; 4]; OPEN_LIMIT]) -> Begun
+pub fn begin(n: u32, s: &[u8], t: &mut [NodeRecord], o: &mut [[u32; 4]; OPEN_LIMIT]) -> Begun
     ensures { λ r. ⌜ begunIn r (now (o .exit)) (now (s .entry)) (now (t .exit)) ≡ begunFrom n (now (s .entry)) (now (o .entry)) (now (t .entry)) ⌝ }
 {
     let b = next_block(n, s, t, o, first_cursor());
@@ -139,7 +140,7 @@ pub fn second_half(
     n: u32,
     i: u32,
     s: &[u8],
-    t: &mut [[u32; 6]],
+    t: &mut [NodeRecord],
     o: &mut [[u32; 4]; OPEN_LIMIT],
     f: Operand,
     b: Block,

@@ -11,6 +11,7 @@ use Rattle.theory_engine.specs.Memo.{isEmpty, isYoung, toldHalf}
 use Rattle.meeting.specs.Abstraction.{halfOf}
 use Rattle.operation_cache.specs.declared.Key.{Key}
 use Rattle.operation_cache.specs.declared.Told.{Told}
+use Rattle.node_records.specs.declared.WriterRecord.{WriterRecord}
 
 -- what a part is remembered by, as the cells of a row have it
 abbrev pub keyCells : Key → List ℕ
@@ -23,11 +24,11 @@ holds r k =
     && (eqb (getD r 6 0) (k .number2) && (eqb (getD r 7 0) (k .stamp2) && eqb (getD r 8 0) (k .complement2))))))
 
 -- what a row with the key of a part of level i tells
-abbrev pub toldBy : Told → List ℕ → ℕ → List (List ℕ) → Type 0
+abbrev pub toldBy : Told → List ℕ → ℕ → List WriterRecord → Type 0
 toldBy x r i t = (x .known ≡ isYoung r t) × (cond (x .known) (halfOf (x .half)) (toldHalf r i t) ≡ toldHalf r i t)
 
 -- what any row tells of the part of level i with the key k
-abbrev pub tellsBy : Told → List ℕ → Key → ℕ → List (List ℕ) → Type 0
+abbrev pub tellsBy : Told → List ℕ → Key → ℕ → List WriterRecord → Type 0
 tellsBy x r k i t =
     (x .known ≡ (holds r k && isYoung r t)) × (cond (x .known) (halfOf (x .half)) (toldHalf r i t) ≡ toldHalf r i t)
 

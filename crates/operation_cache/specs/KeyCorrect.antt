@@ -17,6 +17,7 @@ use Rattle.meeting.specs.declared.Half.{Half}
 use Rattle.operation_cache.specs.Abstraction.{keyCells, holds, toldBy, tellsBy, notedEntry, notedBy}
 use Rattle.operation_cache.specs.declared.Key.{Key}
 use Rattle.operation_cache.specs.declared.Told.{Told}
+use Rattle.node_records.specs.declared.WriterRecord.{WriterRecord}
 
 -- ---- The place of a key ----------------------------------------------------------------------
 
@@ -36,12 +37,12 @@ bit-as false x e = e
 -- ---- What a row tells ------------------------------------------------------------------------
 
 -- nothing is known
-pub told-none : (x : Told) (r : List ℕ) (i : ℕ) (t : List (List ℕ)) → x .known ≡ false
+pub told-none : (x : Told) (r : List ℕ) (i : ℕ) (t : List WriterRecord) → x .known ≡ false
     → cond (x .known) (halfOf (x .half)) (toldHalf r i t) ≡ toldHalf r i t
 told-none x r i t e = ap (λ (b : Bool). cond b (halfOf (x .half)) (toldHalf r i t)) e
 
 -- its number was given out again
-pub told-old : (x : Told) (r : List ℕ) (i s : ℕ) (t : List (List ℕ)) → x .known ≡ false → (getD r 1 0 ≡ 0 → ⊥)
+pub told-old : (x : Told) (r : List ℕ) (i s : ℕ) (t : List WriterRecord) → x .known ≡ false → (getD r 1 0 ≡ 0 → ⊥)
     → s ≡ cell t 4 (getD r 1 0) → (s ≡ getD r 2 0 → ⊥) → toldBy x r i t
 told-old x r i s t e z f g = (
   e ∙ sym (ap₂ _||_ (ne-eqb (numberIn r) 0 z) (ne-eqb (cell t 4 (numberIn r)) (stampIn r) (λ h. g (f ∙ h)))),
@@ -49,7 +50,7 @@ told-old x r i s t e z f g = (
 )
 
 -- the constant
-pub told-constant : (x : Told) (h : Half) (v : Bool) (r : List ℕ) (i : ℕ) (t : List (List ℕ)) → x ≡ record { known = true; half = h }
+pub told-constant : (x : Told) (h : Half) (v : Bool) (r : List ℕ) (i : ℕ) (t : List WriterRecord) → x ≡ record { known = true; half = h }
     → h ≡ record { number = 0; stamp = 0; skipped = 0; temporary = false; complement = v; wrote = false } → getD r 1 0 ≡ 0
     → v ≡ complementIn r → toldBy x r i t
 told-constant x h v r i t e f z g = (
@@ -60,7 +61,7 @@ told-constant x h v r i t e f z g = (
 )
 
 -- a number that still has its stamp; s, l: its stamp and level, j: the levels skipped
-pub told-number : (x : Told) (h : Half) (v : Bool) (r : List ℕ) (i s l j : ℕ) (t : List (List ℕ)) → x ≡ record { known = true; half = h }
+pub told-number : (x : Told) (h : Half) (v : Bool) (r : List ℕ) (i s l j : ℕ) (t : List WriterRecord) → x ≡ record { known = true; half = h }
     → h ≡ record { number = getD r 1 0; stamp = getD r 2 0; skipped = j; temporary = false; complement = v; wrote = false }
     → (getD r 1 0 ≡ 0 → ⊥) → v ≡ complementIn r → s ≡ cell t 4 (getD r 1 0) → s ≡ getD r 2 0 → l ≡ cell t 0 (getD r 1 0) → j ≡ l - i
     → toldBy x r i t
@@ -74,7 +75,7 @@ told-number x h v r i s l j t e f z g p q u w = (
 )
 
 -- a row past the end has nothing
-pub tells-past : (x : Told) (μ : List (List ℕ)) (p : ℕ) (k : Key) (i : ℕ) (t : List (List ℕ)) → x .known ≡ false → length μ ≤ p
+pub tells-past : (x : Told) (μ : List (List ℕ)) (p : ℕ) (k : Key) (i : ℕ) (t : List WriterRecord) → x .known ≡ false → length μ ≤ p
     → tellsBy x (getD μ p []) k i t
 tells-past x μ p k i t e l =
     let r = getD μ p [] in (
@@ -83,12 +84,12 @@ tells-past x μ p k i t e l =
     )
 
 -- another key, or none; b: as code tests it
-pub tells-other : (x : Told) (r : List ℕ) (k : Key) (i : ℕ) (t : List (List ℕ)) (b : Bool) → x .known ≡ false → b ≡ holds r k → b ≡ false
+pub tells-other : (x : Told) (r : List ℕ) (k : Key) (i : ℕ) (t : List WriterRecord) (b : Bool) → x .known ≡ false → b ≡ holds r k → b ≡ false
     → tellsBy x r k i t
 tells-other x r k i t b e h f =
     (e ∙ sym (ap (λ (b : Bool). b && isYoung r t) (sym h ∙ f)), told-none x r i t e)
 
-pub tells-here : (x : Told) (r : List ℕ) (k : Key) (i : ℕ) (t : List (List ℕ)) (b : Bool) → toldBy x r i t → b ≡ holds r k → b ≡ true
+pub tells-here : (x : Told) (r : List ℕ) (k : Key) (i : ℕ) (t : List WriterRecord) (b : Bool) → toldBy x r i t → b ≡ holds r k → b ≡ true
     → tellsBy x r k i t
 tells-here x r k i t b y h f = (y .0 ∙ sym (ap (λ (b : Bool). b && isYoung r t) (sym h ∙ f)), y .1)
 

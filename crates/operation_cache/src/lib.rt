@@ -8,18 +8,19 @@ ghost use Rattle.theory_lists.specs.Lists.{bit};
 ghost use Rattle.theory_engine.specs.Memo.{slotOf};
 ghost use Rattle.meeting.specs.Abstraction.{halfOf};
 ghost use Rattle.operation_cache.specs.Abstraction.{keyCells, holds, tellsBy, toldBy, notedEntry, notedBy};
-use edges::Edge;
+use edges::TableEdge;
 use meeting::Half;
 use meeting::Walked;
 use meeting::constant;
 use meeting::half_of;
 use meeting::numbered;
 use meeting::progress_of;
-use unique_table::NUMBER_SPAN;
-use unique_table::either;
+use node_records::WriterRecord;
 use unique_table::level_of;
 use unique_table::stamp_of;
-use unique_table::stir;
+use writer_records::NUMBER_SPAN;
+use writer_records::either;
+use writer_records::stir;
 
 // How many rows there are.
 pub const CACHE_ENTRIES: usize = 2048;
@@ -43,7 +44,7 @@ pub struct Key {
 }
 
 // g and h: the stamps of the edges' numbers
-pub fn key_of(x: Edge, g: u32, y: Edge, h: u32) -> Key
+pub fn key_of(x: TableEdge, g: u32, y: TableEdge, h: u32) -> Key
     ensures { λ k. ⌜ keyCells k ≡ x .number ∷ g ∷ bit (x .complement) ∷ y .number ∷ h ∷ bit (y .complement) ∷ [] ⌝ }
 {
     Key {
@@ -122,7 +123,7 @@ fn above(l: u32, i: u32) -> u32
 }
 
 // A row that has the key of a part of level i: known while its number has not been given out again, a constant always.
-fn recall_entry(t: &[[u32; 12]], i: u32, row: [u32; 9]) -> Told
+fn recall_entry(t: &[WriterRecord], i: u32, row: [u32; 9]) -> Told
     ensures { λ x. ⌜ toldBy x row i (now (t .entry)) ⌝ }
 {
     let k = row[1];
@@ -139,7 +140,7 @@ fn recall_entry(t: &[[u32; 12]], i: u32, row: [u32; 9]) -> Told
 }
 
 // What the row p tells of the part of level i that has the key k
-pub fn recall(c: &[[u32; 9]], t: &[[u32; 12]], p: usize, i: u32, k: Key) -> Told
+pub fn recall(c: &[[u32; 9]], t: &[WriterRecord], p: usize, i: u32, k: Key) -> Told
     ensures { λ x. ⌜ tellsBy x (getD (now (c .entry)) p []) k i (now (t .entry)) ⌝ }
 {
     if c.len() <= p {

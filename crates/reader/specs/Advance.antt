@@ -11,7 +11,7 @@ use lib.ListN.{length, getD, set, replicate, length-set, length-replicate}
 use borrow.Author.Tests.{eqb-true, eqb-false, eq-eqb, ne-eqb, ltb-false}
 use Rattle.theory_reading.specs.Limits.{openLimit, tableLimit}
 use Rattle.theory_reading.specs.Bytes.{colon}
-use Rattle.theory_reading.specs.Nodes.{Node, noNode, node, stamp, terminal, entry, temporary, bars}
+use Rattle.theory_reading.specs.Nodes.{Node, noNode, node, stamp, terminal, entry, temporary, bars, newNode}
 use Rattle.theory_reading.specs.Causes.{notStorable}
 use Rattle.theory_reading.specs.Element as T
 use Rattle.kinds.specs.Kinds.{kindTable}
@@ -49,8 +49,9 @@ use Rattle.node_records.specs.declared.NodeRecord.{NodeRecord}
 use Rattle.reader.specs.declared.Taken.{Taken}
 use Rattle.reader.specs.declared.Iteration.{Iteration}
 use Rattle.reader.specs.Taking.{failsOf, isKeptOf, isBadOf, nextStamp, storedRun, takenOf}
-use Rattle.work_table.specs.Table.{noNodeRecord, getIn, storeAt, clearTo, get-none, get-above}
-use Rattle.work_table.specs.TableLaws.{recordNode, tableOf, table-length, table-node, Held, length-store, store-table, held-store, length-clear}
+use Rattle.node_records.specs.Records.{noRecord, clearTo}
+use Rattle.work_table.specs.Table.{getIn, storeAt, get-none, get-above}
+use Rattle.work_table.specs.TableLaws.{bit-back, recordNode, tableOf, table-length, table-node, Held, length-store, store-table, held-store, length-clear}
 use Rattle.work_table.specs.TableLaws.{clear-table, held-clear}
 use Rattle.reader.specs.Simulation.{stateOf, readingOf, nodeTo, tableTo, Innermost, Wanted, take-with}
 use Rattle.reader.specs.CappedElement.{advance-seen}
@@ -58,15 +59,15 @@ use Rattle.reader.specs.CappedElement.{advance-seen}
 -- ---- What code holds -------------------------------------------------------------------------
 
 -- the theory's table: none before the size is read
-abbrev pub tableAt : Run → List (List ℕ) → List Node
+abbrev pub tableAt : Run → List NodeRecord → List Node
 tableAt r t = cond (isStart (contextOf (r .context))) [] (tableOf t (r .size))
 
 -- the theory's state of what code holds
-abbrev pub stateAt : Run → Opens → List (List ℕ) → State
+abbrev pub stateAt : Run → Opens → List NodeRecord → State
 stateAt r o t = stateOf r (openList o) (tableAt r t)
 
 -- What code keeps true.
-pub record Kept (r : Run) (o : Opens) (t : List (List ℕ)) : Type 0 where
+pub record Kept (r : Run) (o : Opens) (t : List NodeRecord) : Type 0 where
   pub room : tableLimit ≤ length t
   pub small : r .size ≤ tableLimit
   pub held : Held t (r .size)
@@ -75,7 +76,7 @@ pub record Kept (r : Run) (o : Opens) (t : List (List ℕ)) : Type 0 where
   pub begin : isStart (contextOf (r .context)) ≡ true → r .size ≡ 0
 
 -- a number's stamp can grow where a node may be stored
-abbrev pub Young : Run → List (List ℕ) → Type 0
+abbrev pub Young : Run → List NodeRecord → Type 0
 Young r t = contextOf (r .context) ≡ T.afterTwo → (k : ℕ) → stamp (tableAt r t) k + 2 ≤ 4294967296
 
 -- the number of an element, 0 if it has none
@@ -94,20 +95,20 @@ recordTo r d x = record {
   level = d + 1;
   first = r .pair .first .number;
   second = r .pair .second .number;
-  complement = r .pair .complement;
+  complement = cond (r .pair .complement) 1 0;
   stamp =
       nextStamp (x .stamp);
   parents = x .parents;
 }
 
 -- The lent table after an element of the number k: a storing puts a record, a size clears its records. r: the run before; y: what was taken
-abbrev pub updatedTo : Run → ℕ → ℕ → NodeRecord → Taken → List (List ℕ) → List (List ℕ)
-updatedTo r d k x y t = cond (y .stores) (storeAt t (r .size) k (recordTo r d x)) (cond (y .sizes) (clearTo t k) t)
+abbrev pub updatedTo : Run → ℕ → ℕ → NodeRecord → Taken → List NodeRecord → List NodeRecord
+updatedTo r d k x y t = cond (y .stores) (storeAt t (r .size) k (recordTo r d x)) (cond (y .sizes) (clearTo noRecord t k) t)
 
 -- likewise by the element
-abbrev updatedBy : Run → ℕ → Element → NodeRecord → Taken → List (List ℕ) → List (List ℕ)
+abbrev updatedBy : Run → ℕ → Element → NodeRecord → Taken → List NodeRecord → List NodeRecord
 updatedBy r d E.Opening x y t = t
-updatedBy r d (E.Number v) x y t = cond (isStart (contextOf (r .context))) (cond (y .faulty) t (clearTo t v)) t
+updatedBy r d (E.Number v) x y t = cond (isStart (contextOf (r .context))) (cond (y .faulty) t (clearTo noRecord t v)) t
 updatedBy r d E.Constant x y t = t
 updatedBy r d E.Turn x y t = t
 updatedBy r d E.Closing x y t = t
@@ -123,15 +124,15 @@ abbrev pub opensTo : Opens → ℕ → Open → Opens
 opensTo o d low = record { nodes = nodesTo (o .nodes) (o .depth) low; depth = d }
 
 -- the row of an element's number
-abbrev pub recordIn : Run → List (List ℕ) → Element → NodeRecord
+abbrev pub recordIn : Run → List NodeRecord → Element → NodeRecord
 recordIn r t e = getIn t (r .size) (numberIn e)
 
 -- what code takes for the element e of the token x; d: how many nodes are open, low: the innermost
-abbrev pub takenAt : ℕ → List ℕ → Run → ℕ → Open → List (List ℕ) → NextToken → Element → Taken
+abbrev pub takenAt : ℕ → List ℕ → Run → ℕ → Open → List NodeRecord → NextToken → Element → Taken
 takenAt n bytes r d low t x e = takenOf n r d low (digitPlace (r .at) (getD bytes (r .at) 0)) e (getIn t (r .size) (x .number)) (x .at) (x .context)
 
 -- the lent table after it
-abbrev pub updatedAt : ℕ → List ℕ → Run → ℕ → Open → List (List ℕ) → NextToken → Element → List (List ℕ)
+abbrev pub updatedAt : ℕ → List ℕ → Run → ℕ → Open → List NodeRecord → NextToken → Element → List NodeRecord
 updatedAt n bytes r d low t x e = updatedTo r d (x .number) (getIn t (r .size) (x .number)) (takenAt n bytes r d low t x e) t
 
 -- the innermost entry
@@ -141,10 +142,10 @@ lowOf o = getD (o .nodes) (lowAt (o .depth)) insideOpen
 -- ---- A barred storing ------------------------------------------------------------------------
 
 -- a child bars its parent from storing: its number was given out again, or it has none
-abbrev pub barsBy : List (List ℕ) → ℕ → Ref → Bool
+abbrev pub barsBy : List NodeRecord → ℕ → Ref → Bool
 barsBy t z a = not (eqb (getIn t z (a .number) .stamp) (a .stamp))
 
-pub bars-record : (t : List (List ℕ)) (z : ℕ) (a : Ref) → bars (tableOf t z) (refOf a) ≡ barsBy t z a
+pub bars-record : (t : List NodeRecord) (z : ℕ) (a : Ref) → bars (tableOf t z) (refOf a) ≡ barsBy t z a
 bars-record t z a = go (eqb (a .number) 0) refl (eqb (a .stamp) 0) refl
   where
     none : eqb (a .number) 0 ≡ true → getIn t z (a .number) .stamp ≡ 0
@@ -157,11 +158,11 @@ bars-record t z a = go (eqb (a .number) 0) refl (eqb (a .stamp) 0) refl
     go false e q f = ap (λ (x : Node). not (eqb (x .stamp) (a .stamp))) (table-node t z (a .number))
 
 -- a `:` is barred, by the rows of the two children
-abbrev pub barredBy : List (List ℕ) → Run → ℕ → Bool
+abbrev pub barredBy : List NodeRecord → Run → ℕ → Bool
 barredBy t r b = (isTwo (contextOf (r .context)) && eqb b colon) && (barsBy t (r .size) (r .pair .first) || barsBy t (r .size) (r .pair .second))
 
 -- A `:` is barred by the rows of the two children.
-barred-records : (r : Run) (o : Opens) (t : List (List ℕ)) (b : ℕ) → barredColon (stateAt r o t) b ≡ barredBy t r b
+barred-records : (r : Run) (o : Opens) (t : List NodeRecord) (b : ℕ) → barredColon (stateAt r o t) b ≡ barredBy t r b
 barred-records r o t b = go (contextOf (r .context))
   where
     go : (m : T.Context) → let a = r .pair .first in let c = r .pair .second in let u = cond (isStart m) [] (tableOf t (r .size)) in
@@ -177,7 +178,7 @@ barred-records r o t b = go (contextOf (r .context))
     go T.over = refl
 
 -- A barred storing is the fault of the theory's reading.
-advance-barred : (n : ℕ) (bytes : List ℕ) (r : Run) (o : Opens) (t : List (List ℕ)) → let s = stateAt r o t in
+advance-barred : (n : ℕ) (bytes : List ℕ) (r : Run) (o : Opens) (t : List NodeRecord) → let s = stateAt r o t in
     barredColon s (byteAt bytes s) ≡ true → advance n bytes s ≡ fails s notStorable (r .at)
 advance-barred n bytes r o t h =
     let s = stateAt r o t in
@@ -284,7 +285,7 @@ module _ (n : ℕ) (r : Run) (d : ℕ) (o : Open) (g : ℕ) (x : NodeRecord) (at
 -- ---- The table after -------------------------------------------------------------------------
 
 -- the lent table after an element that is no fault, by the element
-updated-well : (r : Run) (d : ℕ) (e : Element) (x : NodeRecord) (y : Taken) (t : List (List ℕ)) → y .faulty ≡ false → Legal r e y
+updated-well : (r : Run) (d : ℕ) (e : Element) (x : NodeRecord) (y : Taken) (t : List NodeRecord) → y .faulty ≡ false → Legal r e y
     → updatedTo r d (numberIn e) x y t ≡ updatedBy r d e x y t
 updated-well r d E.Opening x y t f l = rw (l .0, l .1) refl
 updated-well r d (E.Number v) x y t f l = rw (f, l .1 .0, l .1 .1) refl
@@ -295,7 +296,7 @@ updated-well r d (E.Storing k) x y t f l = rw (l .1 .1) refl
 updated-well r d E.End x y t f l = rw (l .0, l .1) refl
 
 -- nothing is lent where nothing is stored
-updated-plain : (r : Run) (d k : ℕ) (x : NodeRecord) (y : Taken) (t : List (List ℕ)) → Plain y → updatedTo r d k x y t ≡ t
+updated-plain : (r : Run) (d k : ℕ) (x : NodeRecord) (y : Taken) (t : List NodeRecord) → Plain y → updatedTo r d k x y t ≡ t
 updated-plain r d k x y t l = rw (l .0, l .1) refl
 
 -- at a fault the table stays
@@ -314,42 +315,48 @@ table-fault r d (E.Storing k) x y u f h = rw h refl
 table-fault r d E.End x y u f h = refl
 
 -- after the start the table is that of the records
-table-later : (r : Run) (t : List (List ℕ)) → isStart (contextOf (r .context)) ≡ false → tableAt r t ≡ tableOf t (r .size)
+table-later : (r : Run) (t : List NodeRecord) → isStart (contextOf (r .context)) ≡ false → tableAt r t ≡ tableOf t (r .size)
 table-later r t h = rw h refl
 
+-- the record that a storing puts, as the theory has it
+node-put : (r : Run) (d : ℕ) (x : NodeRecord) → recordNode (recordTo r d x) ≡ nodeTo r d x
+node-put r d x = ap (λ (b : Bool). newNode (d + 1) (r .pair .first .number) (r .pair .second .number) b (nextStamp (x .stamp)))
+    (bit-back (r .pair .complement))
+
 -- the theory's table after an element is that of the lent one after it
-table-next : (r : Run) (d : ℕ) (e : Element) (x : NodeRecord) (y : Taken) (t : List (List ℕ)) → tableLimit ≤ length t → y .faulty ≡ false
+table-next : (r : Run) (d : ℕ) (e : Element) (x : NodeRecord) (y : Taken) (t : List NodeRecord) → tableLimit ≤ length t → y .faulty ≡ false
     → Legal r e y → Begun (contextOf (r .context)) (elementOf e)
     → tableTo r d e x y (tableAt r t) ≡ tableOf (updatedBy r d e x y t) (sizeTo r e)
 table-next r d E.Opening x y t room f l h = table-later r t h
 table-next r d (E.Number v) x y t room f l h = rw f (go (isStart (contextOf (r .context))) (l .0))
   where
     go : (b : Bool) → (b ≡ true → v ≤ tableLimit) → cond b (replicate (suc v) noNode) (cond b [] (tableOf t (r .size)))
-        ≡ tableOf (cond b (clearTo t v) t) (cond b v (r .size))
+        ≡ tableOf (cond b (clearTo noRecord t v) t) (cond b v (r .size))
     go true k = let i : v ≤ tableLimit = k refl in sym (clear-table t v (omega (arith, room, i)))
     go false k = refl
 table-next r d E.Constant x y t room f l h = table-later r t h
 table-next r d E.Turn x y t room f l h = table-later r t h
 table-next r d E.Closing x y t room f l h = table-later r t h
 table-next r d (E.Storing k) x y t room f l h = rw (l .1 .1) (ap (λ (u : List Node). set u k (nodeTo r d x)) (table-later r t (ap isStart h))
+    ∙ ap (set (tableOf t (r .size)) k) (sym (node-put r d x))
     ∙ sym (store-table t (r .size) k (recordTo r d x) (l .0) (l .1 .0)))
 table-next r d E.End x y t room f l h = table-later r t h
 
 -- the row of a number is that of the theory's table
-record-node : (r : Run) (t : List (List ℕ)) → (isStart (contextOf (r .context)) ≡ true → r .size ≡ 0) → (k : ℕ) → recordNode (getIn t (r .size) k)
+record-node : (r : Run) (t : List NodeRecord) → (isStart (contextOf (r .context)) ≡ true → r .size ≡ 0) → (k : ℕ) → recordNode (getIn t (r .size) k)
     ≡ node (tableAt r t) k
 record-node r t begin k = go (isStart (contextOf (r .context))) begin
   where
-    none : (k : ℕ) → getIn t 0 k ≡ noNodeRecord
+    none : (k : ℕ) → getIn t 0 k ≡ noRecord
     none zero = refl
-    none (suc k) = sym (get-above t 0 (suc k) (λ e. omega (arith, e)) (omega arith))
+    none (suc k) = sym (get-above t 0 (suc k) (omega arith))
 
     go : (b : Bool) → (b ≡ true → r .size ≡ 0) → recordNode (getIn t (r .size) k) ≡ node (cond b [] (tableOf t (r .size))) k
     go true h = ap (λ (z : ℕ). recordNode (getIn t z k)) (h refl) ∙ ap recordNode (none k)
     go false h = sym (table-node t (r .size) k)
 
 -- the row that code reads is the wanted one
-record-wanted : (r : Run) (o : Opens) (t : List (List ℕ)) → Kept r o t → Young r t → (e : Element) → Begun (contextOf (r .context)) (elementOf e)
+record-wanted : (r : Run) (o : Opens) (t : List NodeRecord) → Kept r o t → Young r t → (e : Element) → Begun (contextOf (r .context)) (elementOf e)
     → Wanted r (tableAt r t) e (recordIn r t e)
 record-wanted r o t kept young E.Opening h = tt
 record-wanted r o t kept young (E.Number v) h = (
@@ -378,10 +385,10 @@ record-wanted r o t kept young E.End h = tt
 -- ---- The lent table after --------------------------------------------------------------------
 
 -- The lent table keeps its length.
-pub length-updated : (r : Run) (d k : ℕ) (x : NodeRecord) (y : Taken) (t : List (List ℕ)) → length (updatedTo r d k x y t) ≡ length t
+pub length-updated : (r : Run) (d k : ℕ) (x : NodeRecord) (y : Taken) (t : List NodeRecord) → length (updatedTo r d k x y t) ≡ length t
 length-updated r d k x y t = go (y .stores) (y .sizes)
   where
-    go : (a b : Bool) → length (cond a (storeAt t (r .size) k (recordTo r d x)) (cond b (clearTo t k) t)) ≡ length t
+    go : (a b : Bool) → length (cond a (storeAt t (r .size) k (recordTo r d x)) (cond b (clearTo noRecord t k) t)) ≡ length t
     go true b = length-store t (r .size) k (recordTo r d x)
     go false true = length-clear t k
     go false false = refl
@@ -399,12 +406,12 @@ size-small r E.Closing y h l = h
 size-small r (E.Storing k) y h l = h
 size-small r E.End y h l = h
 
-held-next : (r : Run) (o : Opens) (d : ℕ) (e : Element) (y : Taken) (t : List (List ℕ)) → Kept r o t → y .faulty ≡ false → Legal r e y
+held-next : (r : Run) (o : Opens) (d : ℕ) (e : Element) (y : Taken) (t : List NodeRecord) → Kept r o t → y .faulty ≡ false → Legal r e y
     → Held (updatedBy r d e (recordIn r t e) y t) (sizeTo r e)
 held-next r o d E.Opening y t kept f l = kept .held
 held-next r o d (E.Number v) y t kept f l = rw f (go (isStart (contextOf (r .context))) (l .0))
   where
-    go : (b : Bool) → (b ≡ true → v ≤ tableLimit) → Held (cond b (clearTo t v) t) (cond b v (r .size))
+    go : (b : Bool) → (b ≡ true → v ≤ tableLimit) → Held (cond b (clearTo noRecord t v) t) (cond b v (r .size))
     go true k = let i : v ≤ tableLimit = k refl in held-clear t v (omega (arith, kept .room, i))
     go false k = kept .held
 held-next r o d E.Constant y t kept f l = kept .held
@@ -429,7 +436,7 @@ list-length o h = open-length (o .nodes) (deepOf (o .depth)) ∙ deep-self (o .d
 
 -- ---- The step of the place -------------------------------------------------------------------
 
-table-short : (r : Run) (t : List (List ℕ)) → r .size ≤ length t → length (tableAt r t) ≤ suc (r .size)
+table-short : (r : Run) (t : List NodeRecord) → r .size ≤ length t → length (tableAt r t) ≤ suc (r .size)
 table-short r t h = go (isStart (contextOf (r .context)))
   where
     go : (b : Bool) → length (cond b [] (tableOf t (r .size))) ≤ suc (r .size)
@@ -487,7 +494,7 @@ token-ahead bytes r d low x s e got l =
     subst (λ (o : Outcome). A (outcomeOf o) (x .at)) got (subst (λ (z : NextTokenView). A (z .outcome) (z .at)) (sym s) a) .0
 
 -- x is the token that code has at a place
-module _ (n : ℕ) (bytes : List ℕ) (r : Run) (o : Opens) (t : List (List ℕ)) (kept : Kept r o t)
+module _ (n : ℕ) (bytes : List ℕ) (r : Run) (o : Opens) (t : List NodeRecord) (kept : Kept r o t)
     (x : NextToken) (seen : nextTokenView x ≡ nextToken kindTable bytes (r .at) (contextOf (r .context)) (r .last) (o .depth) (lowOf o)) where
   abbrev s : State
   s = stateAt r o t
@@ -547,7 +554,7 @@ module _ (n : ℕ) (bytes : List ℕ) (r : Run) (o : Opens) (t : List (List ℕ)
     abbrev table : List Node
     table = tableTo r (o .depth) e (recordIn r t e) y (tableAt r t)
 
-    abbrev lent : List (List ℕ)
+    abbrev lent : List NodeRecord
     lent = updatedAt n bytes r (o .depth) (lowOf o) t x e
 
     record-here : getIn t (r .size) (x .number) ≡ recordIn r t e
@@ -610,7 +617,7 @@ module _ (n : ℕ) (bytes : List ℕ) (r : Run) (o : Opens) (t : List (List ℕ)
       table-made : table ≡ tableAt (y .run) lent
       table-made =
           table-next r (o .depth) e (recordIn r t e) y t (kept .room) f (effect-well .1 .1) (firm .1)
-          ∙ ap (λ (u : List (List ℕ)). tableOf u (sizeTo r e)) (sym updated-here)
+          ∙ ap (λ (u : List NodeRecord). tableOf u (sizeTo r e)) (sym updated-here)
           ∙ sym (ap₂ (λ (k : Context) (z : ℕ). cond (isStart (contextOf k)) [] (tableOf lent z)) (effect-well .0) (effect-well .1 .0)
           ∙ ap (λ (c : Bool). cond c [] (tableOf lent (sizeTo r e))) (firm .0))
 
@@ -630,7 +637,7 @@ module _ (n : ℕ) (bytes : List ℕ) (r : Run) (o : Opens) (t : List (List ℕ)
       kept-element = record {
         room = omega (arith, kept .room, length-updated r (o .depth) (x .number) (getIn t (r .size) (x .number)) y t);
         small = subst (λ (z : ℕ). z ≤ tableLimit) (sym (effect-well .1 .0)) (size-small r e y (kept .small) (effect-well .1 .1));
-        held = subst (Held lent) (sym (effect-well .1 .0)) (subst (λ (u : List (List ℕ)). Held u (sizeTo r e)) (sym updated-here)
+        held = subst (Held lent) (sym (effect-well .1 .0)) (subst (λ (u : List NodeRecord). Held u (sizeTo r e)) (sym updated-here)
             (held-next r o (o .depth) e y t kept f (effect-well .1 .1)));
         nodes = length-set (set (o .nodes) (highAt (o .depth)) insideOpen) (lowAt (o .depth)) (x .low)
             ∙ length-set (o .nodes) (highAt (o .depth)) insideOpen ∙ kept .nodes;
@@ -655,7 +662,7 @@ abbrev pub wentBy : Taken → NextToken → Iteration
 wentBy y x = record { run = y .run; depth = x .depth; low = x .low; went = not (y .faulty); faulty = y .faulty; cause = y .cause; byte = y .byte }
 
 -- d: how many nodes are open, low: the innermost; y: what the iteration comes to, u: the lent table after it
-pub data Iterates (n : ℕ) (bytes : List ℕ) (r : Run) (d : ℕ) (low : Open) (t : List (List ℕ)) (y : Iteration) (u : List (List ℕ)) : Type 0 where
+pub data Iterates (n : ℕ) (bytes : List ℕ) (r : Run) (d : ℕ) (low : Open) (t : List NodeRecord) (y : Iteration) (u : List NodeRecord) : Type 0 where
   past : length bytes ≤ r .at → y ≡ stayed r d low false WrongByte 0 → u ≡ t → Iterates n bytes r d low t y u
   barred : barredBy t r (getD bytes (r .at) 0) ≡ true → y ≡ stayed r d low true NotStorable (r .at) → u ≡ t → Iterates n bytes r d low t y u
   out : barredBy t r (getD bytes (r .at) 0) ≡ false → (x : NextToken) → nextTokenView x
@@ -675,15 +682,15 @@ HaltsAt n bytes s true c b = advance n bytes s ≡ fails s (causeOf c) b
 HaltsAt n bytes s false c b = advance n bytes s ≡ goes s
 
 -- what an iteration comes to: it goes on, or halts
-abbrev pub Comes : ℕ → List ℕ → Run → Opens → List (List ℕ) → Iteration → List (List ℕ) → Bool → Type 0
+abbrev pub Comes : ℕ → List ℕ → Run → Opens → List NodeRecord → Iteration → List NodeRecord → Bool → Type 0
 Comes n bytes r o t y u true =
     (advance n bytes (stateAt r o t) ≡ goes (stateAt (y .run) (opensTo o (y .depth) (y .low)) u))
     × (Kept (y .run) (opensTo o (y .depth) (y .low)) u × ((r .at < length bytes)
     × ((r .at < y .run .at) × (isStart (contextOf (y .run .context)) ≡ false))))
 Comes n bytes r o t y u false = (u ≡ t) × HaltsAt n bytes (stateAt r o t) (y .faulty) (y .cause) (y .byte)
 
-module _ (n : ℕ) (bytes : List ℕ) (r : Run) (o : Opens) (t : List (List ℕ)) (kept : Kept r o t) (young : Young r t) where
-  abbrev ComesBy : Iteration → List (List ℕ) → Type 0
+module _ (n : ℕ) (bytes : List ℕ) (r : Run) (o : Opens) (t : List NodeRecord) (kept : Kept r o t) (young : Young r t) where
+  abbrev ComesBy : Iteration → List NodeRecord → Type 0
   ComesBy y u = Comes n bytes r o t y u (y .went)
 
   free : barredBy t r (getD bytes (r .at) 0) ≡ false → barredColon (stateAt r o t) (byteAt bytes (stateAt r o t)) ≡ false
@@ -714,7 +721,7 @@ module _ (n : ℕ) (bytes : List ℕ) (r : Run) (o : Opens) (t : List (List ℕ)
       )
 
   -- WHAT AN ITERATION COMES TO
-  comes : (y : Iteration) (u : List (List ℕ)) → Iterates n bytes r (o .depth) (lowOf o) t y u → ComesBy y u
+  comes : (y : Iteration) (u : List NodeRecord) → Iterates n bytes r (o .depth) (lowOf o) t y u → ComesBy y u
   comes y u (past h e k) = subst (λ (z : Iteration). ComesBy z u) (sym e) (k, advance-past n bytes (stateAt r o t) h)
   comes y u (barred h e k) = subst (λ (z : Iteration). ComesBy z u) (sym e)
       (k, advance-barred n bytes r o t (barred-records r o t (byteAt bytes (stateAt r o t)) ∙ h))
@@ -724,11 +731,11 @@ module _ (n : ℕ) (bytes : List ℕ) (r : Run) (o : Opens) (t : List (List ℕ)
       (subst (ComesBy (wentBy (takenAt n bytes r (o .depth) (lowOf o) t x el) x)) (sym k) (comes-took x seen el i l h))
 
   -- An iteration that goes on is an element more.
-  pub iteration-went : (y : Iteration) (u : List (List ℕ)) → Iterates n bytes r (o .depth) (lowOf o) t y u → y .went ≡ true
+  pub iteration-went : (y : Iteration) (u : List NodeRecord) → Iterates n bytes r (o .depth) (lowOf o) t y u → y .went ≡ true
       → Comes n bytes r o t y u true
   iteration-went y u h e = subst (Comes n bytes r o t y u) e (comes y u h)
 
   -- Another halts.
-  pub iteration-halts : (y : Iteration) (u : List (List ℕ)) → Iterates n bytes r (o .depth) (lowOf o) t y u → y .went ≡ false
+  pub iteration-halts : (y : Iteration) (u : List NodeRecord) → Iterates n bytes r (o .depth) (lowOf o) t y u → y .went ≡ false
       → Comes n bytes r o t y u false
   iteration-halts y u h e = subst (Comes n bytes r o t y u) e (comes y u h)

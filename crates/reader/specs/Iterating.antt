@@ -42,6 +42,7 @@ use Rattle.reader.specs.Taking.{takenOf}
 use Rattle.work_table.specs.Table.{getIn}
 use Rattle.reader.specs.Advance.{barredBy, updatedTo, takenAt, stayed, token-ahead, taken-at, Iterates, past, barred, out, fault, took}
 use Rattle.reader.specs.Iteration.{barred-other}
+use Rattle.node_records.specs.declared.NodeRecord.{NodeRecord}
 
 -- ---- Back from the theory ------------------------------------------------------------------
 
@@ -203,9 +204,9 @@ nextTokenBack x = record {
 -- what an iteration comes to, and the lent table after it
 pub record Iterated : Type 0 where
   pub iteration : Iteration
-  pub table : List (List ℕ)
+  pub table : List NodeRecord
 
-module _ (n : ℕ) (bytes : List ℕ) (r : Run) (d : ℕ) (low : Open) (t : List (List ℕ)) where
+module _ (n : ℕ) (bytes : List ℕ) (r : Run) (d : ℕ) (low : Open) (t : List NodeRecord) where
   -- the theory's token, and the byte at the place
   abbrev seen : NextTokenView
   seen = nextToken kindTable bytes (r .at) (contextOf (r .context)) (r .last) d low
@@ -266,14 +267,14 @@ module _ (n : ℕ) (bytes : List ℕ) (r : Run) (d : ℕ) (low : Open) (t : List
   iteration-past : length bytes ≤ r .at → iterationIn ≡ stays false WrongByte 0
   iteration-past h = iteration-free (past-free h) T.ranOut (past-out h)
 
-  abbrev made : Iteration → List (List ℕ) → Iterated
+  abbrev made : Iteration → List NodeRecord → Iterated
   made y u = record { iteration = y; table = u }
 
   token-outcome : (x : NextToken) → nextTokenView x ≡ seen → (o : Outcome) → outcomeIn x ≡ o → seen .outcome ≡ outcomeOf o
   token-outcome x e o i = sym (ap (λ (z : NextTokenView). z .outcome) e) ∙ ap outcomeOf i
 
   -- An iteration comes to what the function says.
-  pub iteration-in : (y : Iteration) (u : List (List ℕ)) → Iterates n bytes r d low t y u → made y u ≡ iterationIn
+  pub iteration-in : (y : Iteration) (u : List NodeRecord) → Iterates n bytes r d low t y u → made y u ≡ iterationIn
   iteration-in y u (past h e k) = ap₂ made e k ∙ sym (iteration-past h)
   iteration-in y u (barred h e k) = ap₂ made e k ∙ sym (iteration-barred h)
   iteration-in y u (out h x s i e k) = ap₂ made e k ∙ sym (iteration-free h T.ranOut (token-outcome x s RanOut i))
@@ -328,7 +329,7 @@ module _ (n : ℕ) (bytes : List ℕ) (r : Run) (d : ℕ) (low : Open) (t : List
 -- ---- Onward ----------------------------------------------------------------------------------
 
 -- AN ITERATION THAT GOES ON moves ahead in the bytes, and no more nodes are open after it than may be.
-pub iteration-ahead : (n : ℕ) (bytes : List ℕ) (r : Run) (d : ℕ) (low : Open) (t : List (List ℕ)) (y : Iteration) (u : List (List ℕ))
+pub iteration-ahead : (n : ℕ) (bytes : List ℕ) (r : Run) (d : ℕ) (low : Open) (t : List NodeRecord) (y : Iteration) (u : List NodeRecord)
     → Iterates n bytes r d low t y u
     → y .went ≡ true → (r .at < length bytes) × ((r .at < y .run .at) × (y .depth ≤ openLimit))
 iteration-ahead n bytes r d low t y u (past h e k) w = absurd (false≢true (sym (ap (λ (z : Iteration). z .went) e) ∙ w))

@@ -23,7 +23,7 @@ use Rattle.reader.specs.Taking.{takenOf}
 use Rattle.work_table.specs.Table.{getIn, storeAt}
 use Rattle.reader.specs.Advance.{barsBy, barredBy, recordTo, updatedTo, takenAt, updatedAt}
 
-module _ (t : List (List ℕ)) (r : Run) (b : ℕ) where
+module _ (t : List NodeRecord) (r : Run) (b : ℕ) where
   pub barred-other : (b ≡ colon → ⊥) → false ≡ barredBy t r b
   barred-other h = rw (ne-eqb b colon h) (go (isTwo (contextOf (r .context))))
     where
@@ -42,7 +42,7 @@ module _ (t : List (List ℕ)) (r : Run) (b : ℕ) where
     barred-second e = rw (two, eq-eqb b colon here, e) refl
 
 -- what a call of `get` tells of a child
-pub bars-got : (t : List (List ℕ)) (z : ℕ) (x : NodeRecord) (a : Ref) → x ≡ getIn t z (a .number) → not (eqb (x .stamp) (a .stamp)) ≡ barsBy t z a
+pub bars-got : (t : List NodeRecord) (z : ℕ) (x : NodeRecord) (a : Ref) → x ≡ getIn t z (a .number) → not (eqb (x .stamp) (a .stamp)) ≡ barsBy t z a
 bars-got t z x a e = ap (λ (w : NodeRecord). not (eqb (w .stamp) (a .stamp))) e
 
 -- what the next token comes to by a lent table, which is that of the kinds
@@ -52,16 +52,16 @@ pub token-kinds : (k bytes : List ℕ) (r : Run) (d : ℕ) (low : Open) (x : Nex
 token-kinds k bytes r d low x e s = s ∙ ap (λ (l : List ℕ). nextToken l bytes (r .at) (contextOf (r .context)) (r .last) d low) e
 
 -- a storing puts its record
-pub updated-stored : (t : List (List ℕ)) (r : Run) (d k : ℕ) (x w : NodeRecord) (y : Taken) → y .stores ≡ true → w ≡ recordTo r d x
+pub updated-stored : (t : List NodeRecord) (r : Run) (d k : ℕ) (x w : NodeRecord) (y : Taken) → y .stores ≡ true → w ≡ recordTo r d x
     → storeAt t (r .size) k w ≡ updatedTo r d k x y t
 updated-stored t r d k x w y s e = rw s (ap (storeAt t (r .size) k) e)
 
 -- What the calls of an iteration that takes an element come to.
-module _ (n : ℕ) (bytes : List ℕ) (r : Run) (d : ℕ) (low : Open) (t : List (List ℕ)) (x : NextToken) (e : Element)
+module _ (n : ℕ) (bytes : List ℕ) (r : Run) (d : ℕ) (low : Open) (t : List NodeRecord) (x : NextToken) (e : Element)
     (g : ℕ) (digit : g ≡ digitPlace (r .at) (getD bytes (r .at) 0)) (w : NodeRecord) (row : w ≡ getIn t (r .size) (x .number))
     (y : Taken) (taken : y ≡ takenOf n r d low g e w (x .at) (x .context)) where
   pub iteration-taken : y ≡ takenAt n bytes r d low t x e
   iteration-taken = taken ∙ ap₂ (λ (i : ℕ) (v : NodeRecord). takenOf n r d low i e v (x .at) (x .context)) digit row
 
-  pub iteration-updated : (u : List (List ℕ)) → u ≡ updatedTo r d (x .number) w y t → u ≡ updatedAt n bytes r d low t x e
+  pub iteration-updated : (u : List NodeRecord) → u ≡ updatedTo r d (x .number) w y t → u ≡ updatedAt n bytes r d low t x e
   iteration-updated u h = h ∙ ap₂ (λ (v : NodeRecord) (z : Taken). updatedTo r d (x .number) v z t) row iteration-taken

@@ -21,6 +21,7 @@ use Rattle.work_table.specs.Table.{getIn}
 use Rattle.reader.specs.Advance.{stateAt, Kept, Young, takenAt, lowOf, opensTo, Iterates, past, barred, out, fault, took, HaltsAt, Comes}
 use Rattle.reader.specs.Advance.{iteration-went, iteration-halts, list-length, length-updated}
 use Rattle.reader.specs.OpenCells.{ReadReached}
+use Rattle.node_records.specs.declared.NodeRecord.{NodeRecord}
 
 -- ---- The first state -------------------------------------------------------------------------
 
@@ -40,13 +41,13 @@ abbrev pub firstOpens : Opens
 firstOpens = record { nodes = replicate openLimit insideOpen; depth = 0 }
 
 -- Code stands where reading stands after some steps.
-pub record Stands (n : ℕ) (bytes : List ℕ) (r : Run) (o : Opens) (t : List (List ℕ)) : Type 0 where
+pub record Stands (n : ℕ) (bytes : List ℕ) (r : Run) (o : Opens) (t : List NodeRecord) : Type 0 where
   pub steps : ℕ
   pub here : At n bytes steps (stateAt r o t)
   pub kept : Kept r o t
 
 -- It stands so at the start, whatever the table holds.
-unfoldable pub stands-first : (n : ℕ) (bytes : List ℕ) (t : List (List ℕ)) → tableLimit ≤ length t → Stands n bytes firstRun firstOpens t
+unfoldable pub stands-first : (n : ℕ) (bytes : List ℕ) (t : List NodeRecord) → tableLimit ≤ length t → Stands n bytes firstRun firstOpens t
 unfolding opensOf
 stands-first n bytes t h = record {
   steps = 0;
@@ -76,20 +77,20 @@ pub record PassedLast (n : ℕ) (bytes : List ℕ) (m : Context) (steps stop fro
   pub later : isStart (contextOf m) ≡ false
 
 -- Past the stop the last step passed it; else reading halts.
-abbrev pub Ends : (n : ℕ) (bytes : List ℕ) (stop : ℕ) (y : ReadReached) (u : List (List ℕ)) → ℕ → Bool → Type 0
+abbrev pub Ends : (n : ℕ) (bytes : List ℕ) (stop : ℕ) (y : ReadReached) (u : List NodeRecord) → ℕ → Bool → Type 0
 Ends n bytes stop y u steps true = (y .run .covered ≤ stop) × HaltsAt n bytes (stateAt (y .run) (y .opens) u) (y .faulty) (y .cause) (y .byte)
 Ends n bytes stop y u steps false = (stop < y .run .covered) × PassedLast n bytes (y .run .context) steps stop (y .from) (y .deep)
 
-pub record ReachedBy (n : ℕ) (bytes : List ℕ) (stop : ℕ) (y : ReadReached) (u : List (List ℕ)) : Type 0 where
+pub record ReachedBy (n : ℕ) (bytes : List ℕ) (stop : ℕ) (y : ReadReached) (u : List NodeRecord) : Type 0 where
   pub stands : Stands n bytes (y .run) (y .opens) u
   pub ends : Ends n bytes stop y u (stands .steps) (y .halted)
 
 -- What the loop keeps: where it stands; and past the stop, the last step.
-pub record Running (n : ℕ) (bytes : List ℕ) (stop : ℕ) (r : Run) (o : Opens) (from deep : ℕ) (t : List (List ℕ)) : Type 0 where
+pub record Running (n : ℕ) (bytes : List ℕ) (stop : ℕ) (r : Run) (o : Opens) (from deep : ℕ) (t : List NodeRecord) : Type 0 where
   pub stands : Stands n bytes r o t
   pub past : (r .covered ≤ stop) ⊎ PassedLast n bytes (r .context) (stands .steps) stop from deep
 
-module _ (n : ℕ) (bytes : List ℕ) (few : n ≤ optionLimit) (r : Run) (o : Opens) (t : List (List ℕ)) (h : Stands n bytes r o t) where
+module _ (n : ℕ) (bytes : List ℕ) (few : n ≤ optionLimit) (r : Run) (o : Opens) (t : List NodeRecord) (h : Stands n bytes r o t) where
   young : Young r t
   young = at-stamp n bytes (h .steps) (stateAt r o t) few (h .here)
 
@@ -98,7 +99,7 @@ module _ (n : ℕ) (bytes : List ℕ) (few : n ≤ optionLimit) (r : Run) (o : O
   stands-covered = at-covered n bytes (h .steps) (stateAt r o t) few (h .here)
 
   -- the iteration's result y, with the lent table u
-  module _ (y : Iteration) (u : List (List ℕ)) (made : Iterates n bytes r (o .depth) (lowOf o) t y u) where
+  module _ (y : Iteration) (u : List NodeRecord) (made : Iterates n bytes r (o .depth) (lowOf o) t y u) where
     -- An iteration that does not go on halts, and lends nothing.
     pub halts-here : y .went ≡ false → (u ≡ t) × HaltsAt n bytes (stateAt r o t) (y .faulty) (y .cause) (y .byte)
     halts-here = iteration-halts n bytes r o t (h .kept) young y u made
@@ -136,7 +137,7 @@ module _ (n : ℕ) (bytes : List ℕ) (few : n ≤ optionLimit) (r : Run) (o : O
 -- ---- The ends of the loop ---------------------------------------------------------------------
 
 -- An iteration keeps the length of the lent table.
-pub iteration-length : (n : ℕ) (bytes : List ℕ) (r : Run) (d : ℕ) (low : Open) (t : List (List ℕ)) (y : Iteration) (u : List (List ℕ))
+pub iteration-length : (n : ℕ) (bytes : List ℕ) (r : Run) (d : ℕ) (low : Open) (t : List NodeRecord) (y : Iteration) (u : List NodeRecord)
     → Iterates n bytes r d low t y u → length u ≡ length t
 iteration-length n bytes r d low t y u (past h e k) = ap length k
 iteration-length n bytes r d low t y u (barred h e k) = ap length k
@@ -146,7 +147,7 @@ iteration-length n bytes r d low t y u (took l h x seen el i e k) = ap length k
     ∙ length-updated r d (x .number) (getIn t (r .size) (x .number)) (takenAt n bytes r d low t x el) t
 
 -- The loop is past its stop.
-pub loop-past : (n : ℕ) (bytes : List ℕ) (stop : ℕ) (r : Run) (o : Opens) (from deep : ℕ) (t : List (List ℕ)) → Running n bytes stop r o from deep t
+pub loop-past : (n : ℕ) (bytes : List ℕ) (stop : ℕ) (r : Run) (o : Opens) (from deep : ℕ) (t : List NodeRecord) → Running n bytes stop r o from deep t
     → stop < r .covered
     → ReachedBy n bytes stop (record { run = r; opens = o; from = from; deep = deep; halted = false; faulty = false; cause = WrongByte; byte = 0 }) t
 loop-past n bytes stop r o from deep t h l = record {

@@ -14,6 +14,7 @@ use Rattle.elements.specs.declared.Open.{Open}
 use Rattle.elements.specs.declared.Opens.{Opens}
 use Rattle.reader.specs.declared.Reached.{Reached}
 use Rattle.reader.specs.declared.Run.{Run}
+use Rattle.work_table.specs.TableLaws.{bit-back}
 
 -- ---- Open nodes ------------------------------------------------------------------------------
 
@@ -72,10 +73,6 @@ abbrev pub cursorIn : Cursor → List (List ℕ) → ReadCursor
 cursorIn c o = record { run = c .run; opens = opensIn o (c .depth) }
 
 -- ---- Laws ------------------------------------------------------------------------------------
-
-bit-back : (b : Bool) → not (eqb (cond b 1 0) 0) ≡ b
-bit-back true = refl
-bit-back false = refl
 
 -- an entry is read from its cells
 open-back : (e : Open) → openIn (cellsOf e) ≡ e

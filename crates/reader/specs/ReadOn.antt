@@ -23,13 +23,14 @@ use Rattle.reader.specs.Iterating.{Iterated, iterationIn, iteration-in, 
 use Rattle.reader.specs.OpenCells.{ReadReached, ReadCursor, cursorIn}
 use Rattle.reader.specs.Loop.{firstRun, firstOpens, Stands, stands-first, ReachedBy, Running, goes-here, halts-here, ahead-here}
 use Rattle.reader.specs.Loop.{iteration-length, loop-past}
+use Rattle.node_records.specs.declared.NodeRecord.{NodeRecord}
 
 -- ---- The loop --------------------------------------------------------------------------------
 
 -- what the loop reaches, and the lent table after it
 pub record ReadTo : Type 0 where
   pub reached : ReadReached
-  pub table : List (List ℕ)
+  pub table : List NodeRecord
 
 -- it halts at r, with a fault if f
 abbrev pub haltedAt : Run → Opens → ℕ → ℕ → Bool → Cause → ℕ → ReadReached
@@ -40,7 +41,7 @@ abbrev pub passedAt : Run → Opens → ℕ → ℕ → ReadReached
 passedAt r o from deep = record { run = r; opens = o; from = from; deep = deep; halted = false; faulty = false; cause = WrongByte; byte = 0 }
 
 -- "Reads on while no more than `stop` words are covered", at most so many iterations
-unfoldable pub readOn : ℕ → ℕ → List ℕ → ℕ → Run → Opens → ℕ → ℕ → List (List ℕ) → ReadTo
+unfoldable pub readOn : ℕ → ℕ → List ℕ → ℕ → Run → Opens → ℕ → ℕ → List NodeRecord → ReadTo
 unfolding iterationIn
 readOn zero n bytes stop r o from deep t = record { reached = haltedAt r o from deep false WrongByte 0; table = t }
 readOn (suc f) n bytes stop r o from deep t =
@@ -51,10 +52,10 @@ readOn (suc f) n bytes stop r o from deep t =
     (record { reached = haltedAt r o from deep (x .iteration .faulty) (x .iteration .cause) (x .iteration .byte); table = x .table }))
 
 -- every turn that goes on takes a byte, so there are no more iterations than bytes, but for the last
-abbrev pub readAll : ℕ → List ℕ → ℕ → Run → Opens → List (List ℕ) → ReadTo
+abbrev pub readAll : ℕ → List ℕ → ℕ → Run → Opens → List NodeRecord → ReadTo
 readAll n bytes stop r o t = readOn (suc (length bytes)) n bytes stop r o 0 0 t
 
-module _ (f n : ℕ) (bytes : List ℕ) (stop : ℕ) (r : Run) (o : Opens) (from deep : ℕ) (t : List (List ℕ)) where
+module _ (f n : ℕ) (bytes : List ℕ) (stop : ℕ) (r : Run) (o : Opens) (from deep : ℕ) (t : List NodeRecord) where
   -- past the stop it is done
   read-past : stop < r .covered → readOn (suc f) n bytes stop r o from deep t ≡ record { reached = passedAt r o from deep; table = t }
   unfolding readOn
@@ -72,7 +73,7 @@ module _ (f n : ℕ) (bytes : List ℕ) (stop : ℕ) (r : Run) (o : Opens) (from
   read-iteration h = ap (λ (b : Bool). cond b (record { reached = passedAt r o from deep; table = t })
       (iterated (iterationIn n bytes r (o .depth) (lowOf o) t))) (le-ltb stop (r .covered) h)
 
-  module _ (y : Iteration) (u : List (List ℕ)) (made : Iterates n bytes r (o .depth) (lowOf o) t y u) (l : r .covered ≤ stop) where
+  module _ (y : Iteration) (u : List NodeRecord) (made : Iterates n bytes r (o .depth) (lowOf o) t y u) (l : r .covered ≤ stop) where
     read-correct : readOn (suc f) n bytes stop r o from deep t ≡ iterated (record { iteration = y; table = u })
     read-correct = read-iteration l ∙ ap iterated (sym (iteration-in n bytes r (o .depth) (lowOf o) t y u made))
 
@@ -93,7 +94,7 @@ module _ (f n : ℕ) (bytes : List ℕ) (stop : ℕ) (r : Run) (o : Opens) (from
         (record { reached = haltedAt r o from deep (y .faulty) (y .cause) (y .byte); table = u })) e
 
 -- The lent table stays as long.
-pub read-length : (f n : ℕ) (bytes : List ℕ) (stop : ℕ) (r : Run) (o : Opens) (from deep : ℕ) (t : List (List ℕ))
+pub read-length : (f n : ℕ) (bytes : List ℕ) (stop : ℕ) (r : Run) (o : Opens) (from deep : ℕ) (t : List NodeRecord)
     → length (readOn f n bytes stop r o from deep t .table) ≡ length t
 unfolding readOn
 read-length zero n bytes stop r o from deep t = refl
@@ -109,7 +110,7 @@ read-length (suc f) n bytes stop r o from deep t = ⊎-elim (λ k. on (λ a b c 
     long : length (x .table) ≡ length t
     long = iteration-length n bytes r (o .depth) (lowOf o) t (x .iteration) (x .table) made
 
-    on : ((r : Run) (o : Opens) (from deep : ℕ) (t : List (List ℕ)) → length (readOn f n bytes stop r o from deep t .table) ≡ length t)
+    on : ((r : Run) (o : Opens) (from deep : ℕ) (t : List NodeRecord) → length (readOn f n bytes stop r o from deep t .table) ≡ length t)
         → r .covered ≤ stop → (b : Bool) → x .iteration .went ≡ b → length (readOn (suc f) n bytes stop r o from deep t .table) ≡ length t
     on again k true e = ap (λ (z : ReadTo). length (z .table)) (read-goes f n bytes stop r o from deep t (x .iteration) (x .table) made k e)
         ∙ again _ _ _ _ _ ∙ long
@@ -124,7 +125,7 @@ abbrev Reaches : ℕ → List ℕ → ℕ → ReadTo → Type 0
 Reaches n bytes stop z = ReachedBy n bytes stop (z .reached) (z .table)
 
 -- with fuel for every byte that is left
-read-running : (f n : ℕ) (bytes : List ℕ) → n ≤ optionLimit → (stop : ℕ) (r : Run) (o : Opens) (from deep : ℕ) (t : List (List ℕ))
+read-running : (f n : ℕ) (bytes : List ℕ) → n ≤ optionLimit → (stop : ℕ) (r : Run) (o : Opens) (from deep : ℕ) (t : List NodeRecord)
     → Running n bytes stop r o from deep t → length bytes - r .at < f
     → Reaches n bytes stop (readOn f n bytes stop r o from deep t)
 read-running zero n bytes few stop r o from deep t h l = absurd (omega (arith, l))
@@ -132,13 +133,13 @@ read-running (suc f) n bytes few stop r o from deep t h l = ⊎-elim (on (λ a b
     (decide-le (r .covered) stop)
   where
     Again : Type 0
-    Again = (r : Run) (o : Opens) (from deep : ℕ) (t : List (List ℕ)) → Running n bytes stop r o from deep t → length bytes - r .at < f
+    Again = (r : Run) (o : Opens) (from deep : ℕ) (t : List NodeRecord) → Running n bytes stop r o from deep t → length bytes - r .at < f
         → Reaches n bytes stop (readOn f n bytes stop r o from deep t)
 
     y : Iteration
     y = iterationIn n bytes r (o .depth) (lowOf o) t .iteration
 
-    u : List (List ℕ)
+    u : List NodeRecord
     u = iterationIn n bytes r (o .depth) (lowOf o) t .table
 
     made : Iterates n bytes r (o .depth) (lowOf o) t y u
@@ -162,7 +163,7 @@ read-running (suc f) n bytes few stop r o from deep t h l = ⊎-elim (on (λ a b
     over k = subst (Reaches n bytes stop) (sym (read-past f n bytes stop r o from deep t k)) (loop-past n bytes stop r o from deep t h k)
 
 -- WHERE CODE STANDS as reading does, what the function comes to is what the loop reaches.
-pub read-reaches : (n : ℕ) (bytes : List ℕ) → n ≤ optionLimit → (stop : ℕ) (r : Run) (o : Opens) (t : List (List ℕ)) → Stands n bytes r o t
+pub read-reaches : (n : ℕ) (bytes : List ℕ) → n ≤ optionLimit → (stop : ℕ) (r : Run) (o : Opens) (t : List NodeRecord) → Stands n bytes r o t
     → r .covered ≤ stop
     → let z = readAll n bytes stop r o t in ReachedBy n bytes stop (z .reached) (z .table)
 read-reaches n bytes few stop r o t h l = read-running (suc (length bytes)) n bytes few stop r o 0 0 t (record { stands = h; past = inl l })
@@ -171,25 +172,25 @@ read-reaches n bytes few stop r o t h l = read-running (suc (length bytes)) n by
 -- ---- The code's loop -------------------------------------------------------------------------
 
 -- What the loop keeps, whatever the state: it leads to what the function comes to.
-pub record Leads (z : ReadTo) (n : ℕ) (bytes : List ℕ) (stop : ℕ) (r : Run) (o : Opens) (from deep : ℕ) (t : List (List ℕ)) : Type 0 where
+pub record Leads (z : ReadTo) (n : ℕ) (bytes : List ℕ) (stop : ℕ) (r : Run) (o : Opens) (from deep : ℕ) (t : List NodeRecord) : Type 0 where
   pub fuel : ℕ
   pub enough : length bytes - r .at < suc fuel
   pub same : readOn (suc fuel) n bytes stop r o from deep t ≡ z
   pub shallow : o .depth ≤ openLimit
 
 -- So at the start.
-pub leads-first : (n : ℕ) (bytes : List ℕ) (stop : ℕ) (r : Run) (o : Opens) (t : List (List ℕ)) → o .depth ≤ openLimit
+pub leads-first : (n : ℕ) (bytes : List ℕ) (stop : ℕ) (r : Run) (o : Opens) (t : List NodeRecord) → o .depth ≤ openLimit
     → Leads (readAll n bytes stop r o t) n bytes stop r o 0 0 t
 leads-first n bytes stop r o t h = record { fuel = length bytes; enough = omega arith; same = refl; shallow = h }
 
-module _ (z : ReadTo) (n : ℕ) (bytes : List ℕ) (stop : ℕ) (r : Run) (o : Opens) (from deep : ℕ) (t : List (List ℕ))
+module _ (z : ReadTo) (n : ℕ) (bytes : List ℕ) (stop : ℕ) (r : Run) (o : Opens) (from deep : ℕ) (t : List NodeRecord)
     (h : Leads z n bytes stop r o from deep t) where
   -- Past its stop the loop is done.
   pub leads-past : stop < r .covered → record { reached = passedAt r o from deep; table = t } ≡ z
   leads-past l = sym (read-past (h .fuel) n bytes stop r o from deep t l) ∙ h .same
 
   -- low: the innermost entry, as code reads it
-  module _ (l : r .covered ≤ stop) (low : Open) (lowest : low ≡ lowOf o) (y : Iteration) (u : List (List ℕ))
+  module _ (l : r .covered ≤ stop) (low : Open) (lowest : low ≡ lowOf o) (y : Iteration) (u : List NodeRecord)
       (made : Iterates n bytes r (o .depth) low t y u) where
     iterates-low : Iterates n bytes r (o .depth) (lowOf o) t y u
     iterates-low = subst (λ (x : Open). Iterates n bytes r (o .depth) x t y u) lowest made
@@ -247,12 +248,12 @@ abbrev pub restingAt : ReadCursor → ReadReached
 restingAt c = haltedAt (c .run) (c .opens) 0 0 false WrongByte 0
 
 -- READING ON while no more than `stop` words are covered; past the limits nothing is read
-unfoldable pub readFrom : ℕ → List ℕ → ℕ → ReadCursor → List (List ℕ) → ReadTo
+unfoldable pub readFrom : ℕ → List ℕ → ℕ → ReadCursor → List NodeRecord → ReadTo
 unfolding readOn
 readFrom n bytes stop c t = cond (offBy n (c .opens .depth) stop) (record { reached = restingAt c; table = t })
     (readAll n bytes stop (c .run) (c .opens) t)
 
-module _ (n : ℕ) (bytes : List ℕ) (stop : ℕ) (c : ReadCursor) (t : List (List ℕ)) where
+module _ (n : ℕ) (bytes : List ℕ) (stop : ℕ) (c : ReadCursor) (t : List NodeRecord) where
   abbrev by : Bool → ReadTo
   by b = cond b (record { reached = restingAt c; table = t }) (readAll n bytes stop (c .run) (c .opens) t)
 
@@ -282,22 +283,22 @@ not-off : (n d stop : ℕ) → n ≤ optionLimit → d ≤ openLimit → stop �
 not-off n d stop h k l = rw (le-ltb optionLimit n h, le-ltb openLimit d k, le-ltb wordLimit stop l) refl
 
 -- The loop reads on from a cursor that stands where reading does.
-pub read-within : (n : ℕ) (bytes : List ℕ) → n ≤ optionLimit → (stop : ℕ) → stop ≤ wordLimit → (c : ReadCursor) (t : List (List ℕ))
+pub read-within : (n : ℕ) (bytes : List ℕ) → n ≤ optionLimit → (stop : ℕ) → stop ≤ wordLimit → (c : ReadCursor) (t : List NodeRecord)
     → Stands n bytes (c .run) (c .opens) t
     → readFrom n bytes stop c t ≡ readAll n bytes stop (c .run) (c .opens) t
 read-within n bytes few stop most c t h = read-on n bytes stop c t (not-off n (c .opens .depth) stop few (h .kept .deep) most)
 
 -- So for a call: y is what it reaches, u the table after it.
-pub read-called : (n : ℕ) (bytes : List ℕ) → n ≤ optionLimit → (stop : ℕ) → stop ≤ wordLimit → (c : ReadCursor) (t : List (List ℕ))
+pub read-called : (n : ℕ) (bytes : List ℕ) → n ≤ optionLimit → (stop : ℕ) → stop ≤ wordLimit → (c : ReadCursor) (t : List NodeRecord)
     → Stands n bytes (c .run) (c .opens) t → c .run .covered ≤ stop
-    → (y : ReadReached) (u : List (List ℕ)) → record { reached = y; table = u } ≡ readFrom n bytes stop c t → ReachedBy n bytes stop y u
+    → (y : ReadReached) (u : List NodeRecord) → record { reached = y; table = u } ≡ readFrom n bytes stop c t → ReachedBy n bytes stop y u
 read-called n bytes few stop most c t h l y u e =
     subst (Reaches n bytes stop) (sym (e ∙ read-within n bytes few stop most c t h)) (read-reaches n bytes few stop (c .run) (c .opens) t h l)
 
 -- So for a call from the start.
-pub read-begun : (n : ℕ) (bytes : List ℕ) → n ≤ optionLimit → (stop : ℕ) → stop ≤ wordLimit → (c : Cursor) (t : List (List ℕ)) → tableLimit ≤ length t
+pub read-begun : (n : ℕ) (bytes : List ℕ) → n ≤ optionLimit → (stop : ℕ) → stop ≤ wordLimit → (c : Cursor) (t : List NodeRecord) → tableLimit ≤ length t
     → c ≡ startCursor
-    → (y : ReadReached) (u : List (List ℕ)) → record { reached = y; table = u }
+    → (y : ReadReached) (u : List NodeRecord) → record { reached = y; table = u }
     ≡ readFrom n bytes stop (cursorIn c (replicate openLimit (replicate 4 0))) t → ReachedBy n bytes stop y u
 read-begun n bytes few stop most c t room ce y u e =
     read-called n bytes few stop most firstCursor t (stands-first n bytes t room) (omega arith) y u

@@ -24,12 +24,12 @@ use node_records::OPTION_LIMIT;
 use node_records::TABLE_LIMIT;
 use node_records::WORD_LIMIT;
 use node_records::bit;
+use node_records::clear_records;
 use scanner::BLANK;
 use scanner::COLON;
 use scanner::NextToken;
 use scanner::Token;
 use scanner::next_token;
-use work_table::clear;
 use work_table::get;
 use work_table::store;
 
@@ -345,7 +345,7 @@ fn take_element(
 // ---- One iteration
 
 // A `:` at the place is barred by a child, whose number was given out again. b: the byte there
-fn barred(t: &[[u32; 6]], r: Run, b: u8) -> bool
+fn barred(t: &[NodeRecord], r: Run, b: u8) -> bool
     ensures { λ x. ⌜ x ≡ barredBy (now (t .entry)) r b ⌝ }
 {
     let m = r.context;
@@ -378,14 +378,14 @@ fn record_of(r: Run, d: u32, x: NodeRecord) -> NodeRecord
         level: d + 1,
         first: a.number,
         second: b.number,
-        complement: p.complement,
+        complement: bit(p.complement),
         stamp: next_stamp(x.stamp),
         parents: x.parents,
     }
 }
 
 // The table after an element of the number k: a size clears its records, a storing puts one.
-fn update_table(t: &mut [[u32; 6]], r: Run, d: u32, k: u32, x: NodeRecord, y: Taken)
+fn update_table(t: &mut [NodeRecord], r: Run, d: u32, k: u32, x: NodeRecord, y: Taken)
     requires { ⌜ d ≤ openLimit ⌝ }
     ensures { λ _. ⌜ now (t .exit) ≡ updatedTo r d k x y (now (t .entry)) ⌝ }
 {
@@ -396,7 +396,7 @@ fn update_table(t: &mut [[u32; 6]], r: Run, d: u32, k: u32, x: NodeRecord, y: Ta
     }
     let z = y.sizes;
     if z {
-        clear(t, k as usize);
+        clear_records(t, k as usize);
     }
 }
 
@@ -505,7 +505,7 @@ fn iterate(
     k: &[u8; 256],
     n: u32,
     s: &[u8],
-    t: &mut [[u32; 6]],
+    t: &mut [NodeRecord],
     r: Run,
     d: usize,
     low: Open,
@@ -619,7 +619,7 @@ fn run_on(
     k: &[u8; 256],
     n: u32,
     s: &[u8],
-    t: &mut [[u32; 6]],
+    t: &mut [NodeRecord],
     o: &mut [[u32; 4]; OPEN_LIMIT],
     first: Run,
     around: usize,
@@ -706,7 +706,7 @@ fn is_off(n: u32, d: usize, stop: u64) -> bool
 pub fn read_on(
     n: u32,
     s: &[u8],
-    t: &mut [[u32; 6]],
+    t: &mut [NodeRecord],
     o: &mut [[u32; 4]; OPEN_LIMIT],
     c: Cursor,
     stop: u64,

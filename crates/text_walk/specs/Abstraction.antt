@@ -22,6 +22,8 @@ use Rattle.operands.specs.declared.Begun.{Begun}
 use Rattle.text_walk.specs.declared.Applied.{Applied}
 use Rattle.text_walk.specs.declared.Gap.{Gap}
 use Rattle.text_walk.specs.declared.Task.{Task}
+use Rattle.node_records.specs.declared.NodeRecord.{NodeRecord}
+use Rattle.node_records.specs.declared.WriterRecord.{WriterRecord}
 
 -- ---- Between the halves ----------------------------------------------------------------------
 
@@ -59,16 +61,16 @@ gapBy op m q₁ q₂ a w =
 -- ---- The walk --------------------------------------------------------------------------------
 
 -- with what the lent memory holds; τ, σ: the block readers, μ: the operation cache
-abbrev pub carriedOn : Applied → BlockReader → BlockReader → List (List ℕ) → List ℕ → List ℕ → List (List ℕ) → Carried BlockReader
+abbrev pub carriedOn : Applied → BlockReader → BlockReader → List WriterRecord → List ℕ → List ℕ → List (List ℕ) → Carried BlockReader
 carriedOn a τ σ t out w μ =
     record { applied = record { walked = walkedOf (a .walked) t out w; readers = τ ∷ σ ∷ []; ended = a .ended }; memo = μ }
 
 -- x, y: the streams, o₁, o₂: their open nodes, t₁, t₂: their lent tables
-abbrev pub carriedOf : Applied → List ℕ → List ℕ → List (List ℕ) → List (List ℕ) → List (List ℕ) → List (List ℕ) → List (List ℕ) → List ℕ
+abbrev pub carriedOf : Applied → List ℕ → List ℕ → List (List ℕ) → List (List ℕ) → List NodeRecord → List NodeRecord → List WriterRecord → List ℕ
     → List ℕ → List (List ℕ) → Carried BlockReader
 carriedOf a x y o₁ o₂ t₁ t₂ t out w μ = carriedOn a (readerOf (a .first) o₁ x t₁) (readerOf (a .second) o₂ y t₂) t out w μ
 
-abbrev pub walkTexts : Task → ℕ → ℕ → ℕ → ℕ → List (T.Operand BlockReader) → List (List ℕ) → List (List ℕ) → List ℕ → List ℕ → E.Progress
+abbrev pub walkTexts : Task → ℕ → ℕ → ℕ → ℕ → List (T.Operand BlockReader) → List (List ℕ) → List WriterRecord → List ℕ → List ℕ → E.Progress
     → Carried BlockReader
 walkTexts k d i at m fs μ t out w progress =
     carryIn deepOf sourceOf (nextReader (k .n)) slotOf (operate (k .op)) (k .covered) (k .size) d i at m fs μ t out w progress
@@ -78,12 +80,12 @@ walkTexts k d i at m fs μ t out w progress =
 abbrev pub sentOf : Sent → List ℕ → List ℕ → E.Sent
 sentOf x out w = record { written = x .written; full = x .full; output = out; waits = w }
 
-abbrev pub nodesBy : Task → List (T.Operand BlockReader) → List (List ℕ) → List (List ℕ) → E.Sent → E.Sent
+abbrev pub nodesBy : Task → List (T.Operand BlockReader) → List (List ℕ) → List WriterRecord → E.Sent → E.Sent
 nodesBy k fs μ t x =
     mergeNodesIn deepOf sourceOf (nextReader (k .n)) slotOf (operate (k .op)) (k .n) (k .covered) (k .size) fs μ t x
 
 -- as far as a rule may have so many options
-abbrev pub streamBy : Task → List (T.Operand BlockReader) → List (List ℕ) → List (List ℕ) → List ℕ → List ℕ → E.Sent
+abbrev pub streamBy : Task → List (T.Operand BlockReader) → List (List ℕ) → List WriterRecord → List ℕ → List ℕ → E.Sent
 streamBy k fs μ t out w =
     cond (ltb optionLimit (k .n)) (record { written = 0; full = true; output = out; waits = w })
     (mergeIn deepOf sourceOf (nextReader (k .n)) slotOf (operate (k .op)) (k .n) (k .covered) (k .size) fs μ t out w)

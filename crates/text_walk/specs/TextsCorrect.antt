@@ -32,6 +32,7 @@ use Rattle.applier.specs.WalkCorrect.{applied-within}
 use Rattle.text_walk.specs.Abstraction.{Between, gapWith, gapBy, carriedOn, walkTexts, nodesBy, streamBy}
 use Rattle.text_walk.specs.declared.Applied.{Applied}
 use Rattle.text_walk.specs.declared.Task.{Task}
+use Rattle.node_records.specs.declared.WriterRecord.{WriterRecord}
 
 -- no option is left, or no input is in its text
 abbrev pub atEdges : ℕ → T.Operand BlockReader → T.Operand BlockReader → Bool
@@ -62,11 +63,11 @@ second-asks d i at t k p h q =
 -- ---- The walk --------------------------------------------------------------------------------
 
 -- what a part came to, from r, on the block readers τ and σ
-abbrev pub cameTo : Walked → Bool → BlockReader → BlockReader → List (List ℕ) → List ℕ → List ℕ → List (List ℕ) → Carried BlockReader
+abbrev pub cameTo : Walked → Bool → BlockReader → BlockReader → List WriterRecord → List ℕ → List ℕ → List (List ℕ) → Carried BlockReader
 cameTo r b τ σ t out w μ =
     record { applied = record { walked = walkedOf r t out w; readers = τ ∷ σ ∷ []; ended = b }; memo = μ }
 
-module _ (k : Task) (e i at m : ℕ) (φ ψ : T.Operand BlockReader) (μ t : List (List ℕ)) (out w : List ℕ) (progress : E.Progress) where
+module _ (k : Task) (e i at m : ℕ) (φ ψ : T.Operand BlockReader) (μ : List (List ℕ)) (t : List WriterRecord) (out w : List ℕ) (progress : E.Progress) where
   abbrev inputs : List (T.Operand BlockReader)
   inputs = φ ∷ ψ ∷ []
 
@@ -74,7 +75,7 @@ module _ (k : Task) (e i at m : ℕ) (φ ψ : T.Operand BlockReader) (μ t : Lis
   whole = walkTexts k e i at m inputs μ t out w progress
 
   -- all inputs at edges, p and q
-  pub texts-edges : (p q : Source) (r : Walked) (v : List (List ℕ)) (o z : List ℕ) (ν : List (List ℕ))
+  pub texts-edges : (p q : Source) (r : Walked) (v : List WriterRecord) (o z : List ℕ) (ν : List (List ℕ))
       → atEdges e φ ψ ≡ true → e ≤ optionLimit → i + e ≤ levelLimit
       → p ≡ T.edgeOf deepOf sourceOf (nextReader (k .n)) φ → q ≡ T.edgeOf deepOf sourceOf (nextReader (k .n)) ψ
       → recalledOf r v o z ν ≡ applied (k .op) (k .size) e i m (p ∷ q ∷ []) μ t out w progress
@@ -87,7 +88,7 @@ module _ (k : Task) (e i at m : ℕ) (φ ψ : T.Operand BlockReader) (μ t : Lis
 
   -- φ₁, ψ₁: the inputs at the first half; p: what waits before it; a: what code came to there, on the block readers τ₁ and σ₁
   module _ (d : ℕ) (n : e ≡ suc d) (h : atEdges e φ ψ ≡ false) (φ₁ ψ₁ : T.Operand BlockReader) (p : Waiting) (a : Applied) (τ₁ σ₁ : BlockReader)
-      (v : List (List ℕ)) (o z : List ℕ) (ν : List (List ℕ)) (first₁ : φ₁ ≡ T.firstOperand deepOf sourceOf (nextReader (k .n)) i φ)
+      (v : List WriterRecord) (o z : List ℕ) (ν : List (List ℕ)) (first₁ : φ₁ ≡ T.firstOperand deepOf sourceOf (nextReader (k .n)) i φ)
       (first₂ : ψ₁ ≡ T.firstOperand deepOf sourceOf (nextReader (k .n)) i ψ) (pushed : p ≡ pushAll w m (opener ∷ []))
       (walked : carriedOn a τ₁ σ₁ v o z ν ≡ walkTexts k d (i + 1) at (p .count) (φ₁ ∷ ψ₁ ∷ []) μ t out (p .bytes) progress) where
     -- the inputs there
@@ -119,7 +120,7 @@ module _ (k : Task) (e i at m : ℕ) (φ ψ : T.Operand BlockReader) (μ t : Lis
           progress e n some inputs₁ p here went pushed walked j words (sym ce ∙ goes) (le-leb (k .covered) (at + j) l)
 
       -- φ₂, ψ₂: the inputs at the second half; gap: what is between the halves; b: what code came to there, on the block readers τ₃ and σ₃
-      module _ (more : at + j < k .covered) (φ₂ ψ₂ : T.Operand BlockReader) (gap : Between) (b : Applied) (τ₃ σ₃ : BlockReader) (y₃ : List (List ℕ))
+      module _ (more : at + j < k .covered) (φ₂ ψ₂ : T.Operand BlockReader) (gap : Between) (b : Applied) (τ₃ σ₃ : BlockReader) (y₃ : List WriterRecord)
           (o₃ w₂ : List ℕ) (ν₂ : List (List ℕ)) (second₁ : φ₂ ≡ T.secondOperand deepOf sourceOf (nextReader (k .n)) i (T.onReader φ τ₁))
           (second₂ : ψ₂ ≡ T.secondOperand deepOf sourceOf (nextReader (k .n)) i (T.onReader ψ σ₁))
           (crossed : gap ≡ gapBy (k .op) (p .count) (firstValueAt φ₂) (firstValueAt ψ₂) (a .walked) z)
@@ -171,7 +172,7 @@ module _ (k : Task) (e i at m : ℕ) (φ ψ : T.Operand BlockReader) (μ t : Lis
 
           -- the halves meet: s
           pub texts-on : (c′ : Bool) → c′ ≡ (b .ended || b .walked .progress .full) → c′ ≡ false → (r′ s : Walked)
-              (s₃ : List (List ℕ)) (o₄ w₃ : List ℕ) → r′ ≡ b .walked
+              (s₃ : List WriterRecord) (o₄ w₃ : List ℕ) → r′ ≡ b .walked
               → walkedOf s s₃ o₄ w₃ ≡ E.secondIn (k .size) i (gap .waiting .count) (gap .complement) (gap .half) (walkedOf r′ y₃ o₃ w₂)
               → cameTo s false τ₃ σ₃ s₃ o₄ w₃ ν₂ ≡ whole
           texts-on c′ e′ f′ r′ s s₃ o₄ w₃ re met =
@@ -196,8 +197,8 @@ gap-correct op m q₁ q₂ u₁ u₂ l u a r w q re e₁ e₂ le ue qe =
 -- ---- The stream ------------------------------------------------------------------------------
 
 -- s: what is sent before the outermost node; q₁, q₂: what the inputs decide at the first word; a: what code came to
-pub nodes-code : (k : Task) (φ ψ : T.Operand BlockReader) (μ t : List (List ℕ)) (q₁ q₂ l : Bool) (s : E.Sent) (m : Waiting) (progress : E.Progress)
-    (a : Applied) (τ₁ σ₁ : BlockReader) (v : List (List ℕ)) (o z : List ℕ) (ν : List (List ℕ))
+pub nodes-code : (k : Task) (φ ψ : T.Operand BlockReader) (μ : List (List ℕ)) (t : List WriterRecord) (q₁ q₂ l : Bool) (s : E.Sent) (m : Waiting) (progress : E.Progress)
+    (a : Applied) (τ₁ σ₁ : BlockReader) (v : List WriterRecord) (o z : List ℕ) (ν : List (List ℕ))
     → q₁ ≡ firstValueAt φ → q₂ ≡ firstValueAt ψ → l ≡ operate (k .op) (q₁ ∷ q₂ ∷ []) → m ≡ pushAll (s .waits) 0 (tildeIf l) → progress
     ≡ E.progressAfter s
     → carriedOn a τ₁ σ₁ v o z ν ≡ walkTexts k (k .n) 1 0 (m .count) (φ ∷ ψ ∷ []) μ t (s .output) (m .bytes) progress
@@ -207,7 +208,7 @@ nodes-code k φ ψ μ t q₁ q₂ l s m progress a τ₁ σ₁ v o z ν turn₁ 
     (carriedOn a τ₁ σ₁ v o z ν)
     (first ∙ ap₂ (λ (a b : Bool). operate (k .op) (a ∷ b ∷ [])) turn₁ turn₂) pushed pe walked
 
-module _ (k : Task) (fs : List (T.Operand BlockReader)) (μ t : List (List ℕ)) (out w : List ℕ) where
+module _ (k : Task) (fs : List (T.Operand BlockReader)) (μ : List (List ℕ)) (t : List WriterRecord) (out w : List ℕ) where
   -- of more options than may be nothing goes out
   pub stream-past : optionLimit < k .n → record { written = 0; full = true; output = out; waits = w } ≡ streamBy k fs μ t out w
   stream-past h =

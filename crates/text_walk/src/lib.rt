@@ -24,7 +24,9 @@ use meeting::half_of;
 use meeting::progress_after;
 use meeting::progress_of;
 use meeting::second;
+use node_records::NodeRecord;
 use node_records::OPTION_LIMIT;
+use node_records::WriterRecord;
 use node_records::differs;
 use operands::Begun;
 use operands::Operand;
@@ -117,7 +119,7 @@ fn first_on(
     n: u32,
     i: u32,
     s: &[u8],
-    t: &mut [[u32; 6]],
+    t: &mut [NodeRecord],
     o: &mut [[u32; 4]; OPEN_LIMIT],
     f: Operand,
     a: Applied,
@@ -133,7 +135,7 @@ fn second_on(
     n: u32,
     i: u32,
     s: &[u8],
-    t: &mut [[u32; 6]],
+    t: &mut [NodeRecord],
     o: &mut [[u32; 4]; OPEN_LIMIT],
     f: Operand,
     a: Applied,
@@ -212,9 +214,9 @@ fn texts(
     b2: Block,
     o1: &mut [[u32; 4]; OPEN_LIMIT],
     o2: &mut [[u32; 4]; OPEN_LIMIT],
-    t1: &mut [[u32; 6]],
-    t2: &mut [[u32; 6]],
-    t: &mut [[u32; 12]],
+    t1: &mut [NodeRecord],
+    t2: &mut [NodeRecord],
+    t: &mut [WriterRecord],
     out: &mut [u8],
     w: &mut [u8],
     c: &mut [[u32; 9]],
@@ -328,9 +330,9 @@ fn nodes(
     g: Begun,
     o1: &mut [[u32; 4]; OPEN_LIMIT],
     o2: &mut [[u32; 4]; OPEN_LIMIT],
-    t1: &mut [[u32; 6]],
-    t2: &mut [[u32; 6]],
-    t: &mut [[u32; 12]],
+    t1: &mut [NodeRecord],
+    t2: &mut [NodeRecord],
+    t: &mut [WriterRecord],
     out: &mut [u8],
     w: &mut [u8],
     c: &mut [[u32; 9]],
@@ -396,9 +398,9 @@ pub fn stream(
     g: Begun,
     o1: &mut [[u32; 4]; OPEN_LIMIT],
     o2: &mut [[u32; 4]; OPEN_LIMIT],
-    t1: &mut [[u32; 6]],
-    t2: &mut [[u32; 6]],
-    t: &mut [[u32; 12]],
+    t1: &mut [NodeRecord],
+    t2: &mut [NodeRecord],
+    t: &mut [WriterRecord],
     out: &mut [u8],
     w: &mut [u8],
     c: &mut [[u32; 9]],

@@ -24,13 +24,14 @@ use Rattle.blocks.specs.BlockLaws.{block-from, block-covers, block-deep, block-
 use Rattle.blocks.specs.BlockLaws.{block-decides, block-last}
 use Rattle.reader.specs.OpenCells.{ReadCursor}
 use Rattle.theory_combining.specs.BlockReaders.{BlockReader, readerAt, deepOf, sourceOf, nextReader, firstReader}
+use Rattle.node_records.specs.declared.NodeRecord.{NodeRecord}
 
 -- ---- Where a block reader stands ---------------------------------------------------------------------
 
 -- τ has the stream `bytes`, and stands at a block of it that begins with word `at`
 pub record ReadsOf (n : ℕ) (bytes : List ℕ) (τ : BlockReader) (at : ℕ) : Type 0 where
   pub cursor : ReadCursor
-  pub lent : List (List ℕ)
+  pub lent : List NodeRecord
   pub stands : StandsAt n bytes cursor lent
   pub called : record { block = τ .block; table = τ .table } ≡ nextBlock n bytes cursor lent
   pub goes-on : τ .block .halted ≡ false
@@ -120,7 +121,7 @@ of-lasts n few bytes τ at h e =
     (of-later n few bytes τ at h)
 
 -- Where more words are covered than a cursor has passed, there is a next block.
-more-blocks : (n : ℕ) → n ≤ optionLimit → (bytes : List ℕ) → reading n bytes .fault ≡ none → (c : ReadCursor) (t : List (List ℕ))
+more-blocks : (n : ℕ) → n ≤ optionLimit → (bytes : List ℕ) → reading n bytes .fault ≡ none → (c : ReadCursor) (t : List NodeRecord)
     → StandsAt n bytes c t → c .run .covered < reading n bytes .state .covered → nextBlock n bytes c t .block .halted ≡ false
 more-blocks n few bytes clean c t h l = go (y .block .halted) refl
   where
@@ -133,7 +134,7 @@ more-blocks n few bytes clean c t h l = go (y .block .halted) refl
 
 -- the block reader at it
 reader-reads : (n c : ℕ) → n ≤ optionLimit → (bytes : List ℕ) → reading n bytes .fault ≡ none → (x : Input) → x ≡ inputOf n bytes
-    → c ≤ x .covered → (y : ReadCursor) (t : List (List ℕ)) → StandsAt n bytes y t → (at : ℕ) → y .run .covered ≡ at → at < c
+    → c ≤ x .covered → (y : ReadCursor) (t : List NodeRecord) → StandsAt n bytes y t → (at : ℕ) → y .run .covered ≡ at → at < c
     → Reads n c (readerAt bytes (nextBlock n bytes y t)) at x
 reader-reads n c few bytes clean x e k y t h at i l = record {
   bytes = bytes;
@@ -206,7 +207,7 @@ module _ (n : ℕ) (few : n ≤ optionLimit) (c : ℕ) where
       (omega (arith, of-covers n few s τ at (h .here), l, h .enough, ap (λ (y : Input). y .covered) (h .input), input-covered n s))))
 
   -- So the first block of a stream without a fault.
-  pub reads-first : (bytes : List ℕ) (t : List (List ℕ)) → reading n bytes .fault ≡ none → c ≤ inputOf n bytes .covered → 0 < c
+  pub reads-first : (bytes : List ℕ) (t : List NodeRecord) → reading n bytes .fault ≡ none → c ≤ inputOf n bytes .covered → 0 < c
       → tableLimit ≤ length t → Reads n c (firstReader n bytes t) 0 (inputOf n bytes)
   reads-first bytes t clean k l room =
       reader-reads n c few bytes clean (inputOf n bytes) refl k firstCursor t (first-stands n bytes t room) 0 refl l

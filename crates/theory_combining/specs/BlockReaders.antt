@@ -8,12 +8,13 @@ use Rattle.theory_engine.specs.Operands.{Operand, settle}
 use Rattle.work_table.specs.TableLaws.{tableOf}
 use Rattle.reader.specs.ReadOn.{firstCursor}
 use Rattle.blocks.specs.Blocks.{Next, nextBlock, ReadBlock}
+use Rattle.node_records.specs.declared.NodeRecord.{NodeRecord}
 
 -- a stream, the block that was read last, and the lent table after it
 pub record BlockReader : Type 0 where
   pub stream : List ℕ
   pub block : ReadBlock
-  pub table : List (List ℕ)
+  pub table : List NodeRecord
 
 -- the block reader at the block of a call
 abbrev pub readerAt : List ℕ → Next → BlockReader
@@ -37,10 +38,10 @@ abbrev pub nextReader : ℕ → BlockReader → BlockReader
 nextReader n τ = readerAt (τ .stream) (nextBlock n (τ .stream) (τ .block .cursor) (τ .table))
 
 -- at the first block of a stream, with the table lent
-abbrev pub firstReader : ℕ → List ℕ → List (List ℕ) → BlockReader
+abbrev pub firstReader : ℕ → List ℕ → List NodeRecord → BlockReader
 firstReader n s t = readerAt s (nextBlock n s firstCursor t)
 
 -- an input at the outermost node, in its text unless its first block is all of it
-abbrev pub begunOperand : ℕ → List ℕ → List (List ℕ) → Operand BlockReader
+abbrev pub begunOperand : ℕ → List ℕ → List NodeRecord → Operand BlockReader
 begunOperand n s t =
     settle deepOf sourceOf (nextReader n) 1 (record { reader = firstReader n s t; inText = true; number = 0; complement = false })

@@ -23,6 +23,9 @@ use Rattle.theory_writing.specs.Calls.{inputOf, unlessFaults, combineText, comb
 use Rattle.theory_engine.specs.Engine.{Sent}
 use Rattle.theory_engine.specs.Streaming.{Wrote}
 use Rattle.theory_engine.specs.WriteCorrect.{cleared-replicate}
+use Rattle.node_records.specs.declared.NodeRecord.{NodeRecord}
+use Rattle.node_records.specs.declared.WriterRecord.{WriterRecord}
+use Rattle.node_records.specs.Records.{noRecord, noWriterRecord}
 
 -- ---- The two streams checked -----------------------------------------------------------------
 
@@ -78,7 +81,7 @@ Late (refused f) = causeRow (f .cause) .leaves ≡ keepsOutput
 Late (done x) = Unit {0}
 
 -- then all records are zero
-late-zero : {A : Type 0} (z : List ℕ) (a : Result A) → Late a → (t : List (List ℕ)) → replicate (length t) z ≡ tableAfter z a t
+late-zero : {A B : Type 0} (z : B) (a : Result A) → Late a → (t : List B) → replicate (length t) z ≡ tableAfter z a t
 late-zero z (refused f) h t = cleared-replicate z t ∙ sym (zeroes-table (refused f) z t f refl h)
 late-zero z (done x) h t = cleared-replicate z t ∙ sym (zeroes-done (done x) z t x refl)
 
@@ -91,8 +94,8 @@ fault-late n k x a h = go (reading n x .fault) refl
     go (some f) e = fault-leaves n x f e
 
 -- the check of a stream, past its tests
-module _ (n : ℕ) (x : List ℕ) (t u : List (List ℕ)) (A : Result Checked) (few : n ≤ optionLimit) (room : tableLimit ≤ length t)
-    (h : record { answer = A; table = u } ≡ check (replicate 6 0) n x t) where
+module _ (n : ℕ) (x : List ℕ) (t u : List NodeRecord) (A : Result Checked) (few : n ≤ optionLimit) (room : tableLimit ≤ length t)
+    (h : record { answer = A; table = u } ≡ check noRecord n x t) where
   -- its fault, else what was read
   check-past : checkAnswer n x (length t) ≡ unlessFault 1 (reading n x .fault) (done (checkedOf (reading n x .state)))
   unfolding checkAnswer gate
@@ -101,15 +104,15 @@ module _ (n : ℕ) (x : List ℕ) (t u : List (List ℕ)) (A : Result Checked) (
   -- so it was answered
   check-is : A ≡ unlessFault 1 (reading n x .fault) (done (checkedOf (reading n x .state)))
   unfolding check
-  check-is = ap (λ (r : Read Checked (List ℕ)). r .answer) h ∙ check-past
+  check-is = ap (λ (r : Read Checked NodeRecord). r .answer) h ∙ check-past
 
   -- all records are zero after it
-  check-zero : u ≡ replicate (length t) (replicate 6 0)
+  check-zero : u ≡ replicate (length t) noRecord
   unfolding check
   check-zero =
-      ap (λ (r : Read Checked (List ℕ)). r .table) h
-      ∙ ap (λ (a : Result Checked). tableAfter (replicate 6 0) a t) check-past
-      ∙ sym (late-zero (replicate 6 0) (unlessFault 1 (reading n x .fault) (done (checkedOf (reading n x .state))))
+      ap (λ (r : Read Checked NodeRecord). r .table) h
+      ∙ ap (λ (a : Result Checked). tableAfter noRecord a t) check-past
+      ∙ sym (late-zero noRecord (unlessFault 1 (reading n x .fault) (done (checkedOf (reading n x .state))))
       (fault-late n 1 x (done (checkedOf (reading n x .state))) tt) t)
 
 -- ---- The answer ------------------------------------------------------------------------------
@@ -128,32 +131,32 @@ sent-answer n c y out s w =
 
 -- ---- The tests -------------------------------------------------------------------------------
 
-module _ (n op size : ℕ) (x y out : List ℕ) (t₁ t₂ t : List (List ℕ)) where
+module _ (n op size : ℕ) (x y out : List ℕ) (t₁ t₂ : List NodeRecord) (t : List WriterRecord) where
   -- too many options
   pub combine-options : optionLimit < n
       → record { answer = refused (refusal optionCount 0 0); first = t₁; second = t₂; third = t; output = out }
-      ≡ combine (replicate 6 0) (replicate 12 0) n op size x y out t₁ t₂ t
+      ≡ combine noRecord noWriterRecord n op size x y out t₁ t₂ t
   unfolding combine combineAnswer gate tableAfter unlessRefused
   combine-options h = rw (lt-ltb optionLimit n h) refl
 
   -- no such operator
   pub combine-operator : n ≤ optionLimit → 15 < op
       → record { answer = refused (refusal operatorCode 0 0); first = t₁; second = t₂; third = t; output = out }
-      ≡ combine (replicate 6 0) (replicate 12 0) n op size x y out t₁ t₂ t
+      ≡ combine noRecord noWriterRecord n op size x y out t₁ t₂ t
   unfolding combine combineAnswer gate tableAfter unlessRefused
   combine-operator few h = rw (le-ltb optionLimit n few, le-leb 16 op h) refl
 
   -- the size is too large
   pub combine-size : n ≤ optionLimit → op ≤ 15 → tableLimit < size
       → record { answer = refused (refusal sizeToWrite 0 0); first = t₁; second = t₂; third = t; output = out }
-      ≡ combine (replicate 6 0) (replicate 12 0) n op size x y out t₁ t₂ t
+      ≡ combine noRecord noWriterRecord n op size x y out t₁ t₂ t
   unfolding combine combineAnswer gate tableAfter unlessRefused
   combine-size few code h = rw (le-ltb optionLimit n few, lt-leb 16 op (omega (arith, code)), lt-ltb tableLimit size h) refl
 
   -- the first work table is too short
   pub combine-first : n ≤ optionLimit → op ≤ 15 → size ≤ tableLimit → length t₁ < tableLimit
       → record { answer = refused (refusal workTable 0 0); first = t₁; second = t₂; third = t; output = out }
-      ≡ combine (replicate 6 0) (replicate 12 0) n op size x y out t₁ t₂ t
+      ≡ combine noRecord noWriterRecord n op size x y out t₁ t₂ t
   unfolding combine combineAnswer gate tableAfter unlessRefused
   combine-first few code fits h =
       rw (le-ltb optionLimit n few, lt-leb 16 op (omega (arith, code)), le-ltb tableLimit size fits, lt-ltb (length t₁) tableLimit h) refl
@@ -161,7 +164,7 @@ module _ (n op size : ℕ) (x y out : List ℕ) (t₁ t₂ t : List (List ℕ)) 
   -- the second
   pub combine-second : n ≤ optionLimit → op ≤ 15 → size ≤ tableLimit → tableLimit ≤ length t₁ → length t₂ < tableLimit
       → record { answer = refused (refusal workTable 0 0); first = t₁; second = t₂; third = t; output = out }
-      ≡ combine (replicate 6 0) (replicate 12 0) n op size x y out t₁ t₂ t
+      ≡ combine noRecord noWriterRecord n op size x y out t₁ t₂ t
   unfolding combine combineAnswer gate tableAfter unlessRefused
   combine-second few code fits room₁ h =
       rw (
@@ -175,7 +178,7 @@ module _ (n op size : ℕ) (x y out : List ℕ) (t₁ t₂ t : List (List ℕ)) 
   -- the third
   pub combine-third : n ≤ optionLimit → op ≤ 15 → size ≤ tableLimit → tableLimit ≤ length t₁ → tableLimit ≤ length t₂ → length t < tableLimit
       → record { answer = refused (refusal workTable 0 0); first = t₁; second = t₂; third = t; output = out }
-      ≡ combine (replicate 6 0) (replicate 12 0) n op size x y out t₁ t₂ t
+      ≡ combine noRecord noWriterRecord n op size x y out t₁ t₂ t
   unfolding combine combineAnswer gate tableAfter unlessRefused
   combine-third few code fits room₁ room₂ h =
       rw (
@@ -209,9 +212,9 @@ module _ (n op size : ℕ) (x y out : List ℕ) (t₁ t₂ t : List (List ℕ)) 
           le-ltb (length t) tableLimit room,
         ) refl
 
-    module _ (A B : Result Checked) (u₁ u₂ : List (List ℕ))
-        (h₁ : record { answer = A; table = u₁ } ≡ check (replicate 6 0) n x t₁)
-        (h₂ : record { answer = B; table = u₂ } ≡ check (replicate 6 0) n y t₂) where
+    module _ (A B : Result Checked) (u₁ u₂ : List NodeRecord)
+        (h₁ : record { answer = A; table = u₁ } ≡ check noRecord n x t₁)
+        (h₂ : record { answer = B; table = u₂ } ≡ check noRecord n y t₂) where
       -- the two checks together
       both-is : bothIn A B
           ≡ unlessFault 1 (reading n x .fault) (unlessFault 2 (reading n y .fault) (done (min (covered n x) (covered n y))))
@@ -233,45 +236,45 @@ module _ (n op size : ℕ) (x y out : List ℕ) (t₁ t₂ t : List (List ℕ)) 
           ∙ sym combine-past
 
       -- with tables of zeros
-      combine-correct : (a : Result Answer) → Late a → a ≡ answered answer (bothIn A B) → (v₁ v₂ v : List (List ℕ))
-          → v₁ ≡ replicate (length t₁) (replicate 6 0) → v₂ ≡ replicate (length t₂) (replicate 6 0)
-          → v ≡ replicate (length t) (replicate 12 0) → record {
+      combine-correct : (a : Result Answer) → Late a → a ≡ answered answer (bothIn A B) → (v₁ v₂ : List NodeRecord) (v : List WriterRecord)
+          → v₁ ≡ replicate (length t₁) noRecord → v₂ ≡ replicate (length t₂) noRecord
+          → v ≡ replicate (length t) noWriterRecord → record {
             answer = a;
             first = v₁;
             second = v₂;
             third = v;
             output = unlessRefused a out (λ (r : Answer). outputAfter (combineText n op size (x ∷ y ∷ [])) out);
-          } ≡ combine (replicate 6 0) (replicate 12 0) n op size x y out t₁ t₂ t
+          } ≡ combine noRecord noWriterRecord n op size x y out t₁ t₂ t
       unfolding combine
       combine-correct a late e v₁ v₂ v e₁ e₂ e₃ =
-          ap₂ (λ (p q : List (List ℕ)). record { answer = a; first = p; second = q; third = v; output = put a })
-          (e₁ ∙ late-zero (replicate 6 0) a late t₁) (e₂ ∙ late-zero (replicate 6 0) a late t₂)
-          ∙ ap (λ (q : List (List ℕ)). record {
+          ap₂ (λ (p q : List NodeRecord). record { answer = a; first = p; second = q; third = v; output = put a })
+          (e₁ ∙ late-zero noRecord a late t₁) (e₂ ∙ late-zero noRecord a late t₂)
+          ∙ ap (λ (q : List WriterRecord). record {
             answer = a;
-            first = tableAfter (replicate 6 0) a t₁;
-            second = tableAfter (replicate 6 0) a t₂;
+            first = tableAfter noRecord a t₁;
+            second = tableAfter noRecord a t₂;
             third = q;
             output = put a;
-          }) (e₃ ∙ late-zero (replicate 12 0) a late t)
+          }) (e₃ ∙ late-zero noWriterRecord a late t)
           ∙ ap made (e ∙ combine-is)
         where
           put : Result Answer → List ℕ
           put b = unlessRefused b out (λ (r : Answer). outputAfter (combineText n op size (x ∷ y ∷ [])) out)
 
-          made : Result Answer → Combine (List ℕ) (List ℕ)
+          made : Result Answer → Combine NodeRecord WriterRecord
           made b = record {
             answer = b;
-            first = tableAfter (replicate 6 0) b t₁;
-            second = tableAfter (replicate 6 0) b t₂;
-            third = tableAfter (replicate 12 0) b t;
+            first = tableAfter noRecord b t₁;
+            second = tableAfter noRecord b t₂;
+            third = tableAfter noWriterRecord b t;
             output = put b;
           }
 
       -- a stream has a fault
-      pub combine-faulty : (f : Refusal) → refused f ≡ bothIn A B → (v₁ v₂ v : List (List ℕ)) → v₁ ≡ u₁ → v₂ ≡ u₂
-          → v ≡ replicate (length t) (replicate 12 0)
+      pub combine-faulty : (f : Refusal) → refused f ≡ bothIn A B → (v₁ v₂ : List NodeRecord) (v : List WriterRecord) → v₁ ≡ u₁ → v₂ ≡ u₂
+          → v ≡ replicate (length t) noWriterRecord
           → record { answer = refused f; first = v₁; second = v₂; third = v; output = out }
-          ≡ combine (replicate 6 0) (replicate 12 0) n op size x y out t₁ t₂ t
+          ≡ combine noRecord noWriterRecord n op size x y out t₁ t₂ t
       unfolding unlessRefused
       combine-faulty f e v₁ v₂ v e₁ e₂ e₃ =
           combine-correct (refused f) (subst Late (sym e) both-late) (ap (answered answer) e) v₁ v₂ v
@@ -286,7 +289,7 @@ module _ (n op size : ℕ) (x y out : List ℕ) (t₁ t₂ t : List (List ℕ)) 
           (k .0, k .1, k .2 ∙ sym (runCovered-two n (inputOf n x) (inputOf n y) (covered-most n y)))
 
       -- the tables after the two checks
-      pub combine-tables : (u₁ ≡ replicate (length t₁) (replicate 6 0)) × (u₂ ≡ replicate (length t₂) (replicate 6 0))
+      pub combine-tables : (u₁ ≡ replicate (length t₁) noRecord) × (u₂ ≡ replicate (length t₂) noRecord)
       combine-tables = (check-zero n x t₁ u₁ A few room₁ h₁, check-zero n y t₂ u₂ B few room₂ h₂)
 
       -- without a fault the answer is of what was sent
@@ -306,10 +309,10 @@ module _ (n op size : ℕ) (x y out : List ℕ) (t₁ t₂ t : List (List ℕ)) 
             written = s .written;
             covered = c;
             ending = cond (s .full) outputFull (cond (eqb c (2 ^ n)) whole inputEnded);
-          } → (v₁ v₂ v : List (List ℕ)) → v₁ ≡ replicate (length t₁) (replicate 6 0) → v₂ ≡ replicate (length t₂) (replicate 6 0)
-          → v ≡ replicate (length t) (replicate 12 0)
+          } → (v₁ v₂ : List NodeRecord) (v : List WriterRecord) → v₁ ≡ replicate (length t₁) noRecord → v₂ ≡ replicate (length t₂) noRecord
+          → v ≡ replicate (length t) noWriterRecord
           → record { answer = done r; first = v₁; second = v₂; third = v; output = s .output }
-          ≡ combine (replicate 6 0) (replicate 12 0) n op size x y out t₁ t₂ t
+          ≡ combine noRecord noWriterRecord n op size x y out t₁ t₂ t
       unfolding unlessRefused
       combine-finish c e s w r k v₁ v₂ v e₁ e₂ e₃ =
           ap (λ (o : List ℕ). record { answer = done r; first = v₁; second = v₂; third = v; output = o }) (w .output)

@@ -48,7 +48,7 @@ fixed-two op x y = refl
 -- ---- An edge at the halves of a part ---------------------------------------------------------
 
 -- x: the edge in a table of z numbers; r: the record that code read
-module _ (t : List (List ℕ)) (z i : ℕ) (x : Edge) (r : NodeRecord) (read : r ≡ getIn t z (x .number)) where
+module _ (t : List NodeRecord) (z i : ℕ) (x : Edge) (r : NodeRecord) (read : r ≡ getIn t z (x .number)) where
   abbrev source : Edge → Source
   source e = record { table = tableOf t z; number = e .number; complement = e .complement }
 
@@ -70,7 +70,7 @@ module _ (t : List (List ℕ)) (z i : ℕ) (x : Edge) (r : NodeRecord) (read : r
   pub second-child : (y e : Edge) → y ≡ x → e ≡ secondEdge r i y → source e ≡ secondSource i (source x)
   second-child y e g h =
       ap source (h ∙ ap (secondEdge r i) g)
-      ∙ by-test (eqb (x .number) 0 || ltb i (r .level)) x (record { number = r .second; complement = differ (r .complement) (x .complement) })
+      ∙ by-test (eqb (x .number) 0 || ltb i (r .level)) x (record { number = r .second; complement = differ (not (eqb (r .complement) 0)) (x .complement) })
       ∙ ap (λ (n : Node). cond (eqb (x .number) 0 || ltb i (n .level)) (source x)
       (source (record { number = n .second; complement = differ (n .complement) (x .complement) }))) same
 

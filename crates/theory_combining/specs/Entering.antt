@@ -20,7 +20,7 @@ use Rattle.theory_writing.specs.Run.{Input, runCovered, operate, joint, runText
 use Rattle.theory_writing.specs.Grows.{run-stable}
 use Rattle.theory_writing.specs.Calls.{inputOf, combineText, combine}
 use Rattle.theory_engine.specs.Pending.{waitingLimit}
-use Rattle.theory_engine.specs.Cells.{zero-wide, zero-cell}
+use Rattle.theory_engine.specs.Cells.{zero-cell}
 use Rattle.theory_engine.specs.Engine.{Sent}
 use Rattle.theory_engine.specs.Operands.{Operand}
 use Rattle.theory_engine.specs.OperandLaws.{Fed}
@@ -38,6 +38,9 @@ use Rattle.theory_combining.specs.BlockReaderLaws.{reads-sits, reads-las
 use Rattle.theory_combining.specs.RootOperand.{rootOperand, root-fed, root-seated}
 use Rattle.theory_combining.specs.CombineCorrect.{bothIn, combine-faulty, combine-clean, combine-tables, combine-finish}
 use Rattle.theory_combining.specs.Merged.{covered-both, begun-fed, emptyRecords, zero-record, begun-seated}
+use Rattle.node_records.specs.declared.NodeRecord.{NodeRecord}
+use Rattle.node_records.specs.declared.WriterRecord.{WriterRecord}
+use Rattle.node_records.specs.Records.{noRecord, noWriterRecord}
 
 -- ---- What the operator does not ask ----------------------------------------------------------
 
@@ -92,7 +95,7 @@ enters-covered true false x = refl
 enters-covered false v x = refl
 
 -- b: a block whose run has the size that was read; c: how many words are asked for
-module _ (n : ℕ) (few : n ≤ optionLimit) (c : ℕ) (some : 0 < c) (s : List ℕ) (t : List (List ℕ)) (room : tableLimit ≤ length t) (x : LoadTo)
+module _ (n : ℕ) (few : n ≤ optionLimit) (c : ℕ) (some : 0 < c) (s : List ℕ) (t : List NodeRecord) (room : tableLimit ≤ length t) (x : LoadTo)
     (called : x ≡ load n s t) (clean : reading n s .fault ≡ none) (enough : c ≤ inputOf n s .covered) (b : ReadBlock)
     (size : b .cursor .run .size ≡ x .size) (v : Bool) where
   long : tableLimit ≤ length (x .table)
@@ -169,27 +172,27 @@ module _ (op : ℕ) (u₁ u₂ : Bool) (x y : Input) where
 -- ---- The call --------------------------------------------------------------------------------
 
 -- past the tests and the reading of both streams; X and Y: what loading them came to
-module _ (n op size : ℕ) (x y out : List ℕ) (t₁ t₂ t : List (List ℕ)) (few : n ≤ optionLimit) (code : op ≤ 15) (fits : size ≤ tableLimit)
+module _ (n op size : ℕ) (x y out : List ℕ) (t₁ t₂ : List NodeRecord) (t : List WriterRecord) (few : n ≤ optionLimit) (code : op ≤ 15) (fits : size ≤ tableLimit)
     (room₁ : tableLimit ≤ length t₁) (room₂ : tableLimit ≤ length t₂) (room : tableLimit ≤ length t) (X Y : LoadTo) (loaded₁ : X ≡ load n x t₁)
     (loaded₂ : Y ≡ load n y t₂) where
   -- as checking them has it
-  checked : (s : List ℕ) (t : List (List ℕ)) (Z : LoadTo) → Z ≡ load n s t
-      → record { answer = Z .answer; table = check (replicate 6 0) n s t .table } ≡ check (replicate 6 0) n s t
+  checked : (s : List ℕ) (t : List NodeRecord) (Z : LoadTo) → Z ≡ load n s t
+      → record { answer = Z .answer; table = check noRecord n s t .table } ≡ check noRecord n s t
   checked s t Z e =
-      ap (λ (a : Result Checked). record { answer = a; table = check (replicate 6 0) n s t .table })
+      ap (λ (a : Result Checked). record { answer = a; table = check noRecord n s t .table })
       (ap (λ (z : LoadTo). z .answer) e ∙ load-answer n s t)
 
-  abbrev u₁ : List (List ℕ)
-  u₁ = check (replicate 6 0) n x t₁ .table
+  abbrev u₁ : List NodeRecord
+  u₁ = check noRecord n x t₁ .table
 
-  abbrev u₂ : List (List ℕ)
-  u₂ = check (replicate 6 0) n y t₂ .table
+  abbrev u₂ : List NodeRecord
+  u₂ = check noRecord n y t₂ .table
 
   -- a stream has a fault, and all tables are cleared
-  pub entered-faulty : (f : Refusal) → refused f ≡ bothIn (X .answer) (Y .answer) → (v₁ v₂ v : List (List ℕ))
-      → v₁ ≡ replicate (length t₁) (replicate 6 0) → v₂ ≡ replicate (length t₂) (replicate 6 0) → v ≡ replicate (length t) (replicate 12 0)
+  pub entered-faulty : (f : Refusal) → refused f ≡ bothIn (X .answer) (Y .answer) → (v₁ v₂ : List NodeRecord) (v : List WriterRecord)
+      → v₁ ≡ replicate (length t₁) noRecord → v₂ ≡ replicate (length t₂) noRecord → v ≡ replicate (length t) noWriterRecord
       → record { answer = refused f; first = v₁; second = v₂; third = v; output = out }
-      ≡ combine (replicate 6 0) (replicate 12 0) n op size x y out t₁ t₂ t
+      ≡ combine noRecord noWriterRecord n op size x y out t₁ t₂ t
   entered-faulty f e v₁ v₂ v e₁ e₂ e₃ =
       let a = combine-tables n op size x y out t₁ t₂ t few code fits room₁ room₂ room (X .answer) (Y .answer) u₁ u₂
       (checked x t₁ X loaded₁) (checked y t₂ Y loaded₂) in
@@ -202,23 +205,23 @@ module _ (n op size : ℕ) (x y out : List ℕ) (t₁ t₂ t : List (List ℕ)) 
       → (b₁ b₂ : ReadBlock) → b₁ .cursor .run .size ≡ X .size → b₂ .cursor .run .size ≡ Y .size
       → Wrote out (combineText n op size (x ∷ y ∷ [])) (mergeIn deepOf sourceOf (nextReader n) hash (operate op) n c size
       (entered (ignoresFirst op) x b₁ X (begunOperand n x (X .table)) ∷ entered (ignoresSecond op) y b₂ Y (begunOperand n y (Y .table)) ∷ [])
-      (emptyRecords g j) (replicate k (replicate 12 0)) out w)
+      (emptyRecords g j) (replicate k noWriterRecord) out w)
   unfolding combineText
   entered-wrote hash k g j c w enough waits clean b₁ b₂ size₁ size₂ =
       let a = combine-clean n op size x y out t₁ t₂ t few code fits room₁ room₂ room (X .answer) (Y .answer) u₁ u₂
       (checked x t₁ X loaded₁) (checked y t₂ Y loaded₂) c clean in
-      let z : List ℕ = replicate 12 0 in
+      let z : WriterRecord = noWriterRecord in
       let ξ = enters (X .whole) (ignoresFirst op) (inputOf n x) in
       let η = enters (Y .whole) (ignoresSecond op) (inputOf n y) in
       let b = covered-both n c (inputOf n x) (inputOf n y) (a .2) in
       subst (λ (text : List ℕ). Wrote out text (mergeIn deepOf sourceOf (nextReader n) hash (operate op) n c size
       (entered (ignoresFirst op) x b₁ X (begunOperand n x (X .table)) ∷ entered (ignoresSecond op) y b₂ Y (begunOperand n y (Y .table)) ∷ [])
-      (emptyRecords g j) (replicate k (replicate 12 0)) out w))
+      (emptyRecords g j) (replicate k noWriterRecord) out w))
       (run-same op (X .whole) (Y .whole) (inputOf n x) (inputOf n y) n size)
       (merge-wrote deepOf sourceOf (nextReader n) n c (Reads n c) (reads-deep n few c) (reads-aligned n few c) (reads-shows n few c)
       (reads-within n few c) (reads-next n few c) (reads-sits n few c) (reads-lasts n few c) hash (operate op) size
       (entered (ignoresFirst op) x b₁ X (begunOperand n x (X .table)) ∷ entered (ignoresSecond op) y b₂ Y (begunOperand n y (Y .table)) ∷ [])
-      (ξ ∷ η ∷ []) (emptyRecords g j) (replicate k z) out w few fits (zero-wide k) (omega (arith, enough, length-replicate k z)) (zero-cell k)
+      (ξ ∷ η ∷ []) (emptyRecords g j) (replicate k z) out w few fits (omega (arith, enough, length-replicate k z)) (zero-cell k)
       waits (a .2 ∙ sym (covers-same op (X .whole) (Y .whole) (inputOf n x) (inputOf n y) n)) (zero-record g j)
       (λ some. (
         (
@@ -235,19 +238,19 @@ module _ (n op size : ℕ) (x y out : List ℕ) (t₁ t₂ t : List (List ℕ)) 
   pub entered-correct : (hash : List ℕ → ℕ) (g j c : ℕ) → done c ≡ bothIn (X .answer) (Y .answer) → (w : List ℕ) → length w ≡ waitingLimit
       → (b₁ b₂ : ReadBlock) → b₁ .cursor .run .size ≡ X .size → b₂ .cursor .run .size ≡ Y .size → (φ ψ : Operand BlockReader)
       → φ ≡ entered (ignoresFirst op) x b₁ X (begunOperand n x (X .table)) → ψ ≡ entered (ignoresSecond op) y b₂ Y (begunOperand n y (Y .table))
-      → (μ t₀ : List (List ℕ)) → μ ≡ emptyRecords g j → t₀ ≡ replicate (length t) (replicate 12 0) → (s : Sent)
+      → (μ : List (List ℕ)) (t₀ : List WriterRecord) → μ ≡ emptyRecords g j → t₀ ≡ replicate (length t) noWriterRecord → (s : Sent)
       → s ≡ mergeIn deepOf sourceOf (nextReader n) hash (operate op) n c size (φ ∷ ψ ∷ []) μ t₀ out w → (r : Answer)
       → r ≡ record { written = s .written; covered = c; ending = cond (s .full) outputFull (cond (eqb c (2 ^ n)) whole inputEnded) }
-      → (v₁ v₂ v : List (List ℕ)) → v₁ ≡ replicate (length t₁) (replicate 6 0) → v₂ ≡ replicate (length t₂) (replicate 6 0)
-      → v ≡ replicate (length t) (replicate 12 0)
+      → (v₁ v₂ : List NodeRecord) (v : List WriterRecord) → v₁ ≡ replicate (length t₁) noRecord → v₂ ≡ replicate (length t₂) noRecord
+      → v ≡ replicate (length t) noWriterRecord
       → record { answer = done r; first = v₁; second = v₂; third = v; output = s .output }
-      ≡ combine (replicate 6 0) (replicate 12 0) n op size x y out t₁ t₂ t
+      ≡ combine noRecord noWriterRecord n op size x y out t₁ t₂ t
   entered-correct hash g j c clean w waits b₁ b₂ size₁ size₂ φ ψ φe ψe μ t₀ empty zero s sent r re v₁ v₂ v e₁ e₂ e₃ =
       combine-finish n op size x y out t₁ t₂ t few code fits room₁ room₂ room (X .answer) (Y .answer) u₁ u₂ (checked x t₁ X loaded₁)
       (checked y t₂ Y loaded₂) c clean s
       (subst⁻¹ (Wrote out (combineText n op size (x ∷ y ∷ [])))
       (sent ∙ ap₂ (λ (φ ψ : Operand BlockReader). mergeIn deepOf sourceOf (nextReader n) hash (operate op) n c size (φ ∷ ψ ∷ []) μ t₀ out w) φe ψe
-      ∙ ap₂ (λ (μ t : List (List ℕ)). mergeIn deepOf sourceOf (nextReader n) hash (operate op) n c size
+      ∙ ap₂ (λ (μ : List (List ℕ)) (t : List WriterRecord). mergeIn deepOf sourceOf (nextReader n) hash (operate op) n c size
       (entered (ignoresFirst op) x b₁ X (begunOperand n x (X .table)) ∷ entered (ignoresSecond op) y b₂ Y (begunOperand n y (Y .table)) ∷ []) μ t out
       w)
       empty zero)

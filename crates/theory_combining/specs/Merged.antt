@@ -19,6 +19,7 @@ use Rattle.theory_engine.specs.Seating.{Seated, settle-seated}
 use Rattle.theory_combining.specs.BlockReaders.{deepOf, sourceOf, nextReader, firstReader, begunOperand}
 use Rattle.theory_combining.specs.BlockReaderLaws.{Reads, reads-deep, reads-aligned, reads-shows, reads-within, reads-next, reads-sits}
 use Rattle.theory_combining.specs.BlockReaderLaws.{reads-lasts, reads-first}
+use Rattle.node_records.specs.declared.NodeRecord.{NodeRecord}
 
 -- g rows of j zeros
 abbrev pub emptyRecords : ℕ → ℕ → List (List ℕ)
@@ -40,7 +41,7 @@ unfolding runCovered
 covered-both n c x y e = (omega (arith, e), omega (arith, e))
 
 -- an input that is read from its beginning is fed at the outermost node
-pub begun-fed : (n : ℕ) → n ≤ optionLimit → (c : ℕ) → 0 < c → (s : List ℕ) (t : List (List ℕ)) → reading n s .fault ≡ none
+pub begun-fed : (n : ℕ) → n ≤ optionLimit → (c : ℕ) → 0 < c → (s : List ℕ) (t : List NodeRecord) → reading n s .fault ≡ none
     → c ≤ inputOf n s .covered → tableLimit ≤ length t
     → Fed deepOf sourceOf (nextReader n) n (Reads n c) 1 n 0 (begunOperand n s t) (inputOf n s)
 begun-fed n few c some s t clean enough room =
@@ -50,7 +51,7 @@ begun-fed n few c some s t clean enough room =
     (reads-first n few c s t clean enough some room) (omega arith)
 
 -- an input that is read from its beginning sits at the outermost node, if it is at an edge
-pub begun-seated : (n : ℕ) → n ≤ optionLimit → (c : ℕ) → 0 < c → (s : List ℕ) (t : List (List ℕ)) → reading n s .fault ≡ none
+pub begun-seated : (n : ℕ) → n ≤ optionLimit → (c : ℕ) → 0 < c → (s : List ℕ) (t : List NodeRecord) → reading n s .fault ≡ none
     → c ≤ inputOf n s .covered → tableLimit ≤ length t → Seated deepOf sourceOf (nextReader n) 1 (begunOperand n s t)
 begun-seated n few c some s t clean enough room =
     let none : Source = record { table = []; number = 0; complement = false } in

@@ -19,6 +19,7 @@ use Rattle.blocks.specs.Load.{LoadTo, load}
 use Rattle.blocks.specs.LoadLaws.{load-decides, load-ordered, load-deep, load-covers}
 use Rattle.theory_combining.specs.BlockReaders.{BlockReader, deepOf, sourceOf, nextReader}
 use Rattle.theory_combining.specs.BlockReaderLaws.{Reads, input-covered, input-decides}
+use Rattle.node_records.specs.declared.NodeRecord.{NodeRecord}
 
 -- the edge of the outermost node
 abbrev pub rootSource : LoadTo → Source
@@ -35,7 +36,7 @@ rootOperand s b x = record {
 }
 
 -- x: what the call of loading came to, which is whole
-module _ (n : ℕ) (s : List ℕ) (t : List (List ℕ)) (x : LoadTo) (called : x ≡ load n s t) (whole : x .whole ≡ true) where
+module _ (n : ℕ) (s : List ℕ) (t : List NodeRecord) (x : LoadTo) (called : x ≡ load n s t) (whole : x .whole ≡ true) where
   -- THE EDGE SHOWS what the stream decides,
   pub root-shows : Shows (rootSource x) n 1 (inputOf n s .decides)
   root-shows w l =

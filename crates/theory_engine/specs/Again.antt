@@ -22,11 +22,12 @@ use Rattle.theory_writing.specs.Flow.{plain-flow, plain-wraps}
 use Rattle.theory_writing.specs.Online.{Went, online, went, online-went}
 use Rattle.theory_engine.specs.Engine.{Half, Progress, numberHalf, kept}
 use Rattle.theory_engine.specs.Leading.{skippedBy, Came, Stands, Leads}
+use Rattle.node_records.specs.declared.WriterRecord.{WriterRecord}
 
 -- ---- A number again --------------------------------------------------------------------------
 
 -- a part that sends nothing, writes no node out and leaves the state as it was
-pub still-leads : (n size i m : ℕ) (o T p w : List ℕ) (t : List (List ℕ)) (out : List ℕ) (progress : Progress) (s : State) (h : Half)
+pub still-leads : (n size i m : ℕ) (o T p w : List ℕ) (t : List WriterRecord) (out : List ℕ) (progress : Progress) (s : State) (h : Half)
     (r : Ref) (c : Bool) →
     let x : Went = record { ref = r; complement = c; wrote = false; state = s; sent = [] } in
     Stands n size o T t out progress s → take m w ≡ p → Came i h x → Leads n size i m o T p w (kept h t out w progress) x
@@ -73,7 +74,7 @@ again-came s i (suc k) c r =
     }
 
 -- a part of level i, d options left, that a number of the table stands for
-pub number-leads : (n size d i at m : ℕ) (o T p w : List ℕ) (f : ℕ → Bool) (t : List (List ℕ)) (out : List ℕ) (progress : Progress)
+pub number-leads : (n size d i at m : ℕ) (o T p w : List ℕ) (f : ℕ → Bool) (t : List WriterRecord) (out : List ℕ) (progress : Progress)
     (s : State) (k : ℕ) (c : Bool) → 0 < i → i + d ≡ suc n → Stands n size o T t out progress s → take m w ≡ p → 0 < k
     → Is (s .table) f d i k c at
     → Leads n size i m o T p w
@@ -135,7 +136,7 @@ differ-back false true = refl
 differ-back false false = refl
 
 -- The first half, of level i, came to a number (h); the second begins at word `mid` and repeats it. q: m bytes of w, which wait then
-pub repeat-leads : (n size d i at mid m : ℕ) (o T p q w : List ℕ) (f : ℕ → Bool) (t : List (List ℕ)) (out : List ℕ) (progress : Progress)
+pub repeat-leads : (n size d i at mid m : ℕ) (o T p q w : List ℕ) (f : ℕ → Bool) (t : List WriterRecord) (out : List ℕ) (progress : Progress)
     (s : State) (h : Half) → Sound s → Normal n s → 0 < i → i + d ≡ suc n →
     let x = online size d i at p f s in
     Came i h x → h .number ≢ 0 → ((j : ℕ) → j < 2 ^ d → f (mid + j) ≡ differ (differ (x .complement) (f mid)) (f (at + j)))

@@ -20,10 +20,12 @@ use Rattle.theory_engine.specs.Finishing.{finishIn}
 use Rattle.theory_engine.specs.Recalling.{recallIn}
 use Rattle.theory_engine.specs.Carrying.{Carried, carried, recalledOn, carryIn}
 use Rattle.theory_engine.specs.Merging.{mergeNodesIn, mergeIn}
+use Rattle.node_records.specs.declared.WriterRecord.{WriterRecord}
 
 -- two halves of one part, d + 1 options
 module _ {BlockReader : Type 0} (deepOf : BlockReader → ℕ) (sourceOf : BlockReader → Source) (next : BlockReader → BlockReader) (hash : List ℕ → ℕ)
-    (op : List Bool → Bool) (c size d i at m : ℕ) (fs : List (Operand BlockReader)) (μ t : List (List ℕ)) (out w : List ℕ) (progress : Progress) where
+    (op : List Bool → Bool) (c size d i at m : ℕ) (fs : List (Operand BlockReader)) (μ : List (List ℕ)) (t : List WriterRecord)
+    (out w : List ℕ) (progress : Progress) where
   -- the part, of e options
   abbrev whole : ℕ → Carried BlockReader
   whole e = carryIn deepOf sourceOf next hash op c size e i at m fs μ t out w progress
@@ -145,7 +147,8 @@ module _ {BlockReader : Type 0} (deepOf : BlockReader → ℕ) (sourceOf : Block
 
 -- no option is left, or no input is in its text
 module _ {BlockReader : Type 0} (deepOf : BlockReader → ℕ) (sourceOf : BlockReader → Source) (next : BlockReader → BlockReader) (hash : List ℕ → ℕ)
-    (op : List Bool → Bool) (c size i at m : ℕ) (fs : List (Operand BlockReader)) (μ t : List (List ℕ)) (out w : List ℕ) (progress : Progress) where
+    (op : List Bool → Bool) (c size i at m : ℕ) (fs : List (Operand BlockReader)) (μ : List (List ℕ)) (t : List WriterRecord)
+    (out w : List ℕ) (progress : Progress) where
   pub carry-edges : (d : ℕ) → (eqb d 0 || not (anyText fs)) ≡ true
       → recalledOn (recallIn hash op size d i m (edgesOf deepOf sourceOf next fs) μ t out w progress) (readersOf fs)
       ≡ carryIn deepOf sourceOf next hash op c size d i at m fs μ t out w progress
@@ -159,7 +162,7 @@ module _ {BlockReader : Type 0} (deepOf : BlockReader → ℕ) (sourceOf : Block
 -- ---- The whole run ---------------------------------------------------------------------------
 
 module _ {BlockReader : Type 0} (deepOf : BlockReader → ℕ) (sourceOf : BlockReader → Source) (next : BlockReader → BlockReader) (hash : List ℕ → ℕ)
-    (op : List Bool → Bool) (n c size : ℕ) (fs : List (Operand BlockReader)) (μ t : List (List ℕ)) where
+    (op : List Bool → Bool) (n c size : ℕ) (fs : List (Operand BlockReader)) (μ : List (List ℕ)) (t : List WriterRecord) where
   -- the leading `~` and the walk; v: what the first word comes to
   pub merge-correct : (x : Sent) (v : Bool) (m : Waiting) (y : Progress) (a : Carried BlockReader) → v ≡ op (firstValuesOf deepOf sourceOf next fs)
       → m ≡ pushAll (x .waits) 0 (tildeIf v) → y ≡ progressAfter x

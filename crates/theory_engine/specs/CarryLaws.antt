@@ -39,6 +39,7 @@ use Rattle.theory_engine.specs.RecallLaws.{recall-leads}
 use Rattle.theory_engine.specs.Carrying.{Carried, carried, recalledOn, carryIn}
 use Rattle.theory_engine.specs.Seating.{readerTables, tables-edges, readers-first, AllSeated, seated-sit, all-seated-first, all-seated-second}
 use Rattle.theory_engine.specs.Seating.{all-last-second, all-ordered}
+use Rattle.node_records.specs.declared.WriterRecord.{WriterRecord}
 
 -- ---- What a part leads to --------------------------------------------------------------------
 
@@ -72,7 +73,7 @@ module _ {BlockReader : Type 0} (deepOf : BlockReader → ℕ) (sourceOf : Block
   -- with d options left, the walk over the part of level i leads to what the walk of Online knows
   abbrev Wholes : (List ℕ → ℕ) → (List Bool → Bool) → ℕ → ℕ → ℕ → List ℕ → Type 0
   Wholes hash op size d i o =
-      (k at m : ℕ) (T p w : List ℕ) (fs : List (Operand BlockReader)) (xs : List Input) (f : ℕ → Bool) (μ : List (List ℕ)) (t : List (List ℕ))
+      (k at m : ℕ) (T p w : List ℕ) (fs : List (Operand BlockReader)) (xs : List Input) (f : ℕ → Bool) (μ : List (List ℕ)) (t : List WriterRecord)
       (out : List ℕ) (progress : Progress) (s : State) → at ≡ k * 2 ^ d → at + 2 ^ d ≤ c → Stands n size o T t out progress s → take m w ≡ p
       → m + levelRoom * d + endRoom ≤ length w → ((j : ℕ) → stamp (s .table) j + 2 ^ d ≤ 4294967296)
       → AllFed deepOf sourceOf next n Reads i d at fs xs → AllSeated deepOf sourceOf next i fs → Operates op c d at xs f
@@ -83,7 +84,7 @@ module _ {BlockReader : Type 0} (deepOf : BlockReader → ℕ) (sourceOf : Block
   -- all inputs at edges
   edges-lead : (hash : List ℕ → ℕ) (op : List Bool → Bool) (size d i : ℕ) (o : List ℕ) → 0 < i → i + d ≡ suc n → n ≤ optionLimit
       → size ≤ tableLimit
-      → (at m : ℕ) (T p w : List ℕ) (fs : List (Operand BlockReader)) (xs : List Input) (f : ℕ → Bool) (μ : List (List ℕ)) (t : List (List ℕ))
+      → (at m : ℕ) (T p w : List ℕ) (fs : List (Operand BlockReader)) (xs : List Input) (f : ℕ → Bool) (μ : List (List ℕ)) (t : List WriterRecord)
       (out : List ℕ) (progress : Progress) (s : State) → anyText fs ≡ false → at + 2 ^ d ≤ c → Stands n size o T t out progress s
       → take m w ≡ p → m + levelRoom * d + endRoom ≤ length w → ((j : ℕ) → stamp (s .table) j + 2 ^ d ≤ 4294967296)
       → AllFed deepOf sourceOf next n Reads i d at fs xs → AllSeated deepOf sourceOf next i fs → Operates op c d at xs f
@@ -112,7 +113,7 @@ module _ {BlockReader : Type 0} (deepOf : BlockReader → ℕ) (sourceOf : Block
   -- with d options left, the walk over the part of level i within which the covered words end sends what a cut run sends
   abbrev Cuts : (List ℕ → ℕ) → (List Bool → Bool) → ℕ → ℕ → ℕ → List ℕ → Type 0
   Cuts hash op size d i o =
-      (k at m : ℕ) (T p w : List ℕ) (fs : List (Operand BlockReader)) (xs : List Input) (f : ℕ → Bool) (μ : List (List ℕ)) (t : List (List ℕ))
+      (k at m : ℕ) (T p w : List ℕ) (fs : List (Operand BlockReader)) (xs : List Input) (f : ℕ → Bool) (μ : List (List ℕ)) (t : List WriterRecord)
       (out : List ℕ) (progress : Progress) (s : State) → at ≡ k * 2 ^ d → at < c → c < at + 2 ^ d → at + 2 ^ d ≤ 2 ^ n → runCovered n xs ≤ c
       → Stands n size o T t out progress s → take m w ≡ p → m + levelRoom * d + endRoom ≤ length w
       → ((j : ℕ) → stamp (s .table) j + 2 ^ d ≤ 4294967296) → AllFed deepOf sourceOf next n Reads i d at fs xs
@@ -124,7 +125,8 @@ module _ {BlockReader : Type 0} (deepOf : BlockReader → ℕ) (sourceOf : Block
   -- half: the walk over a covered half
   module _ (hash : List ℕ → ℕ) (op : List Bool → Bool) (size d i : ℕ) (o : List ℕ) (real : 0 < i) (deep : i + suc d ≡ suc n)
       (small : n ≤ optionLimit) (few : size ≤ tableLimit) (half : Wholes hash op size d (suc i) o) (k at m : ℕ) (T p w : List ℕ)
-      (fs : List (Operand BlockReader)) (xs : List Input) (f : ℕ → Bool) (μ : List (List ℕ)) (t : List (List ℕ)) (out : List ℕ) (progress : Progress)
+      (fs : List (Operand BlockReader)) (xs : List Input) (f : ℕ → Bool) (μ : List (List ℕ)) (t : List WriterRecord) (out : List ℕ)
+      (progress : Progress)
       (s : State) (z : at ≡ k * 2 ^ suc d) (st : Stands n size o T t out progress s) (here : take m w ≡ p)
       (room : m + levelRoom * suc d + endRoom ≤ length w) (young : (j : ℕ) → stamp (s .table) j + 2 ^ suc d ≤ 4294967296)
       (fed : AllFed deepOf sourceOf next n Reads i (suc d) at fs xs) (seat : AllSeated deepOf sourceOf next i fs)
@@ -465,7 +467,7 @@ module _ {BlockReader : Type 0} (deepOf : BlockReader → ℕ) (sourceOf : Block
 
   -- a part that is covered leads to what the walk of Online knows
   pub carry-leads : (hash : List ℕ → ℕ) (op : List Bool → Bool) (size d i at k m : ℕ) (o T p w : List ℕ) (fs : List (Operand BlockReader))
-      (xs : List Input) (f : ℕ → Bool) (μ : List (List ℕ)) (t : List (List ℕ)) (out : List ℕ) (progress : Progress) (s : State)
+      (xs : List Input) (f : ℕ → Bool) (μ : List (List ℕ)) (t : List WriterRecord) (out : List ℕ) (progress : Progress) (s : State)
       → 0 < i → i + d ≡ suc n → n ≤ optionLimit → size ≤ tableLimit → at ≡ k * 2 ^ d → at + 2 ^ d ≤ c → Stands n size o T t out progress s
       → take m w ≡ p → m + levelRoom * d + endRoom ≤ length w → ((j : ℕ) → stamp (s .table) j + 2 ^ d ≤ 4294967296)
       → AllFed deepOf sourceOf next n Reads i d at fs xs → AllSeated deepOf sourceOf next i fs
@@ -492,7 +494,7 @@ module _ {BlockReader : Type 0} (deepOf : BlockReader → ℕ) (sourceOf : Block
 
   -- a part within which the covered words end, as many as the inputs all cover, sends what a cut run sends
   pub carry-cut : (hash : List ℕ → ℕ) (op : List Bool → Bool) (size d i at k m : ℕ) (o T p w : List ℕ) (fs : List (Operand BlockReader))
-      (xs : List Input) (f : ℕ → Bool) (μ : List (List ℕ)) (t : List (List ℕ)) (out : List ℕ) (progress : Progress) (s : State)
+      (xs : List Input) (f : ℕ → Bool) (μ : List (List ℕ)) (t : List WriterRecord) (out : List ℕ) (progress : Progress) (s : State)
       → 0 < i → i + d ≡ suc n → n ≤ optionLimit → size ≤ tableLimit → at ≡ k * 2 ^ d → at < c → c < at + 2 ^ d → at + 2 ^ d ≤ 2 ^ n
       → runCovered n xs ≤ c → Stands n size o T t out progress s → take m w ≡ p → m + levelRoom * d + endRoom ≤ length w
       → ((j : ℕ) → stamp (s .table) j + 2 ^ d ≤ 4294967296) → AllFed deepOf sourceOf next n Reads i d at fs xs

@@ -13,6 +13,7 @@ use Rattle.theory_engine.specs.Applying.{Source}
 use Rattle.theory_engine.specs.Operands.{Operand, Applied, anyText, readersOf, resume, halted, endedAt, wentOn, edgesOf, firstOperands}
 use Rattle.theory_engine.specs.Operands.{secondOperands, firstValuesOf}
 use Rattle.theory_engine.specs.Recalling.{Recalled, recallIn}
+use Rattle.node_records.specs.declared.WriterRecord.{WriterRecord}
 
 -- after a part: the engine and the inputs' block readers, and the memo
 pub record Carried (BlockReader : Type 0) : Type 0 where
@@ -32,7 +33,7 @@ module _ {BlockReader : Type 0} (deepOf : BlockReader → ℕ) (sourceOf : Block
   -- The part of level i whose words are at .. at + 2 ^ d - 1, after m bytes that wait, with the memo μ. c: how many words are covered,
   -- more than `at`; op: what the inputs' decisions come to. A part that has an input in its text is neither looked up nor noted
   unfoldable pub carryIn : (List ℕ → ℕ) → (List Bool → Bool) → ℕ → ℕ → ℕ → ℕ → ℕ → ℕ → List (Operand BlockReader) → List (List ℕ)
-      → List (List ℕ) → List ℕ → List ℕ → Progress → Carried BlockReader
+      → List WriterRecord → List ℕ → List ℕ → Progress → Carried BlockReader
   carryIn hash op c size zero i at m fs μ t out w progress =
       recalledOn (recallIn hash op size 0 i m (edgesOf deepOf sourceOf next fs) μ t out w progress) (readersOf fs)
   carryIn hash op c size (suc d) i at m fs μ t out w progress =

@@ -10,9 +10,10 @@ use Rattle.theory_reading.specs.Bytes.{opener, dot}
 use Rattle.theory_writing.specs.Texts.{tildeIf}
 use Rattle.theory_writing.specs.Run.{head}
 use Rattle.theory_writing.specs.Calls.{truthAt}
-use Rattle.theory_engine.specs.Cells.{cell}
+use Rattle.theory_engine.specs.Cells.{cell, stampField}
 use Rattle.theory_engine.specs.Recycling.{Lane, oneMore, findIn, storeIn, nextIn}
 use Rattle.theory_engine.specs.Pending.{pushAll, waitIn, closeIn, sentTo, writtenTo}
+use Rattle.node_records.specs.declared.WriterRecord.{WriterRecord}
 
 -- ---- What is known ---------------------------------------------------------------------------
 
@@ -39,7 +40,7 @@ pub record Progress : Type 0 where
 pub record Walked : Type 0 where
   pub half : Half
   pub progress : Progress
-  pub table : List (List ℕ)
+  pub table : List WriterRecord
   pub output : List ℕ
   pub waits : List ℕ
 
@@ -63,18 +64,18 @@ abbrev pub isConstant : Half → Bool
 isConstant a = eqb (a .number) 0 && not (a .temporary)
 
 -- its number was given out again since
-abbrev pub isStale : List (List ℕ) → Half → Bool
-isStale t a = not (eqb (a .number) 0) && not (eqb (cell t 4 (a .number)) (a .stamp))
+abbrev pub isStale : List WriterRecord → Half → Bool
+isStale t a = not (eqb (a .number) 0) && not (eqb (cell t stampField (a .number)) (a .stamp))
 
 -- rule 1, rule 2, rule 3; v: the `~` between the halves
 abbrev pub alikeConstant : Bool → Half → Half → Bool
 alikeConstant v a b = isConstant a && (isConstant b && not v)
 
-abbrev pub alikeNumber : List (List ℕ) → Bool → Half → Half → Bool
+abbrev pub alikeNumber : List WriterRecord → Bool → Half → Half → Bool
 alikeNumber t v a b =
     not (eqb (a .number) 0) && (eqb (a .number) (b .number) && (not v && (not (isStale t a) && not (isStale t b))))
 
-abbrev pub barredHalf : List (List ℕ) → Half → Bool
+abbrev pub barredHalf : List WriterRecord → Half → Bool
 barredHalf t a = a .temporary || isStale t a
 
 -- a space between the halves
@@ -122,34 +123,34 @@ unfoldable pub writeNode : ℕ → Bool → Half → Half → ℕ → Half → �
 writeNode m v a b k h z e out w progress = sentAs h z e (sendNode m v a b k out w (progress .written))
 
 -- nothing goes out
-abbrev pub kept : Half → List (List ℕ) → List ℕ → List ℕ → Progress → Walked
+abbrev pub kept : Half → List WriterRecord → List ℕ → List ℕ → Progress → Walked
 kept h t out w progress = record { half = h; progress = progress; table = t; output = out; waits = w }
 
-abbrev pub laneOf : List (List ℕ) → Progress → Lane
+abbrev pub laneOf : List WriterRecord → Progress → Lane
 laneOf t progress = record { table = t; first = progress .first; last = progress .last }
 
 -- a node without a number
-abbrev pub writeTemporary : ℕ → Bool → Half → Half → List (List ℕ) → List ℕ → List ℕ → Progress → Walked
+abbrev pub writeTemporary : ℕ → Bool → Half → Half → List WriterRecord → List ℕ → List ℕ → Progress → Walked
 writeTemporary m v a b t out w progress =
     writeNode m v a b 0 (temporaryHalf (a .complement)) (progress .given) (laneOf t progress) out w progress
 
 -- rule 5: k is the number to give out, 0 if there is none
-unfoldable pub giveIn : ℕ → ℕ → ℕ → Bool → Half → Half → List (List ℕ) → List ℕ → List ℕ → Progress → Walked
+unfoldable pub giveIn : ℕ → ℕ → ℕ → Bool → Half → Half → List WriterRecord → List ℕ → List ℕ → Progress → Walked
 giveIn k i m v a b t out w progress =
     let e = storeIn t (progress .given) (progress .first) (progress .last) k i (a .number) (b .number) (cond v 1 0) in
     cond (eqb k 0) (writeTemporary m v a b t out w progress)
-    (writeNode m v a b k (numberHalf k (cell (e .table) 4 k) 0 (a .complement) true)
+    (writeNode m v a b k (numberHalf k (cell (e .table) stampField k) 0 (a .complement) true)
     (cond (ltb (progress .given) k) k (progress .given)) e out w progress)
 
 -- rule 4: k is the number found, 0 if there is none
-unfoldable pub knownIn : ℕ → ℕ → ℕ → ℕ → Bool → Half → Half → List (List ℕ) → List ℕ → List ℕ → Progress → Walked
+unfoldable pub knownIn : ℕ → ℕ → ℕ → ℕ → Bool → Half → Half → List WriterRecord → List ℕ → List ℕ → Progress → Walked
 knownIn k size i m v a b t out w progress =
     cond (eqb k 0)
     (giveIn (nextIn t (progress .given) (progress .first) size (a .number) (b .number)) i m v a b t out w progress)
-    (kept (numberHalf k (cell t 4 k) 0 (a .complement) false) t out w progress)
+    (kept (numberHalf k (cell t stampField k) 0 (a .complement) false) t out w progress)
 
 -- rules 1 to 5
-unfoldable pub meetIn : ℕ → ℕ → ℕ → Bool → Half → Half → List (List ℕ) → List ℕ → List ℕ → Progress → Walked
+unfoldable pub meetIn : ℕ → ℕ → ℕ → Bool → Half → Half → List WriterRecord → List ℕ → List ℕ → Progress → Walked
 meetIn size i m v a b t out w progress =
     cond (alikeConstant v a b) (kept (constantHalf (a .complement)) t out w progress)
     (cond (alikeNumber t v a b)
@@ -189,7 +190,7 @@ secondIn size i m v a b =
 
 -- The part of level i whose words are at .. at + 2 ^ d - 1, after m bytes that wait. A second half that repeats a first half which
 -- came to a number is that number again
-unfoldable pub walkIn : List ℕ → ℕ → ℕ → ℕ → ℕ → ℕ → List (List ℕ) → List ℕ → List ℕ → Progress → Walked
+unfoldable pub walkIn : List ℕ → ℕ → ℕ → ℕ → ℕ → ℕ → List WriterRecord → List ℕ → List ℕ → Progress → Walked
 walkIn v size zero i at m t out w progress = kept (constantHalf (truthAt v at)) t out w progress
 walkIn v size (suc d) i at m t out w progress =
     let p = pushAll w m (opener ∷ []) in
@@ -224,13 +225,13 @@ doneIn m r =
     cond (r .progress .full) (record { written = r .progress .written; full = r .progress .full; output = r .output; waits = r .waits }) (endIn m r)
 
 -- after the size and its LF, likewise
-abbrev pub bodyIn : ℕ → ℕ → List ℕ → List (List ℕ) → Sent → Sent
+abbrev pub bodyIn : ℕ → ℕ → List ℕ → List WriterRecord → Sent → Sent
 bodyIn n size v t x =
     let m = pushAll (x .waits) 0 (tildeIf (truthAt v 0)) in
     cond (x .full) x (doneIn (m .count) (walkIn v size n 1 0 (m .count) t (x .output) (m .bytes) (progressAfter x)))
 
 -- the stream of a truth table
-unfoldable pub streamIn : ℕ → ℕ → List ℕ → List (List ℕ) → List ℕ → List ℕ → Sent
+unfoldable pub streamIn : ℕ → ℕ → List ℕ → List WriterRecord → List ℕ → List ℕ → Sent
 streamIn n size v t out w =
     let a = pushAll w 0 (head size) in
     bodyIn n size v t (sendText out (a .bytes) 0 (a .count))

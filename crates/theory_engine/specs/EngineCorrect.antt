@@ -11,26 +11,27 @@ use Rattle.theory_reading.specs.Bytes.{opener, dot}
 use Rattle.theory_writing.specs.Texts.{tildeIf}
 use Rattle.theory_writing.specs.Run.{head}
 use Rattle.theory_writing.specs.Calls.{truthAt}
-use Rattle.theory_engine.specs.Cells.{cell}
+use Rattle.theory_engine.specs.Cells.{cell, stampField}
 use Rattle.theory_engine.specs.Recycling.{Lane, oneMore, findIn, storeIn, nextIn}
 use Rattle.theory_engine.specs.Pending.{Waiting, pushAll, waitIn}
 use Rattle.theory_engine.specs.Engine.{Half, Progress, Walked, Sent, constantHalf, numberHalf, isStale, alikeConstant, alikeNumber, barredHalf}
 use Rattle.theory_engine.specs.Engine.{sendText, sendNode, sentAs, writeNode, writeTemporary, kept, giveIn, knownIn, meetIn, allBytes}
 use Rattle.theory_engine.specs.Engine.{againHalf, secondIn, walkIn, progressAfter, endIn, doneIn, bodyIn, streamIn}
+use Rattle.node_records.specs.declared.WriterRecord.{WriterRecord}
 
 -- ---- What the rules ask ----------------------------------------------------------------------
 
-module _ (t : List (List ℕ)) (a : Half) where
+module _ (t : List WriterRecord) (a : Half) where
   pub stale-none : a .number ≡ 0 → false ≡ isStale t a
   stale-none e = rw (eq-eqb (a .number) 0 e) refl
 
-  pub stale-told : a .number ≢ 0 → not (eqb (cell t 4 (a .number)) (a .stamp)) ≡ isStale t a
+  pub stale-told : a .number ≢ 0 → not (eqb (cell t stampField (a .number)) (a .stamp)) ≡ isStale t a
   stale-told d = rw (ne-eqb (a .number) 0 d) refl
 
   pub barred-told : a .temporary ≡ false → isStale t a ≡ barredHalf t a
   barred-told e = rw e refl
 
-module _ (t : List (List ℕ)) (v : Bool) (a b : Half) where
+module _ (t : List WriterRecord) (v : Bool) (a b : Half) where
   pub number-none : a .number ≡ 0 → false ≡ alikeNumber t v a b
   number-none e = rw (eq-eqb (a .number) 0 e) refl
 
@@ -57,19 +58,19 @@ module _ (t : List (List ℕ)) (v : Bool) (a b : Half) where
 -- ---- Two halves meet -------------------------------------------------------------------------
 
 -- rule 5
-module _ (k i m : ℕ) (v : Bool) (a b : Half) (t : List (List ℕ)) (out w : List ℕ) (progress : Progress) where
+module _ (k i m : ℕ) (v : Bool) (a b : Half) (t : List WriterRecord) (out w : List ℕ) (progress : Progress) where
   pub give-none : k ≡ 0 → writeTemporary m v a b t out w progress ≡ giveIn k i m v a b t out w progress
   unfolding giveIn
   give-none e = rw (eq-eqb k 0 e) refl
 
   pub give-number : (e : Lane) (g z : ℕ) (x : Sent) → k ≢ 0
-      → e ≡ storeIn t (progress .given) (progress .first) (progress .last) k i (a .number) (b .number) (cond v 1 0) → g ≡ cell (e .table) 4 k
+      → e ≡ storeIn t (progress .given) (progress .first) (progress .last) k i (a .number) (b .number) (cond v 1 0) → g ≡ cell (e .table) stampField k
       → z ≡ cond (ltb (progress .given) k) k (progress .given) → x ≡ sendNode m v a b k out w (progress .written)
       → sentAs (numberHalf k g 0 (a .complement) true) z e x ≡ giveIn k i m v a b t out w progress
   unfolding giveIn writeNode
   give-number e g z x d s c y u =
       ap₂ (λ (z : ℕ) (x : Sent). sentAs (numberHalf k g 0 (a .complement) true) z e x) y u
-      ∙ ap (λ (g : ℕ). node g e) c ∙ ap (λ (e : Lane). node (cell (e .table) 4 k) e) s
+      ∙ ap (λ (g : ℕ). node g e) c ∙ ap (λ (e : Lane). node (cell (e .table) stampField k) e) s
       ∙ ap (λ (b : Bool). cond b (writeTemporary m v a (half₂) t out w progress) given) (sym (ne-eqb k 0 d))
     where
       half₂ : Half
@@ -81,23 +82,23 @@ module _ (k i m : ℕ) (v : Bool) (a b : Half) (t : List (List ℕ)) (out w : Li
 
       given : Walked
       given = let e = storeIn t (progress .given) (progress .first) (progress .last) k i (a .number) (b .number) (cond v 1 0) in
-          node (cell (e .table) 4 k) e
+          node (cell (e .table) stampField k) e
 
 -- rule 4
-module _ (k size i m : ℕ) (v : Bool) (a b : Half) (t : List (List ℕ)) (out w : List ℕ) (progress : Progress) where
+module _ (k size i m : ℕ) (v : Bool) (a b : Half) (t : List WriterRecord) (out w : List ℕ) (progress : Progress) where
   pub known-none : (x : ℕ) → k ≡ 0 → x ≡ nextIn t (progress .given) (progress .first) size (a .number) (b .number)
       → giveIn x i m v a b t out w progress ≡ knownIn k size i m v a b t out w progress
   unfolding knownIn
   known-none x e n = ap (λ (x : ℕ). giveIn x i m v a b t out w progress) n ∙ rw (eq-eqb k 0 e) refl
 
-  pub known-there : (g : ℕ) → k ≢ 0 → g ≡ cell t 4 k
+  pub known-there : (g : ℕ) → k ≢ 0 → g ≡ cell t stampField k
       → kept (numberHalf k g 0 (a .complement) false) t out w progress ≡ knownIn k size i m v a b t out w progress
   unfolding knownIn
   known-there g d c =
       ap (λ (g : ℕ). kept (numberHalf k g 0 (a .complement) false) t out w progress) c ∙ rw (ne-eqb k 0 d) refl
 
 -- all five
-module _ (size i m : ℕ) (v : Bool) (a b : Half) (t : List (List ℕ)) (out w : List ℕ) (progress : Progress) where
+module _ (size i m : ℕ) (v : Bool) (a b : Half) (t : List WriterRecord) (out w : List ℕ) (progress : Progress) where
   pub meet-constant : alikeConstant v a b ≡ true
       → kept (constantHalf (a .complement)) t out w progress ≡ meetIn size i m v a b t out w progress
   unfolding meetIn
@@ -127,13 +128,13 @@ module _ (size i m : ℕ) (v : Bool) (a b : Half) (t : List (List ℕ)) (out w :
 
 -- ---- The walk --------------------------------------------------------------------------------
 
-module _ (v : List ℕ) (size d i at m : ℕ) (t : List (List ℕ)) (out w : List ℕ) (progress : Progress) where
+module _ (v : List ℕ) (size d i at m : ℕ) (t : List WriterRecord) (out w : List ℕ) (progress : Progress) where
   pub walk-word : d ≡ 0 → kept (constantHalf (truthAt v at)) t out w progress ≡ walkIn v size d i at m t out w progress
   unfolding walkIn
   walk-word e = ap (λ (d : ℕ). walkIn v size d i at m t out w progress) (sym e)
 
 -- two halves of one part, d + 1 options
-module _ (v : List ℕ) (size d i at m : ℕ) (t : List (List ℕ)) (out w : List ℕ) (progress : Progress) where
+module _ (v : List ℕ) (size d i at m : ℕ) (t : List WriterRecord) (out w : List ℕ) (progress : Progress) where
   abbrev whole : ℕ → Walked
   whole e = walkIn v size e i at m t out w progress
 
@@ -261,7 +262,7 @@ done-correct m r q e f x y =
     (sym f)
 
 -- the leading `~` and the walk
-pub body-correct : (n size : ℕ) (v : List ℕ) (t : List (List ℕ)) (x : Sent) (m : Waiting) (y : Progress) (r : Walked) → x .full ≡ false
+pub body-correct : (n size : ℕ) (v : List ℕ) (t : List WriterRecord) (x : Sent) (m : Waiting) (y : Progress) (r : Walked) → x .full ≡ false
     → m ≡ pushAll (x .waits) 0 (tildeIf (truthAt v 0)) → y ≡ progressAfter x
     → r ≡ walkIn v size n 1 0 (m .count) t (x .output) (m .bytes) y → doneIn (m .count) r ≡ bodyIn n size v t x
 body-correct n size v t x m y r f p o q =
@@ -273,7 +274,7 @@ body-correct n size v t x m y r f p o q =
     walked m = doneIn (m .count) (walkIn v size n 1 0 (m .count) t (x .output) (m .bytes) (progressAfter x))
 
 -- the size, its LF and the rest
-pub stream-correct : (n size : ℕ) (v : List ℕ) (t : List (List ℕ)) (out w : List ℕ) (a : Waiting) (x : Sent) → a ≡ pushAll w 0 (head size)
+pub stream-correct : (n size : ℕ) (v : List ℕ) (t : List WriterRecord) (out w : List ℕ) (a : Waiting) (x : Sent) → a ≡ pushAll w 0 (head size)
     → x ≡ sendText out (a .bytes) 0 (a .count) → bodyIn n size v t x ≡ streamIn n size v t out w
 unfolding streamIn
 stream-correct n size v t out w a x p q =

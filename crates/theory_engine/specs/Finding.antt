@@ -13,6 +13,7 @@ use Rattle.theory_writing.specs.Normal.{Normal, find-hits}
 use Rattle.theory_engine.specs.Recycling.{fitsAt, findIn}
 use Rattle.theory_engine.specs.Buckets.{fits-cells, cells-fit, found-fits, missed-fits}
 use Rattle.theory_engine.specs.Keeping.{Keeps}
+use Rattle.node_records.specs.declared.WriterRecord.{WriterRecord}
 
 -- a complement as its cell has it
 same-complement : (a b : Bool) → _≡_ {A = ℕ} (cond a 1 0) (cond b 1 0) → a ≡ b
@@ -22,7 +23,7 @@ same-complement false true e = absurd (omega (arith, e))
 same-complement false false e = refl
 
 -- the number that code finds is the number of document 01
-pub keeps-find : (n : ℕ) (t : List (List ℕ)) (z f l : ℕ) (s : State) (i a b : ℕ) (u : Bool) → Keeps t z f l s → Sound s → Normal n s
+pub keeps-find : (n : ℕ) (t : List WriterRecord) (z f l : ℕ) (s : State) (i a b : ℕ) (u : Bool) → Keeps t z f l s → Sound s → Normal n s
     → 0 < i → findIn t z i a b (cond u 1 0) ≡ find (s .table) 0 i a b u
 keeps-find n t z f l s i a b u ks so nm r = go (findIn t z i a b (cond u 1 0)) refl (find (s .table) 0 i a b u) refl
   where

@@ -12,84 +12,88 @@ use lib.ListN.{length, getD, set, length-map, List·getD-map}
 use lib.Seq.{getD-set-same, getD-set-other, set-out, map-set-same, ext-getD}
 use borrow.Author.Tests.{ne-eqb}
 use Rattle.theory_writing.specs.Links.{Links, unlinked, linked, stops, freeIn}
-use Rattle.theory_engine.specs.Cells.{cell, putCell, Wide, length-put, wide-put, cell-number, cell-other}
+use Rattle.theory_engine.specs.Cells.{fieldsOf, withField, field-with, zero-at, cell, putCell, length-put, cell-number, cell-other, queueField}
 use Rattle.theory_engine.specs.Recycling.{unlinkIn, linkIn, freeOf}
+use Rattle.node_records.specs.Records.{noWriterRecord}
+use Rattle.node_records.specs.declared.WriterRecord.{WriterRecord}
 
 -- ---- A column of cells -----------------------------------------------------------------------
 
 -- cell j of each number, at the number's place
-unfoldable pub column : ℕ → List (List ℕ) → List ℕ
-column j t = 0 ∷ map (λ (r : List ℕ). getD r j 0) t
+unfoldable pub column : ℕ → List WriterRecord → List ℕ
+column j t = 0 ∷ map (λ (x : WriterRecord). getD (fieldsOf x) j 0) t
 
-pub column-cell : (t : List (List ℕ)) (j k : ℕ) → getD (column j t) k 0 ≡ cell t j k
+pub column-cell : (t : List WriterRecord) (j k : ℕ) → getD (column j t) k 0 ≡ cell t j k
 unfolding column cell
 column-cell t j zero = refl
-column-cell t j (suc k) = List·getD-map (λ (r : List ℕ). getD r j 0) t k []
+column-cell t j (suc k) =
+    ap (getD (map (λ (x : WriterRecord). getD (fieldsOf x) j 0) t) k) (sym (zero-at j))
+    ∙ List·getD-map (λ (x : WriterRecord). getD (fieldsOf x) j 0) t k noWriterRecord
 
-pub column-length : (t : List (List ℕ)) (j : ℕ) → length (column j t) ≡ suc (length t)
+pub column-length : (t : List WriterRecord) (j : ℕ) → length (column j t) ≡ suc (length t)
 unfolding column
-column-length t j = ap suc (length-map t (λ (r : List ℕ). getD r j 0))
+column-length t j = ap suc (length-map t (λ (x : WriterRecord). getD (fieldsOf x) j 0))
 
 -- the column of as many records with the same cells
-pub column-same : (t u : List (List ℕ)) (j : ℕ) → length u ≡ length t → ((k : ℕ) → cell u j k ≡ cell t j k) → column j u ≡ column j t
+pub column-same : (t u : List WriterRecord) (j : ℕ) → length u ≡ length t → ((k : ℕ) → cell u j k ≡ cell t j k) → column j u ≡ column j t
 column-same t u j e h =
     ext-getD 0 (column j u) (column j t) (column-length u j ∙ ap suc e ∙ sym (column-length t j))
     (λ k l. column-cell u j k ∙ h k ∙ sym (column-cell t j k))
 
-map-set : (f : List ℕ → ℕ) (t : List (List ℕ)) (k : ℕ) (r : List ℕ) → map f (set t k r) ≡ set (map f t) k (f r)
+map-set : (f : WriterRecord → ℕ) (t : List WriterRecord) (k : ℕ) (r : WriterRecord) → map f (set t k r) ≡ set (map f t) k (f r)
 map-set f [] k r = refl
 map-set f (a ∷ t) zero r = refl
 map-set f (a ∷ t) (suc k) r = ap (λ (l : List ℕ). f a ∷ l) (map-set f t k r)
 
 -- a cell that is put
-pub column-put : (t : List (List ℕ)) (j k v : ℕ) → Wide t → j < 12
+pub column-put : (t : List WriterRecord) (j k v : ℕ) → j < 12
     → column j (putCell t j k v) ≡ cond (eqb k 0) (column j t) (set (column j t) k v)
 unfolding column putCell
-column-put t j zero v w h = refl
-column-put t j (suc k) v w h =
+column-put t j zero v h = refl
+column-put t j (suc k) v h =
     ap (λ (l : List ℕ). 0 ∷ l) (⊎-elim
-    (λ (l : length t ≤ k). ap (map at) (set-out t k (set (getD t k []) j v) l)
+    (λ (l : length t ≤ k). ap (map at) (set-out t k (withField (getD t k noWriterRecord) j v) l)
     ∙ sym (set-out (map at t) k v (omega (arith, l, length-map t at))))
-    (λ (l : k < length t). map-set at t k (set (getD t k []) j v)
-    ∙ ap (set (map at t) k) (getD-set-same (getD t k []) j v 0 (omega (arith, w k l))))
+    (λ (l : k < length t). map-set at t k (withField (getD t k noWriterRecord) j v)
+    ∙ ap (set (map at t) k) (field-with (getD t k noWriterRecord) j v j ∙ getD-set-same (fieldsOf (getD t k noWriterRecord)) j v 0 (omega arith)))
     (decide-le (length t) k))
     ∙ ap (λ (b : Bool). cond b (0 ∷ map at t) (0 ∷ set (map at t) k v)) (sym (eqb·suc-zero k))
   where
-    at : List ℕ → ℕ
-    at r = getD r j 0
+    at : WriterRecord → ℕ
+    at x = getD (fieldsOf x) j 0
 
 -- and another column
-pub column-other : (t : List (List ℕ)) (j k v i : ℕ) → i ≢ j → column i (putCell t j k v) ≡ column i t
+pub column-other : (t : List WriterRecord) (j k v i : ℕ) → i ≢ j → column i (putCell t j k v) ≡ column i t
 unfolding column putCell
 column-other t j zero v i d = refl
 column-other t j (suc k) v i d =
-    ap (λ (l : List ℕ). 0 ∷ l) (map-set-same (λ (r : List ℕ). getD r i 0) t k (set (getD t k []) j v) []
-    (getD-set-other (getD t k []) j i v 0 d))
+    ap (λ (l : List ℕ). 0 ∷ l) (map-set-same (λ (x : WriterRecord). getD (fieldsOf x) i 0) t k (withField (getD t k noWriterRecord) j v)
+    noWriterRecord (field-with (getD t k noWriterRecord) j v i ∙ getD-set-other (fieldsOf (getD t k noWriterRecord)) j i v 0 d))
 
 -- ---- The links in two columns ----------------------------------------------------------------
 
-unfoldable pub linksOf : List (List ℕ) → ℕ → ℕ → ℕ → Links
+unfoldable pub linksOf : List WriterRecord → ℕ → ℕ → ℕ → Links
 unfolding column
 linksOf t j f l = record { next = column j t; prev = column (j + 1) t; head = f; tail = l }
 
 -- those of records whose columns are the same
-pub links-same : (t u : List (List ℕ)) (j f l : ℕ) → column j u ≡ column j t → column (j + 1) u ≡ column (j + 1) t
+pub links-same : (t u : List WriterRecord) (j f l : ℕ) → column j u ≡ column j t → column (j + 1) u ≡ column (j + 1) t
     → linksOf u j f l ≡ linksOf t j f l
 unfolding linksOf
 links-same t u j f l p q =
     ap₂ (λ (x y : List ℕ). record { next = x; prev = y; head = f; tail = l }) p q
 
-pub links-unlink : (t : List (List ℕ)) (j f l k : ℕ) → Wide t → j + 1 < 12 →
+pub links-unlink : (t : List WriterRecord) (j f l k : ℕ) → j + 1 < 12 →
     let e = unlinkIn t j f l k in
     linksOf (e .table) j (e .first) (e .last) ≡ unlinked (linksOf t j f l) k
 unfolding linksOf unlinkIn unlinked
-links-unlink t j f l k w h =
+links-unlink t j f l k h =
     let p = cell t (j + 1) k in
     let x = cell t j k in
     let u = putCell t j p x in
     ap₂ (λ (a b : List ℕ). record { next = a; prev = b; head = cond (eqb p 0) x f; tail = cond (eqb x 0) p l })
-    (column-other u (j + 1) x p j (λ e. omega (arith, e)) ∙ column-put t j p x w (omega arith))
-    (column-put u (j + 1) x p (wide-put t j p x w) h
+    (column-other u (j + 1) x p j (λ e. omega (arith, e)) ∙ column-put t j p x (omega arith))
+    (column-put u (j + 1) x p h
     ∙ ap (λ (c : List ℕ). cond (eqb x 0) c (set c x p)) (column-other t j p x (j + 1) (λ e. omega (arith, e))))
     ∙ ap₂ (λ (p x : ℕ). record {
       next = cond (eqb p 0) (column j t) (set (column j t) p x);
@@ -98,17 +102,17 @@ links-unlink t j f l k w h =
       tail = cond (eqb x 0) p l;
     }) (sym (column-cell t (j + 1) k)) (sym (column-cell t j k))
 
-pub links-link : (t : List (List ℕ)) (j f l k : ℕ) → Wide t → j + 1 < 12 → k ≢ 0 →
+pub links-link : (t : List WriterRecord) (j f l k : ℕ) → j + 1 < 12 → k ≢ 0 →
     let e = linkIn t j f l k in
     linksOf (e .table) j (e .first) (e .last) ≡ linked (linksOf t j f l) k
 unfolding linksOf linkIn linked
-links-link t j f l k w h d =
+links-link t j f l k h d =
     let u = putCell t j k 0 in
     let v = putCell u j l k in
     ap₂ (λ (a b : List ℕ). record { next = a; prev = b; head = cond (eqb l 0) k f; tail = k })
-    (column-other v (j + 1) k l j (λ e. omega (arith, e)) ∙ column-put u j l k (wide-put t j k 0 w) (omega arith)
-    ∙ ap (λ (c : List ℕ). cond (eqb l 0) c (set c l k)) (column-put t j k 0 w (omega arith) ∙ real (column j t) (set (column j t) k 0)))
-    (column-put v (j + 1) k l (wide-put u j l k (wide-put t j k 0 w)) h
+    (column-other v (j + 1) k l j (λ e. omega (arith, e)) ∙ column-put u j l k (omega arith)
+    ∙ ap (λ (c : List ℕ). cond (eqb l 0) c (set c l k)) (column-put t j k 0 (omega arith) ∙ real (column j t) (set (column j t) k 0)))
+    (column-put v (j + 1) k l h
     ∙ real (column (j + 1) v) (set (column (j + 1) v) k l)
     ∙ ap (λ (c : List ℕ). set c k l) (column-other u j l k (j + 1) (λ e. omega (arith, e))
     ∙ column-other t j k 0 (j + 1) (λ e. omega (arith, e))))
@@ -116,24 +120,20 @@ links-link t j f l k w h d =
     real : (a b : List ℕ) → cond (eqb k 0) a b ≡ b
     real a b = ap (λ (t : Bool). cond t a b) (ne-eqb k 0 d)
 
-pub links-free : (t : List (List ℕ)) (f l a b : ℕ) → freeOf t f a b ≡ freeIn (linksOf t 6 f l) a b
+pub links-free : (t : List WriterRecord) (f l a b : ℕ) → freeOf t f a b ≡ freeIn (linksOf t queueField f l) a b
 unfolding linksOf freeOf freeIn
 links-free t f l a b =
-    ap₂ (λ (y z : ℕ). cond (stops a b f) f (cond (stops a b y) y z)) (sym (column-cell t 6 f))
-    (sym (column-cell t 6 (cell t 6 f)) ∙ ap (λ (k : ℕ). getD (column 6 t) k 0) (sym (column-cell t 6 f)))
+    ap₂ (λ (y z : ℕ). cond (stops a b f) f (cond (stops a b y) y z)) (sym (column-cell t queueField f))
+    (sym (column-cell t queueField (cell t queueField f)) ∙ ap (λ (k : ℕ). getD (column queueField t) k 0) (sym (column-cell t queueField f)))
 
 -- ---- What stays ------------------------------------------------------------------------------
 
-module _ (t : List (List ℕ)) (j f l k : ℕ) where
+module _ (t : List WriterRecord) (j f l k : ℕ) where
   p : ℕ
   p = cell t (j + 1) k
 
   x : ℕ
   x = cell t j k
-
-  pub unlink-wide : Wide t → Wide (unlinkIn t j f l k .table)
-  unfolding unlinkIn p x
-  unlink-wide w = wide-put (putCell t j p x) (j + 1) x p (wide-put t j p x w)
 
   pub unlink-length : length (unlinkIn t j f l k .table) ≡ length t
   unfolding unlinkIn p x
@@ -154,12 +154,8 @@ module _ (t : List (List ℕ)) (j f l k : ℕ) where
   unlink-prev q d =
       cell-number (putCell t j p x) (j + 1) x p (j + 1) q d ∙ cell-other t j p x (j + 1) q (λ e. omega (arith, e))
 
-  u : List (List ℕ)
+  u : List WriterRecord
   u = putCell t j k 0
-
-  pub link-wide : Wide t → Wide (linkIn t j f l k .table)
-  unfolding linkIn u
-  link-wide w = wide-put (putCell u j l k) (j + 1) k l (wide-put u j l k (wide-put t j k 0 w))
 
   pub link-length : length (linkIn t j f l k .table) ≡ length t
   unfolding linkIn u

@@ -15,6 +15,7 @@ use Rattle.theory_writing.specs.Queue.{Queued}
 use Rattle.theory_writing.specs.Online.{Went}
 use Rattle.theory_engine.specs.Keeping.{Keeps}
 use Rattle.theory_engine.specs.Engine.{Half, Progress, Walked}
+use Rattle.node_records.specs.declared.WriterRecord.{WriterRecord}
 
 -- what a half came to
 abbrev pub refIn : Half → Ref
@@ -35,7 +36,7 @@ pub record Came (i : ℕ) (h : Half) (x : Went) : Type 0 where
   pub wrote : h .wrote ≡ x .wrote
 
 -- The writer stands in the state s with the text T sent, all of which the output holds; o: what the output held before
-pub record Stands (n size : ℕ) (o T : List ℕ) (t : List (List ℕ)) (out : List ℕ) (progress : Progress) (s : State) : Type 0 where
+pub record Stands (n size : ℕ) (o T : List ℕ) (t : List WriterRecord) (out : List ℕ) (progress : Progress) (s : State) : Type 0 where
   pub keeps : Keeps t (progress .given) (progress .first) (progress .last) s
   pub sound : Sound s
   pub normal : Normal n s

@@ -29,7 +29,7 @@ use Rattle.theory_writing.specs.Queue.{Queued, stored-queued}
 use Rattle.theory_writing.specs.Shape.{Shape, part-shape}
 use Rattle.theory_writing.specs.Flow.{plain-flow, waits}
 use Rattle.theory_writing.specs.Online.{Went, digitEnd, digitBegin, gap, bare, waiting, gapOf, meetBy, online, went, online-went}
-use Rattle.theory_engine.specs.Cells.{cell}
+use Rattle.theory_engine.specs.Cells.{cell, stampField}
 use Rattle.theory_engine.specs.Recycling.{Lane, oneMore, findIn, storeIn, nextIn}
 use Rattle.theory_engine.specs.Pending.{Waiting, pushAll, partText, waitIn, closeIn, sentTo, partRoom, endRoom}
 use Rattle.theory_engine.specs.PendingLaws.{push-length, push-count, push-take, push-keeps, number-length, replicate-opens, replicate-closes}
@@ -40,6 +40,7 @@ use Rattle.theory_engine.specs.Placing.{keeps-store}
 use Rattle.theory_engine.specs.Engine.{Half, Progress, Walked, constantHalf, numberHalf, temporaryHalf, isConstant, alikeConstant, alikeNumber}
 use Rattle.theory_engine.specs.Engine.{barredHalf, spaced, writeNode, kept, laneOf, writeTemporary, giveIn, knownIn, meetIn}
 use Rattle.theory_engine.specs.Leading.{skippedBy, Came, Stands, Leads}
+use Rattle.node_records.specs.declared.WriterRecord.{WriterRecord}
 
 -- ---- What waits after a part -----------------------------------------------------------------
 
@@ -291,16 +292,16 @@ constant-came i h x c = go (h .temporary) (eqb (h .number) 0) ∙ ap isTerminal 
     go false false = refl
 
 -- the records have the stamp of the number that a half came to
-abbrev Stamped : List (List ℕ) → State → Half → Type 0
-Stamped t s h = h .number ≢ 0 → cell t 4 (h .number) ≡ stamp (s .table) (h .number)
+abbrev Stamped : List WriterRecord → State → Half → Type 0
+Stamped t s h = h .number ≢ 0 → cell t stampField (h .number) ≡ stamp (s .table) (h .number)
 
 -- a half that bars its parent from storing
-barred-came : (i : ℕ) (t : List (List ℕ)) (s : State) (h : Half) (x : Went) → Came i h x → Stamped t s h
+barred-came : (i : ℕ) (t : List WriterRecord) (s : State) (h : Half) (x : Went) → Came i h x → Stamped t s h
     → barredHalf t h ≡ bars (s .table) (x .ref)
 barred-came i t s h x c g = go (h .temporary) (eqb (h .number) 0) refl ∙ ap (bars (s .table)) (c .ref)
   where
     go : (u e : Bool) → eqb (h .number) 0 ≡ e
-        → (u || (not e && not (eqb (cell t 4 (h .number)) (h .stamp))))
+        → (u || (not e && not (eqb (cell t stampField (h .number)) (h .stamp))))
         ≡ bars (s .table) (cond u temporary (cond e terminal (entry (h .number) (h .stamp))))
     go true e z = refl
     go false true z = refl
@@ -317,7 +318,7 @@ shuffled true false true false = refl
 shuffled true false false e = refl
 
 -- two halves of the same number
-alike-came : (i : ℕ) (t : List (List ℕ)) (s : State) (v : Bool) (a b : Half) (x y : Went) → Came i a x → Came i b y
+alike-came : (i : ℕ) (t : List WriterRecord) (s : State) (v : Bool) (a b : Half) (x y : Went) → Came i a x → Came i b y
     → Stamped t s a → Stamped t s b → alikeNumber t v a b ≡ (sameNumber s (x .ref) (y .ref) && not v)
 alike-came i t s v a b x y ca cb ga gb =
     go (a .temporary) (eqb (a .number) 0) (b .temporary) (eqb (b .number) 0) refl refl
@@ -329,7 +330,7 @@ alike-came i t s v a b x y ca cb ga gb =
     ref h u e = cond u temporary (cond e terminal (entry (h .number) (h .stamp)))
 
     stale : Half → Bool → Bool
-    stale h e = not e && not (eqb (cell t 4 (h .number)) (h .stamp))
+    stale h e = not e && not (eqb (cell t stampField (h .number)) (h .stamp))
 
     other : (c : Bool) → a .number ≢ 0 → b .number ≡ 0 → (eqb (a .number) (b .number) && c) ≡ false
     other c d z = ap (λ (e : Bool). e && c) (ne-eqb (a .number) (b .number) (λ e. d (e ∙ z)))
@@ -351,7 +352,7 @@ alike-came i t s v a b x y ca cb ga gb =
 
 -- ---- The rule that is taken ------------------------------------------------------------------
 
-module _ (i m : ℕ) (v : Bool) (a b : Half) (t : List (List ℕ)) (out w : List ℕ) (progress : Progress) where
+module _ (i m : ℕ) (v : Bool) (a b : Half) (t : List WriterRecord) (out w : List ℕ) (progress : Progress) where
   -- rule 5: storing the node with the number k
   abbrev placing : ℕ → Lane
   placing k = storeIn t (progress .given) (progress .first) (progress .last) k i (a .number) (b .number) (cond v 1 0)
@@ -362,9 +363,9 @@ module _ (i m : ℕ) (v : Bool) (a b : Half) (t : List (List ℕ)) (out w : List
   ruled false true barred known new =
       kept (numberHalf (a .number) (a .stamp) (oneMore (a .skipped)) (a .complement) (a .wrote)) t out w progress
   ruled false false true known new = writeTemporary m v a b t out w progress
-  ruled false false false (suc k) new = kept (numberHalf (suc k) (cell t 4 (suc k)) 0 (a .complement) false) t out w progress
+  ruled false false false (suc k) new = kept (numberHalf (suc k) (cell t stampField (suc k)) 0 (a .complement) false) t out w progress
   ruled false false false zero (suc k) =
-      writeNode m v a b (suc k) (numberHalf (suc k) (cell (placing (suc k) .table) 4 (suc k)) 0 (a .complement) true)
+      writeNode m v a b (suc k) (numberHalf (suc k) (cell (placing (suc k) .table) stampField (suc k)) 0 (a .complement) true)
       (cond (ltb (progress .given) (suc k)) (suc k) (progress .given)) (placing (suc k)) out w progress
   ruled false false false zero zero = writeTemporary m v a b t out w progress
 
@@ -414,7 +415,7 @@ module _ (i m : ℕ) (v : Bool) (a b : Half) (t : List (List ℕ)) (out w : List
 
 -- ---- What goes out ---------------------------------------------------------------------------
 
-module _ (n size i m₀ : ℕ) (o T p w : List ℕ) (x y : Went) (t : List (List ℕ)) (out : List ℕ) (progress : Progress)
+module _ (n size i m₀ : ℕ) (o T p w : List ℕ) (x y : Went) (t : List WriterRecord) (out : List ℕ) (progress : Progress)
     (stands : Stands n size o (T ++ (x .sent ++ y .sent)) t out progress (y .state)) where
   -- nothing goes out, and the state stays
   still : (h : Half) (r : Ref) (c u : Bool) (z : List ℕ) → x .sent ++ y .sent ≡ z →
@@ -512,7 +513,7 @@ module _ (n size i m₀ : ℕ) (o T p w : List ℕ) (x y : Went) (t : List (List
 -- ---- By each rule ----------------------------------------------------------------------------
 
 -- the records have the stamp of a number that the table has
-keeps-stamp : (t : List (List ℕ)) (z f l : ℕ) (s : State) (h : Half) → Keeps t z f l s → h .number < length (s .table)
+keeps-stamp : (t : List WriterRecord) (z f l : ℕ) (s : State) (h : Half) → Keeps t z f l s → h .number < length (s .table)
     → Stamped t s h
 keeps-stamp t z f l s h keeps known d =
     keeps .nodes (h .number) (omega (arith, d)) (omega (arith, known, keeps .given)) .stamp
@@ -535,7 +536,7 @@ same-skipped i s₀ s₁ s (entry k g) (entry j u) x t st d e =
     let z = st k (eqb-true (stamp (s .table) k) g (and-l (eqb (stamp (s .table) k) g) _ (and-r (eqb k j) _ e)) ∙ sym (t .now)) in
     omega (arith, ap (λ (x : Node). x .level) z, d)
 
-module _ (n size i m m₀ : ℕ) (o T p w q p₁ q₁ : List ℕ) (A B : Done) (s₀ : State) (t : List (List ℕ)) (out : List ℕ) (progress : Progress)
+module _ (n size i m m₀ : ℕ) (o T p w q p₁ q₁ : List ℕ) (A B : Done) (s₀ : State) (t : List WriterRecord) (out : List ℕ) (progress : Progress)
     (a b : Half) (halves : Halves i s₀ (A .state) (B .state) (A .part) (B .part)) (deep : Depth (suc i) (A .state) (A .part .ref))
     (fx : Fits n (suc i) (went p₁ A)) (fy : Fits n (suc i) (went q₁ B)) (real : 0 < i) (small : n ≤ optionLimit) (few : size ≤ tableLimit)
     (ca : Came (suc i) a (went p₁ A)) (cb : Came (suc i) b (went q₁ B))
@@ -677,12 +678,12 @@ module _ (n size i m m₀ : ℕ) (o T p w q p₁ q₁ : List ℕ) (A B : Done) (
       let here = stored-same s (suc k) i ka kb v (stands .sound) (able k e) in
       let g = keeps .nodes (suc k) (omega arith) (given-most (ltb (progress .given) (suc k)) refl) .stamp in
       goes n size i m₀ o T p w x y t out progress stands m q v a b ca cb fy small few room second (suc k)
-      (numberHalf (suc k) (cell (lane .table) 4 (suc k)) 0 (a .complement) true) z lane
+      (numberHalf (suc k) (cell (lane .table) stampField (suc k)) 0 (a .complement) true) z lane
       (entry (suc k) (suc (stamp (s .table) (suc k)))) (A .part .complement) s′ (new-small k e) keeps
       (stored-sound s (suc k) i ka kb v (stands .sound) (able k e)) nm
       (stored-queued s (suc k) i ka kb v (stands .sound) (able k e) (stands .queued))
       (given-small (ltb (progress .given) (suc k)) (new-small k e))
-      (number-came k (cell (lane .table) 4 (suc k)) (suc (stamp (s .table) (suc k))) true s′
+      (number-came k (cell (lane .table) stampField (suc k)) (suc (stamp (s .table) (suc k))) true s′
       (x .sent ++ (y .sent ++ (waiting (q ++ gapOf i v x y) (suc i) y ++ (closer ∷ storing (suc k)))))
       (g ∙ ap (λ (r : Node). r .stamp) here) (ap (λ (r : Node). r .level) here))
     where
@@ -720,9 +721,9 @@ module _ (n size i m m₀ : ℕ) (o T p w q p₁ q₁ : List ℕ) (A B : Done) (
       let f = found-plain i s₀ (A .state) s (A .part) (B .part) halves k e₃ e₄ in
       let z = find-matches s i ka kb v k e₄ in
       let g = stands .keeps .nodes (suc k) (omega arith) (omega (arith, z .known, stands .keeps .given)) .stamp in
-      still n size i m₀ o T p w x y t out progress stands (numberHalf (suc k) (cell t 4 (suc k)) 0 (a .complement) false)
+      still n size i m₀ o T p w x y t out progress stands (numberHalf (suc k) (cell t stampField (suc k)) 0 (a .complement) false)
       (entry (suc k) (stamp (s .table) (suc k))) (A .part .complement) false [] (none-sent (f .0) (f .1))
-      (number-came k (cell t 4 (suc k)) (stamp (s .table) (suc k)) false s [] g (z .level))
+      (number-came k (cell t stampField (suc k)) (stamp (s .table) (suc k)) false s [] g (z .level))
       (λ u. first (ap not (f .0)) (ap not (f .1)))
   byRule-leads false false false zero (suc k) e₁ e₂ e₃ e₄ e₅ nm = new-number k e₅ nm
   byRule-leads false false false zero zero e₁ e₂ e₃ e₄ e₅ nm = no-number
@@ -741,7 +742,7 @@ module _ (n size i m m₀ : ℕ) (o T p w q p₁ q₁ : List ℕ) (A B : Done) (
 -- ---- Every part ------------------------------------------------------------------------------
 
 -- two halves that meet lead to what the walk knows of their part
-pub meet-leads : (n size d i at m m₀ : ℕ) (o T p w : List ℕ) (f : ℕ → Bool) (s : State) (t : List (List ℕ)) (out : List ℕ)
+pub meet-leads : (n size d i at m m₀ : ℕ) (o T p w : List ℕ) (f : ℕ → Bool) (s : State) (t : List WriterRecord) (out : List ℕ)
     (progress : Progress) (a b : Half) → Sound s → Normal n s → 0 < i → i + suc d ≡ suc n → n ≤ optionLimit → size ≤ tableLimit →
     let x = online size d (suc i) at (p ++ (opener ∷ [])) f s in
     let q = waiting (p ++ (opener ∷ [])) (suc i) x in

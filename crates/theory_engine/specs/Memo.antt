@@ -7,10 +7,11 @@ use lib.Dec.{eqb}
 use lib.ListN.{getD, set, drop}
 use Rattle.theory_lists.specs.Lists.{bit}
 use Rattle.theory_reading.specs.Nodes.{stamp}
-use Rattle.theory_engine.specs.Cells.{cell}
+use Rattle.theory_engine.specs.Cells.{cell, levelField, stampField}
 use Rattle.theory_engine.specs.Hashing.{stir, edgeSpan}
 use Rattle.theory_engine.specs.Engine.{Half, constantHalf, numberHalf}
 use Rattle.theory_engine.specs.Applying.{Source}
+use Rattle.node_records.specs.declared.WriterRecord.{WriterRecord}
 
 -- A row: 0 if it is empty, else 1, and 2 if the part is complemented; the number that the part came to (0: the constant) and its stamp;
 -- then three cells of each input: the number at which it stood (0: the constant), the stamp of that in its table, and 1 if it is turned
@@ -45,18 +46,18 @@ abbrev pub complementIn : List ℕ → Bool
 complementIn r = eqb (getD r 0 0) 2
 
 -- the number still has that stamp in the records t; the constant always counts
-abbrev pub isYoung : List ℕ → List (List ℕ) → Bool
-isYoung r t = eqb (numberIn r) 0 || eqb (cell t 4 (numberIn r)) (stampIn r)
+abbrev pub isYoung : List ℕ → List WriterRecord → Bool
+isYoung r t = eqb (numberIn r) 0 || eqb (cell t stampField (numberIn r)) (stampIn r)
 
 -- the row tells what a part comes to whose inputs stand at xs
-abbrev pub tells : List ℕ → List Source → List (List ℕ) → Bool
+abbrev pub tells : List ℕ → List Source → List WriterRecord → Bool
 tells r xs t = not (isEmpty r) && (sameKey (drop 3 r) xs && isYoung r t)
 
 -- the part of level i that it tells
-abbrev pub toldHalf : List ℕ → ℕ → List (List ℕ) → Half
+abbrev pub toldHalf : List ℕ → ℕ → List WriterRecord → Half
 toldHalf r i t =
     cond (eqb (numberIn r) 0) (constantHalf (complementIn r))
-    (numberHalf (numberIn r) (stampIn r) (cell t 0 (numberIn r) - i) (complementIn r) false)
+    (numberHalf (numberIn r) (stampIn r) (cell t levelField (numberIn r) - i) (complementIn r) false)
 
 -- ---- Looking up and noting -------------------------------------------------------------------
 
@@ -65,7 +66,7 @@ abbrev pub entryFor : (List ℕ → ℕ) → List (List ℕ) → List Source →
 entryFor hash μ xs = getD μ (hash (keyOf xs)) []
 
 -- a part whose inputs stand at xs is known
-abbrev pub lookUpIn : (List ℕ → ℕ) → List (List ℕ) → List Source → List (List ℕ) → Bool
+abbrev pub lookUpIn : (List ℕ → ℕ) → List (List ℕ) → List Source → List WriterRecord → Bool
 lookUpIn hash μ xs t = tells (entryFor hash μ xs) xs t
 
 -- the row with what the part came to

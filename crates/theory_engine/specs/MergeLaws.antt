@@ -18,7 +18,7 @@ use Rattle.theory_writing.specs.Run.{Input, runCovered, joint, head, runOf}
 use Rattle.theory_writing.specs.Steps.{start-sound}
 use Rattle.theory_writing.specs.Normal.{start-normal}
 use Rattle.theory_writing.specs.OnlineRuns.{cut}
-use Rattle.theory_engine.specs.Cells.{cell, Wide}
+use Rattle.theory_engine.specs.Cells.{cell}
 use Rattle.theory_engine.specs.Pending.{Waiting, pushAll, levelRoom, endRoom, waitingLimit}
 use Rattle.theory_engine.specs.PendingLaws.{waiting-room}
 use Rattle.theory_engine.specs.Engine.{Sent, sendText, progressAfter, doneIn}
@@ -38,6 +38,7 @@ use Rattle.theory_engine.specs.Carrying.{carryIn}
 use Rattle.theory_engine.specs.Seating.{readerTables, AllSeated}
 use Rattle.theory_engine.specs.CarryLaws.{carry-leads, carry-cut}
 use Rattle.theory_engine.specs.Merging.{mergeNodesIn, mergeIn}
+use Rattle.node_records.specs.declared.WriterRecord.{WriterRecord}
 
 -- ---- The whole stream ------------------------------------------------------------------------
 
@@ -56,7 +57,7 @@ module _ {BlockReader : Type 0} (deepOf : BlockReader → ℕ) (sourceOf : Block
     → Lasts (sourceOf τ .table) (sourceOf (next τ) .table)) where
   -- y: after the size and its LF, all of which the output holds
   module _ (hash : List ℕ → ℕ) (op : List Bool → Bool) (size : ℕ) (fs : List (Operand BlockReader)) (xs : List Input) (μ : List (List ℕ))
-      (t : List (List ℕ)) (out : List ℕ) (y : Sent) (small : n ≤ optionLimit) (few : size ≤ tableLimit)
+      (t : List WriterRecord) (out : List ℕ) (y : Sent) (small : n ≤ optionLimit) (few : size ≤ tableLimit)
       (stands : Stands n size out (head size) t (y .output) (progressAfter y) start) (room : length (y .waits) ≡ waitingLimit)
       (e : c ≡ runCovered n xs) (some : 0 < c) (fed : AllFed deepOf sourceOf next n Reads 1 n 0 fs xs)
       (seat : AllSeated deepOf sourceOf next 1 fs) (none : (p j : ℕ) → getD (getD μ p []) j 0 ≡ 0) where
@@ -125,13 +126,13 @@ module _ {BlockReader : Type 0} (deepOf : BlockReader → ℕ) (sourceOf : Block
 
   -- the engine leaves in the output what the text of the run leaves there
   pub merge-wrote : (hash : List ℕ → ℕ) (op : List Bool → Bool) (size : ℕ) (fs : List (Operand BlockReader)) (xs : List Input)
-      (μ : List (List ℕ)) (t : List (List ℕ)) (out w : List ℕ)
-      → n ≤ optionLimit → size ≤ tableLimit → Wide t → tableLimit ≤ length t → ((i k : ℕ) → cell t i k ≡ 0) → length w ≡ waitingLimit
+      (μ : List (List ℕ)) (t : List WriterRecord) (out w : List ℕ)
+      → n ≤ optionLimit → size ≤ tableLimit → tableLimit ≤ length t → ((i k : ℕ) → cell t i k ≡ 0) → length w ≡ waitingLimit
       → c ≡ runCovered n xs → ((p j : ℕ) → getD (getD μ p []) j 0 ≡ 0)
       → (0 < c → AllFed deepOf sourceOf next n Reads 1 n 0 fs xs × AllSeated deepOf sourceOf next 1 fs)
       → Wrote out (runOf op n size xs) (mergeIn deepOf sourceOf next hash op n c size fs μ t out w)
   unfolding mergeIn
-  merge-wrote hash op size fs xs μ t out w small few wide long zeros room e none fed = go (y .full) (eqb c 0) refl refl
+  merge-wrote hash op size fs xs μ t out w small few long zeros room e none fed = go (y .full) (eqb c 0) refl refl
     where
       a : Waiting
       a = pushAll w 0 (head size)
@@ -153,5 +154,5 @@ module _ {BlockReader : Type 0} (deepOf : BlockReader → ℕ) (sourceOf : Block
           subst⁻¹ (λ (l : List ℕ). Wrote out l y) (text-none op n size c xs e (eqb-true c 0 z)) sent
       go false false f z =
           let some : 0 < c = ⊎-elim (λ g. absurd (eqb-false c 0 z (omega (arith, g)))) (λ g. g) (decide-le c 0) in
-          merge-nodes hash op size fs xs μ t out y small few (start-stands n size out t y wide long zeros sent f) (ready .room ∙ room) e
+          merge-nodes hash op size fs xs μ t out y small few (start-stands n size out t y long zeros sent f) (ready .room ∙ room) e
           some (fed some .0) (fed some .1) none

@@ -19,7 +19,7 @@ use Rattle.theory_writing.specs.Steps.{part-halves}
 use Rattle.theory_writing.specs.Normal.{Normal, part-deep}
 use Rattle.theory_writing.specs.Meaning.{Is}
 use Rattle.theory_writing.specs.Online.{Went, online, online-went}
-use Rattle.theory_engine.specs.Cells.{cell}
+use Rattle.theory_engine.specs.Cells.{cell, levelField, stampField}
 use Rattle.theory_engine.specs.Keeping.{Keeps}
 use Rattle.theory_engine.specs.Engine.{Half, Progress, constantHalf, numberHalf, kept}
 use Rattle.theory_engine.specs.Leading.{Came, Stands, Leads}
@@ -30,6 +30,7 @@ use Rattle.theory_engine.specs.ApplyLaws.{ShowsAll, Makes}
 use Rattle.theory_engine.specs.Memo.{keyOf, sameKey, isEmpty, numberIn, stampIn, complementIn, isYoung, tells, toldHalf, noteEntry, rememberIn}
 use Rattle.theory_engine.specs.Sitting.{SitsAll, tablesOf}
 use Rattle.theory_engine.specs.MemoLaws.{is-deep, is-constant, Tells, part-tells, KeyPast, Entry, Memory, keyed}
+use Rattle.node_records.specs.declared.WriterRecord.{WriterRecord}
 
 -- ---- What a part does to the output's state --------------------------------------------------
 
@@ -174,15 +175,15 @@ part-noted n op size d i at p xs gs f s h sound normal real deep sit sh mk some 
 -- ---- A part that is told ---------------------------------------------------------------------
 
 -- the stamp of a number, as the records have it
-keeps-stamp : (t : List (List ℕ)) (z f l : ℕ) (s : State) → Keeps t z f l s → (k : ℕ) → 0 < k → cell t 4 k ≡ stamp (s .table) k
+keeps-stamp : (t : List WriterRecord) (z f l : ℕ) (s : State) → Keeps t z f l s → (k : ℕ) → 0 < k → cell t stampField k ≡ stamp (s .table) k
 keeps-stamp t z f l s h k r = ⊎-elim
     (λ (g : k ≤ z). h .nodes k r g .stamp)
     (λ (g : z < k). h .fresh k g .0 ∙ sym (ap (λ (x : Node). x .stamp) (List·getD-eq-default (s .table) noNode (omega (arith, g, h .given)))))
     (decide-le k z)
 
 -- the level of a number that is stored
-keeps-level : (t : List (List ℕ)) (z f l : ℕ) (s : State) → Keeps t z f l s → (k : ℕ) → 0 < k → 0 < node (s .table) k .level
-    → cell t 0 k ≡ node (s .table) k .level
+keeps-level : (t : List WriterRecord) (z f l : ℕ) (s : State) → Keeps t z f l s → (k : ℕ) → 0 < k → 0 < node (s .table) k .level
+    → cell t levelField k ≡ node (s .table) k .level
 keeps-level t z f l s h k r v = ⊎-elim
     (λ (g : k ≤ z). h .nodes k r g .level)
     (λ (g : z < k).
@@ -192,7 +193,7 @@ keeps-level t z f l s h k r v = ⊎-elim
 
 -- a part of level i, d options left, that a row of the memo tells
 pub told-leads : (n : ℕ) (op : List Bool → Bool) (size d i at m : ℕ) (o T p w : List ℕ) (xs : List Source) (gs : List (ℕ → Bool))
-    (f : ℕ → Bool) (t : List (List ℕ)) (out : List ℕ) (progress : Progress) (s : State) (r : List ℕ) → 0 < i → i + d ≡ suc n
+    (f : ℕ → Bool) (t : List WriterRecord) (out : List ℕ) (progress : Progress) (s : State) (r : List ℕ) → 0 < i → i + d ≡ suc n
     → Stands n size o T t out progress s → take m w ≡ p → SitsAll i xs → ShowsAll xs d i gs → Makes op d at gs f
     → (isEmpty r ≡ false → Entry n op (tablesOf xs) s r) → tells r xs t ≡ true
     → Leads n size i m o T p w (kept (toldHalf r i t) t out w progress) (online size d i at p f s)
@@ -212,7 +213,7 @@ told-leads n op size d i at m o T p w xs gs f t out progress s r real deep st he
         and-l (sameKey (drop 3 r) xs) (isYoung r t)
         (and-r (not (isEmpty r)) (sameKey (drop 3 r) xs && isYoung r t) e)
 
-    young : (eqb k 0 || eqb (cell t 4 k) (stampIn r)) ≡ true
+    young : (eqb k 0 || eqb (cell t stampField k) (stampIn r)) ≡ true
     young =
         and-r (sameKey (drop 3 r) xs) (isYoung r t)
         (and-r (not (isEmpty r)) (sameKey (drop 3 r) xs && isYoung r t) e)
@@ -220,9 +221,9 @@ told-leads n op size d i at m o T p w xs gs f t out progress s r real deep st he
     is : (0 < k → stamp (s .table) k ≡ stampIn r) → Is (s .table) f d i k c at
     is now = there .told now xs refl fits i d at gs f real deep sit sh mk
 
-    go : (u : Bool) → eqb k 0 ≡ u → (u || eqb (cell t 4 k) (stampIn r)) ≡ true
+    go : (u : Bool) → eqb k 0 ≡ u → (u || eqb (cell t stampField k) (stampIn r)) ≡ true
         → Leads n size i m o T p w
-        (kept (cond u (constantHalf c) (numberHalf k (stampIn r) (cell t 0 k - i) c false)) t out w progress) (online size d i at p f s)
+        (kept (cond u (constantHalf c) (numberHalf k (stampIn r) (cell t levelField k - i) c false)) t out w progress) (online size d i at p f s)
     go true z y =
         let zero-is : k ≡ 0 = eqb-true k 0 z in
         block-leads n size d i at m o T p w f t out progress s c real deep st here
@@ -230,10 +231,12 @@ told-leads n op size d i at m o T p w xs gs f t out progress s r real deep st he
     go false z y =
         let some : 0 < k = let q = eqb-false k 0 z in omega (arith, q) in
         let now : stamp (s .table) k ≡ stampIn r =
-        sym (keeps-stamp t (progress .given) (progress .first) (progress .last) s (st .keeps) k some) ∙ eqb-true (cell t 4 k) (stampIn r) y in
+        sym (keeps-stamp t (progress .given) (progress .first) (progress .last) s (st .keeps) k some)
+        ∙ eqb-true (cell t stampField k) (stampIn r) y in
         let h = is (λ l. now) in
         let v : 0 < node (s .table) k .level = omega (arith, is-deep (s .table) f d i k c at h some, real) in
         let level = keeps-level t (progress .given) (progress .first) (progress .last) s (st .keeps) k some v in
-        subst (λ (g : ℕ). Leads n size i m o T p w (kept (numberHalf k g (cell t 0 k - i) c false) t out w progress) (online size d i at p f s)) now
+        subst (λ (g : ℕ). Leads n size i m o T p w (kept (numberHalf k g (cell t levelField k - i) c false) t out w progress)
+        (online size d i at p f s)) now
         (subst⁻¹ (λ (l : ℕ). Leads n size i m o T p w (kept (numberHalf k (stamp (s .table) k) (l - i) c false) t out w progress)
         (online size d i at p f s)) level (number-leads n size d i at m o T p w f t out progress s k c real deep st here some h))

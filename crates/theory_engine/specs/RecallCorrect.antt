@@ -11,11 +11,12 @@ use Rattle.theory_engine.specs.Engine.{Half, Progress, Walked, constantH
 use Rattle.theory_engine.specs.Applying.{Source, firstSources, secondSources, firstValues, allPass, fixed}
 use Rattle.theory_engine.specs.Memo.{entryFor, lookUpIn, toldHalf, rememberIn}
 use Rattle.theory_engine.specs.Recalling.{Recalled, unnoted, alikePart, notedIn, recallIn}
+use Rattle.node_records.specs.declared.WriterRecord.{WriterRecord}
 
 -- ---- The ways --------------------------------------------------------------------------------
 
 -- one word; c: what it comes to
-pub recall-word : (hash : List ℕ → ℕ) (op : List Bool → Bool) (size d i m : ℕ) (xs : List Source) (μ t : List (List ℕ))
+pub recall-word : (hash : List ℕ → ℕ) (op : List Bool → Bool) (size d i m : ℕ) (xs : List Source) (μ : List (List ℕ)) (t : List WriterRecord)
     (out w : List ℕ) (progress : Progress) (c : Bool) → d ≡ 0 → c ≡ op (firstValues xs)
     → unnoted (kept (constantHalf c) t out w progress) μ ≡ recallIn hash op size d i m xs μ t out w progress
 unfolding recallIn
@@ -24,7 +25,7 @@ recall-word hash op size d i m xs μ t out w progress c e v =
     ∙ ap (λ (d : ℕ). recallIn hash op size d i m xs μ t out w progress) (sym e)
 
 -- two halves of one part, d + 1 options
-module _ (hash : List ℕ → ℕ) (op : List Bool → Bool) (size d i m : ℕ) (xs : List Source) (μ t : List (List ℕ)) (out w : List ℕ)
+module _ (hash : List ℕ → ℕ) (op : List Bool → Bool) (size d i m : ℕ) (xs : List Source) (μ : List (List ℕ)) (t : List WriterRecord) (out w : List ℕ)
     (progress : Progress) where
   -- the part, of e options
   abbrev whole : ℕ → Recalled

@@ -18,11 +18,13 @@ use Rattle.theory_engine.specs.Applying.{Source, firstSources, secondSou
 use Rattle.theory_engine.specs.Memo.{lookUpIn, rememberIn, slotFrom, slotIn}
 use Rattle.theory_engine.specs.Hashing.{stir}
 use Rattle.theory_engine.specs.Recalling.{alikePart, recallIn}
+use Rattle.node_records.specs.Records.{noWriterRecord}
+use Rattle.node_records.specs.declared.WriterRecord.{WriterRecord}
 
 -- ---- Steps -----------------------------------------------------------------------------------
 
 -- how many parts are walked: one, and those of the halves unless op is fixed or the memo tells it
-unfoldable stepsIn : (List ℕ → ℕ) → (List Bool → Bool) → ℕ → ℕ → ℕ → ℕ → List Source → List (List ℕ) → List (List ℕ) → List ℕ
+unfoldable stepsIn : (List ℕ → ℕ) → (List Bool → Bool) → ℕ → ℕ → ℕ → ℕ → List Source → List (List ℕ) → List WriterRecord → List ℕ
     → List ℕ → Progress → ℕ
 unfolding fixed recallIn
 stepsIn hash op size zero i m xs μ t out w progress = 1
@@ -77,8 +79,8 @@ both [] = true
 both (b ∷ bs) = b && both bs
 
 -- records, output, memo
-abbrev records : List (List ℕ)
-records = replicate tableLimit (replicate 12 0)
+abbrev records : List WriterRecord
+records = replicate tableLimit noWriterRecord
 
 abbrev rows : ℕ → List (List ℕ)
 rows c = replicate c (replicate 9 0)

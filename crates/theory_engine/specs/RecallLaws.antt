@@ -33,11 +33,12 @@ use Rattle.theory_engine.specs.Sitting.{SitsAll, tablesOf, all-sit-first
 use Rattle.theory_engine.specs.MemoLaws.{is-constant, Memory, memory-step}
 use Rattle.theory_engine.specs.Noting.{online-step, online-met, came-kept, memory-note, part-noted, told-leads}
 use Rattle.theory_engine.specs.Recalling.{Recalled, unnoted, alikePart, notedIn, recallIn}
+use Rattle.node_records.specs.declared.WriterRecord.{WriterRecord}
 
 -- ---- A second half that is like the first ----------------------------------------------------
 
 -- the constant c, whatever stamp is put beside it
-block-again : (n size d i at m : ℕ) (o T p w : List ℕ) (f : ℕ → Bool) (t : List (List ℕ)) (out : List ℕ) (progress : Progress)
+block-again : (n size d i at m : ℕ) (o T p w : List ℕ) (f : ℕ → Bool) (t : List WriterRecord) (out : List ℕ) (progress : Progress)
     (s : State) (c : Bool) (g : ℕ) → 0 < i → i + d ≡ suc n → Stands n size o T t out progress s → take m w ≡ p
     → ((j : ℕ) → at ≤ j → j < at + 2 ^ d → f j ≡ c)
     → Leads n size i m o T p w (kept (numberHalf 0 g 0 c false) t out w progress) (online size d i at p f s)
@@ -60,7 +61,7 @@ came-terminal i h x c e z = go (h .temporary) (h .number) e z (c .ref)
 
 -- The first half, of level i, came to a number or a constant (h); the second begins at word `mid` and is alike. q: m bytes of w, which
 -- wait then
-alike-leads : (n size d i at mid m : ℕ) (o T p q w : List ℕ) (f : ℕ → Bool) (t : List (List ℕ)) (out : List ℕ) (progress : Progress)
+alike-leads : (n size d i at mid m : ℕ) (o T p q w : List ℕ) (f : ℕ → Bool) (t : List WriterRecord) (out : List ℕ) (progress : Progress)
     (s : State) (h : Half) → Sound s → Normal n s → 0 < i → i + d ≡ suc n →
     let x = online size d i at p f s in
     Came i h x → h .temporary ≡ false → x .complement ≡ f mid → ((j : ℕ) → j < 2 ^ d → f (mid + j) ≡ f (at + j))
@@ -106,7 +107,7 @@ pub record Recalls (n : ℕ) (op : List Bool → Bool) (size i m : ℕ) (o T p w
 -- with d options left
 abbrev RecallsAll : (List ℕ → ℕ) → (List Bool → Bool) → ℕ → ℕ → ℕ → ℕ → List ℕ → Type 0
 RecallsAll hash op n size d i o =
-    (at m : ℕ) (T p w : List ℕ) (xs : List Source) (gs : List (ℕ → Bool)) (f : ℕ → Bool) (μ : List (List ℕ)) (t : List (List ℕ))
+    (at m : ℕ) (T p w : List ℕ) (xs : List Source) (gs : List (ℕ → Bool)) (f : ℕ → Bool) (μ : List (List ℕ)) (t : List WriterRecord)
     (out : List ℕ) (progress : Progress) (s : State) → Stands n size o T t out progress s → take m w ≡ p → m + levelRoom * d + endRoom ≤ length w
     → ((k : ℕ) → stamp (s .table) k + 2 ^ d ≤ 4294967296) → SitsAll i xs → ShowsAll xs d i gs → Makes op d at gs f
     → Memory n op (tablesOf xs) s μ
@@ -126,7 +127,7 @@ second-goes size i m v a b e = go (b .progress .full) refl e
 
 module _ (hash : List ℕ → ℕ) (op : List Bool → Bool) (n size d i : ℕ) (o : List ℕ) (real : 0 < i) (deep : i + suc d ≡ suc n)
     (small : n ≤ optionLimit) (few : size ≤ tableLimit) (half : RecallsAll hash op n size d (suc i) o) (at m : ℕ) (T p w : List ℕ)
-    (xs : List Source) (gs : List (ℕ → Bool)) (f : ℕ → Bool) (μ : List (List ℕ)) (t : List (List ℕ)) (out : List ℕ) (progress : Progress)
+    (xs : List Source) (gs : List (ℕ → Bool)) (f : ℕ → Bool) (μ : List (List ℕ)) (t : List WriterRecord) (out : List ℕ) (progress : Progress)
     (s : State) (st : Stands n size o T t out progress s) (here : take m w ≡ p) (room : m + levelRoom * suc d + endRoom ≤ length w)
     (young : (k : ℕ) → stamp (s .table) k + 2 ^ suc d ≤ 4294967296) (sit : SitsAll i xs) (sh : ShowsAll xs (suc d) i gs)
     (mk : Makes op (suc d) at gs f) (mem : Memory n op (tablesOf xs) s μ) where
@@ -383,7 +384,7 @@ recalls hash op n size (suc d) i o real deep small few =
 
 -- the walk over stored nodes leads to what the walk of Online knows, and its memo stays true
 pub recall-leads : (hash : List ℕ → ℕ) (op : List Bool → Bool) (n size d i at m : ℕ) (o T p w : List ℕ) (xs : List Source)
-    (gs : List (ℕ → Bool)) (f : ℕ → Bool) (μ : List (List ℕ)) (t : List (List ℕ)) (out : List ℕ) (progress : Progress) (s : State)
+    (gs : List (ℕ → Bool)) (f : ℕ → Bool) (μ : List (List ℕ)) (t : List WriterRecord) (out : List ℕ) (progress : Progress) (s : State)
     → 0 < i → i + d ≡ suc n → n ≤ optionLimit → size ≤ tableLimit → Stands n size o T t out progress s → take m w ≡ p
     → m + levelRoom * d + endRoom ≤ length w → ((k : ℕ) → stamp (s .table) k + 2 ^ d ≤ 4294967296) → SitsAll i xs → ShowsAll xs d i gs
     → Makes op d at gs f → Memory n op (tablesOf xs) s μ

@@ -10,6 +10,7 @@ use Rattle.theory_engine.specs.Pending.{pushAll, waitIn}
 use Rattle.theory_engine.specs.Engine.{Half, Progress, Walked, constantHalf, numberHalf, kept, secondIn}
 use Rattle.theory_engine.specs.Applying.{Source, firstSources, secondSources, firstValues, allPass, fixed}
 use Rattle.theory_engine.specs.Memo.{entryFor, lookUpIn, toldHalf, rememberIn}
+use Rattle.node_records.specs.declared.WriterRecord.{WriterRecord}
 
 -- after a part: the engine, and the memo
 pub record Recalled : Type 0 where
@@ -32,7 +33,7 @@ notedIn hash i xs x μ =
 
 -- The part of level i with d options left, after m bytes that wait, with the memo μ; op: what the inputs' decisions come to. A second
 -- half that is like a first half which came to a number or a constant is that again
-unfoldable pub recallIn : (List ℕ → ℕ) → (List Bool → Bool) → ℕ → ℕ → ℕ → ℕ → List Source → List (List ℕ) → List (List ℕ) → List ℕ
+unfoldable pub recallIn : (List ℕ → ℕ) → (List Bool → Bool) → ℕ → ℕ → ℕ → ℕ → List Source → List (List ℕ) → List WriterRecord → List ℕ
     → List ℕ → Progress → Recalled
 unfolding fixed
 recallIn hash op size zero i m xs μ t out w progress = unnoted (kept (constantHalf (op (firstValues xs))) t out w progress) μ

@@ -8,35 +8,37 @@ use native.Mathlib.Omega.{arith}
 use lib.Dec.{eqb}
 use borrow.Author.Tests.{eq-eqb, ne-eqb, lt-ltb, le-ltb}
 use Rattle.theory_writing.specs.Links.{stops}
-use Rattle.theory_engine.specs.Cells.{cell}
+use Rattle.theory_engine.specs.Cells.{cell, levelField, firstField, secondField, complementField, parentsField, queueField, bucketField}
 use Rattle.theory_engine.specs.Recycling.{Lane, lane, linkIn, unlinkIn, freeOf, fitsAt, searchIn, fewerIn, moreIn, orphanIn, orphansIn}
 use Rattle.theory_engine.specs.Recycling.{releaseIn, adoptIn, placeIn, storeIn, nextIn}
+use Rattle.node_records.specs.declared.WriterRecord.{WriterRecord}
 
 -- a cell of records that are still the same
-pub cell-got : (t u : List (List ℕ)) (j k g : ℕ) → g ≡ cell u j k → u ≡ t → g ≡ cell t j k
-cell-got t u j k g e d = e ∙ ap (λ (x : List (List ℕ)). cell x j k) d
+pub cell-got : (t u : List WriterRecord) (j k g : ℕ) → g ≡ cell u j k → u ≡ t → g ≡ cell t j k
+cell-got t u j k g e d = e ∙ ap (λ (x : List WriterRecord). cell x j k) d
 
 -- ---- The number to reuse ---------------------------------------------------------------------
 
-module _ (t : List (List ℕ)) (x a b : ℕ) where
+module _ (t : List WriterRecord) (x a b : ℕ) where
   pub free-first : stops a b x ≡ true → x ≡ freeOf t x a b
   unfolding freeOf
   free-first e = rw e refl
 
-  pub free-second : (y : ℕ) → stops a b x ≡ false → y ≡ cell t 6 x → stops a b y ≡ true → y ≡ freeOf t x a b
+  pub free-second : (y : ℕ) → stops a b x ≡ false → y ≡ cell t queueField x → stops a b y ≡ true → y ≡ freeOf t x a b
   unfolding freeOf
   free-second y e p d =
-      p ∙ ap (λ (u : Bool). cond u (cell t 6 x) (cell t 6 (cell t 6 x))) (sym (ap (stops a b) (sym p) ∙ d))
-      ∙ ap (λ (u : Bool). cond u x (cond (stops a b (cell t 6 x)) (cell t 6 x) (cell t 6 (cell t 6 x)))) (sym e)
+      p ∙ ap (λ (u : Bool). cond u (cell t queueField x) (cell t queueField (cell t queueField x))) (sym (ap (stops a b) (sym p) ∙ d))
+      ∙ ap (λ (u : Bool). cond u x (cond (stops a b (cell t queueField x)) (cell t queueField x) (cell t queueField (cell t queueField x)))) (sym e)
 
-  pub free-third : (y : ℕ) → stops a b x ≡ false → y ≡ cell t 6 x → stops a b y ≡ false → cell t 6 y ≡ freeOf t x a b
+  pub free-third : (y : ℕ) → stops a b x ≡ false → y ≡ cell t queueField x → stops a b y ≡ false → cell t queueField y ≡ freeOf t x a b
   unfolding freeOf
   free-third y e p d =
-      ap (cell t 6) p ∙ ap (λ (u : Bool). cond u (cell t 6 x) (cell t 6 (cell t 6 x))) (sym (ap (stops a b) (sym p) ∙ d))
-      ∙ ap (λ (u : Bool). cond u x (cond (stops a b (cell t 6 x)) (cell t 6 x) (cell t 6 (cell t 6 x)))) (sym e)
+      ap (cell t queueField) p
+      ∙ ap (λ (u : Bool). cond u (cell t queueField x) (cell t queueField (cell t queueField x))) (sym (ap (stops a b) (sym p) ∙ d))
+      ∙ ap (λ (u : Bool). cond u x (cond (stops a b (cell t queueField x)) (cell t queueField x) (cell t queueField (cell t queueField x)))) (sym e)
 
 -- the number for a new node
-module _ (t : List (List ℕ)) (z f size a b : ℕ) where
+module _ (t : List WriterRecord) (z f size a b : ℕ) where
   pub next-fresh : z < size → z + 1 ≡ nextIn t z f size a b
   unfolding nextIn
   next-fresh h = rw (lt-ltb z size h) refl
@@ -47,20 +49,20 @@ module _ (t : List (List ℕ)) (z f size a b : ℕ) where
 
 -- ---- Looking up ------------------------------------------------------------------------------
 
-module _ (t : List (List ℕ)) (k i a b c : ℕ) where
-  pub fits-level : cell t 0 k ≢ i → false ≡ fitsAt t k i a b c
-  fits-level d = rw (ne-eqb (cell t 0 k) i d) refl
+module _ (t : List WriterRecord) (k i a b c : ℕ) where
+  pub fits-level : cell t levelField k ≢ i → false ≡ fitsAt t k i a b c
+  fits-level d = rw (ne-eqb (cell t levelField k) i d) refl
 
-  pub fits-first : cell t 0 k ≡ i → cell t 1 k ≢ a → false ≡ fitsAt t k i a b c
-  fits-first e d = rw (eq-eqb (cell t 0 k) i e, ne-eqb (cell t 1 k) a d) refl
+  pub fits-first : cell t levelField k ≡ i → cell t firstField k ≢ a → false ≡ fitsAt t k i a b c
+  fits-first e d = rw (eq-eqb (cell t levelField k) i e, ne-eqb (cell t firstField k) a d) refl
 
-  pub fits-second : cell t 0 k ≡ i → cell t 1 k ≡ a → cell t 2 k ≢ b → false ≡ fitsAt t k i a b c
-  fits-second e f d = rw (eq-eqb (cell t 0 k) i e, eq-eqb (cell t 1 k) a f, ne-eqb (cell t 2 k) b d) refl
+  pub fits-second : cell t levelField k ≡ i → cell t firstField k ≡ a → cell t secondField k ≢ b → false ≡ fitsAt t k i a b c
+  fits-second e f d = rw (eq-eqb (cell t levelField k) i e, eq-eqb (cell t firstField k) a f, ne-eqb (cell t secondField k) b d) refl
 
-  pub fits-last : cell t 0 k ≡ i → cell t 1 k ≡ a → cell t 2 k ≡ b → eqb (cell t 3 k) c ≡ fitsAt t k i a b c
-  fits-last e f g = rw (eq-eqb (cell t 0 k) i e, eq-eqb (cell t 1 k) a f, eq-eqb (cell t 2 k) b g) refl
+  pub fits-last : cell t levelField k ≡ i → cell t firstField k ≡ a → cell t secondField k ≡ b → eqb (cell t complementField k) c ≡ fitsAt t k i a b c
+  fits-last e f g = rw (eq-eqb (cell t levelField k) i e, eq-eqb (cell t firstField k) a f, eq-eqb (cell t secondField k) b g) refl
 
-module _ (t : List (List ℕ)) where
+module _ (t : List WriterRecord) where
   pub search-none : (m k i a b c : ℕ) → m ≡ 0 → 0 ≡ searchIn t m k i a b c
   unfolding searchIn
   search-none zero k i a b c e = refl
@@ -77,44 +79,44 @@ module _ (t : List (List ℕ)) where
   search-hit (suc m) k i a b c d n e = rw (ne-eqb k 0 n, e) refl
 
   pub search-on : (m k i a b c : ℕ) → m ≢ 0 → k ≢ 0 → fitsAt t k i a b c ≡ false
-      → searchIn t (m - 1) (cell t 8 k) i a b c ≡ searchIn t m k i a b c
+      → searchIn t (m - 1) (cell t bucketField k) i a b c ≡ searchIn t m k i a b c
   unfolding searchIn
   search-on zero k i a b c d n e = absurd (d refl)
   search-on (suc m) k i a b c d n e =
       let p : suc m - 1 ≡ m = omega arith in
-      ap (λ (l : ℕ). searchIn t l (cell t 8 k) i a b c) p
-      ∙ ap (λ (u : Bool). cond u k (searchIn t m (cell t 8 k) i a b c)) (sym e)
-      ∙ ap (λ (u : Bool). cond u 0 (cond (fitsAt t k i a b c) k (searchIn t m (cell t 8 k) i a b c))) (sym (ne-eqb k 0 n))
+      ap (λ (l : ℕ). searchIn t l (cell t bucketField k) i a b c) p
+      ∙ ap (λ (u : Bool). cond u k (searchIn t m (cell t bucketField k) i a b c)) (sym e)
+      ∙ ap (λ (u : Bool). cond u 0 (cond (fitsAt t k i a b c) k (searchIn t m (cell t bucketField k) i a b c))) (sym (ne-eqb k 0 n))
 
 -- ---- Children --------------------------------------------------------------------------------
 
-module _ (t : List (List ℕ)) (f l c : ℕ) where
+module _ (t : List WriterRecord) (f l c : ℕ) where
   pub orphan-none : c ≡ 0 → lane t f l ≡ orphanIn t f l c
   unfolding orphanIn
   orphan-none e = rw (eq-eqb c 0 e) refl
 
-  pub orphan-kept : c ≢ 0 → cell t 5 c ≢ 0 → lane t f l ≡ orphanIn t f l c
+  pub orphan-kept : c ≢ 0 → cell t parentsField c ≢ 0 → lane t f l ≡ orphanIn t f l c
   unfolding orphanIn
-  orphan-kept d e = rw (ne-eqb c 0 d, ne-eqb (cell t 5 c) 0 e) refl
+  orphan-kept d e = rw (ne-eqb c 0 d, ne-eqb (cell t parentsField c) 0 e) refl
 
-  pub orphan-joins : c ≢ 0 → cell t 5 c ≡ 0 → linkIn t 6 f l c ≡ orphanIn t f l c
+  pub orphan-joins : c ≢ 0 → cell t parentsField c ≡ 0 → linkIn t queueField f l c ≡ orphanIn t f l c
   unfolding orphanIn
-  orphan-joins d e = rw (ne-eqb c 0 d, eq-eqb (cell t 5 c) 0 e) refl
+  orphan-joins d e = rw (ne-eqb c 0 d, eq-eqb (cell t parentsField c) 0 e) refl
 
   pub adopt-none : c ≡ 0 → lane (moreIn t c) f l ≡ adoptIn t f l c
   unfolding adoptIn
   adopt-none e = rw (eq-eqb c 0 e) refl
 
-  pub adopt-kept : c ≢ 0 → cell t 5 c ≢ 0 → lane (moreIn t c) f l ≡ adoptIn t f l c
+  pub adopt-kept : c ≢ 0 → cell t parentsField c ≢ 0 → lane (moreIn t c) f l ≡ adoptIn t f l c
   unfolding adoptIn
-  adopt-kept d e = rw (ne-eqb c 0 d, ne-eqb (cell t 5 c) 0 e) refl
+  adopt-kept d e = rw (ne-eqb c 0 d, ne-eqb (cell t parentsField c) 0 e) refl
 
-  pub adopt-leaves : c ≢ 0 → cell t 5 c ≡ 0 → unlinkIn (moreIn t c) 6 f l c ≡ adoptIn t f l c
+  pub adopt-leaves : c ≢ 0 → cell t parentsField c ≡ 0 → unlinkIn (moreIn t c) queueField f l c ≡ adoptIn t f l c
   unfolding adoptIn
-  adopt-leaves d e = rw (ne-eqb c 0 d, eq-eqb (cell t 5 c) 0 e) refl
+  adopt-leaves d e = rw (ne-eqb c 0 d, eq-eqb (cell t parentsField c) 0 e) refl
 
 -- the first of two children, and the second if it is another
-module _ (t : List (List ℕ)) (f l x y : ℕ) (e : Lane) (o : e ≡ orphanIn (fewerIn (fewerIn t x) y) f l x) where
+module _ (t : List WriterRecord) (f l x y : ℕ) (e : Lane) (o : e ≡ orphanIn (fewerIn (fewerIn t x) y) f l x) where
   pub orphans-same : x ≡ y → e ≡ orphansIn t f l x y
   unfolding orphansIn
   orphans-same d = o ∙ ap (λ (u : Bool). cond u (orphanIn (fewerIn (fewerIn t x) y) f l x) (second (orphanIn (fewerIn (fewerIn t x) y) f l x)))
@@ -134,7 +136,7 @@ module _ (t : List (List ℕ)) (f l x y : ℕ) (e : Lane) (o : e ≡ orphanIn (f
 
 -- ---- Storing ---------------------------------------------------------------------------------
 
-module _ (t : List (List ℕ)) (z f l k i a b c : ℕ) where
+module _ (t : List WriterRecord) (z f l k i a b c : ℕ) where
   pub store-next : z < k → placeIn t f l k i a b c ≡ storeIn t z f l k i a b c
   unfolding storeIn
   store-next h = rw (lt-ltb z k h) refl

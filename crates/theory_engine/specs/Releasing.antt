@@ -16,42 +16,41 @@ use Rattle.theory_reading.specs.ParentCounts.{parents, none-parents, parents-no
 use Rattle.theory_writing.specs.UniqueTable.{State, without, freed, placed}
 use Rattle.theory_writing.specs.Storing.{Parentless, Free, Sound, first-child, second-child}
 use Rattle.theory_writing.specs.Queue.{Queued, all-without′, hasParent-all}
-use Rattle.theory_engine.specs.Cells.{cell, Wide}
+use Rattle.theory_engine.specs.Cells.{cell, stampField, parentsField, queueField, bucketField}
 use Rattle.theory_engine.specs.Recycling.{Lane, lane, unlinkIn, removeIn, orphansIn, releaseIn}
-use Rattle.theory_engine.specs.Buckets.{Buckets, buckets-same, buckets-next, remove-wide, remove-length, remove-other, buckets-unlink}
+use Rattle.theory_engine.specs.Buckets.{Buckets, buckets-same, buckets-next, remove-length, remove-other, buckets-unlink}
 use Rattle.theory_engine.specs.Freed.{parents-rest, length-next, length-again, freed-fresh}
 use Rattle.theory_engine.specs.Keeping.{HasNode, Keeps, node-same}
 use Rattle.theory_engine.specs.QueueCells.{Stays, stays-wider, stays-unlink, Held, held-same, held-unlink, stays-orphans, orphans-count}
 use Rattle.theory_engine.specs.QueueCells.{held-orphans}
+use Rattle.node_records.specs.declared.WriterRecord.{WriterRecord}
 
 -- ---- A number with no node -------------------------------------------------------------------
 
 -- The records t keep the state s but for the node of number k: k is not in the queue, in no bucket, and no parent. y numbers are given
 -- out, k among them
-pub record Ready (t : List (List ℕ)) (y f l k : ℕ) (s : State) : Type 0 where
-  pub wide : Wide t
+pub record Ready (t : List WriterRecord) (y f l k : ℕ) (s : State) : Type 0 where
   pub long : tableLimit ≤ length t
   pub few : y ≤ tableLimit
   pub among : k ≤ y
   pub given : (x : Node) → length (placed (s .table) k x) ≡ suc y
   pub nodes : (c : ℕ) → 0 < c → c ≤ y → c ≢ k → HasNode t c (node (s .table) c)
-  pub stamped : cell t 4 k ≡ stamp (s .table) k
-  pub fresh : (c : ℕ) → y < c → (cell t 4 c ≡ 0) × (cell t 5 c ≡ 0)
-  pub counts : (c : ℕ) → 0 < c → c ≤ y → cell t 5 c ≡ parents (set (s .table) k noNode) c
+  pub stamped : cell t stampField k ≡ stamp (s .table) k
+  pub fresh : (c : ℕ) → y < c → (cell t stampField c ≡ 0) × (cell t parentsField c ≡ 0)
+  pub counts : (c : ℕ) → 0 < c → c ≤ y → cell t parentsField c ≡ parents (set (s .table) k noNode) c
   pub queue : Held (lane t f l) (freed s k)
   pub buckets : Buckets t y k
 
 -- the buckets stay if only counts and the queue change
-pub buckets-stay : (t u : List (List ℕ)) (z j : ℕ) → Stays 5 8 t u → Buckets t z j → Buckets u z j
+pub buckets-stay : (t u : List WriterRecord) (z j : ℕ) → Stays parentsField bucketField t u → Buckets t z j → Buckets u z j
 buckets-stay t u z j x =
     buckets-same t u z j (x .long) (λ i k l. x .cells i k (inr l)) (λ i k l m. x .cells i k (inl (omega (arith, l))))
 
 -- the next number is ready
-pub fresh-ready : (t : List (List ℕ)) (z f l : ℕ) (s : State) → Keeps t z f l s → Sound s → Parentless (s .table) (suc z)
+pub fresh-ready : (t : List WriterRecord) (z f l : ℕ) (s : State) → Keeps t z f l s → Sound s → Parentless (s .table) (suc z)
     → suc z ≤ tableLimit → Ready t (suc z) f l (suc z) s
 fresh-ready t z f l s h so alone b =
     record {
-      wide = h .wide;
       long = h .long;
       few = b;
       among = omega arith;
@@ -70,15 +69,15 @@ fresh-ready t z f l s h so alone b =
     past = omega (arith, h .given)
 
     -- and has no parent
-    told : (c : ℕ) → 0 < c → c ≤ suc z → cell t 5 c ≡ parents (s .table) c
+    told : (c : ℕ) → 0 < c → c ≤ suc z → cell t parentsField c ≡ parents (s .table) c
     told c r m = ⊎-elim
-        (λ (e : c ≡ suc z). ap (cell t 5) e ∙ h .fresh (suc z) (omega arith) .1
+        (λ (e : c ≡ suc z). ap (cell t parentsField) e ∙ h .fresh (suc z) (omega arith) .1
         ∙ sym (ap (parents (s .table)) e ∙ none-parents (s .table) (suc z) (hasParent-all (s .table) (suc z) alone)))
         (λ (d : c ≢ suc z). h .counts c r (omega (arith, m, d))) (decide-eq c (suc z))
 
 -- ---- A number is taken from its node ---------------------------------------------------------
 
-module _ (t : List (List ℕ)) (z f l k : ℕ) (s : State) (h : Keeps t z f l s) (so : Sound s) (qd : Queued s)
+module _ (t : List WriterRecord) (z f l k : ℕ) (s : State) (h : Keeps t z f l s) (so : Sound s) (qd : Queued s)
     (alone : Parentless (s .table) k) (r : 0 < k) (m : k ≤ z) where
   -- the node
   abbrev o : Node
@@ -90,10 +89,10 @@ module _ (t : List (List ℕ)) (z f l k : ℕ) (s : State) (h : Keeps t z f l s)
 
   -- k has left the queue
   abbrev e : Lane
-  e = unlinkIn t 6 f l k
+  e = unlinkIn t queueField f l k
 
   -- and its bucket
-  abbrev u : List (List ℕ)
+  abbrev u : List WriterRecord
   u = removeIn (e .table) k
 
   -- and its children have lost a parent
@@ -112,16 +111,13 @@ module _ (t : List (List ℕ)) (z f l k : ℕ) (s : State) (h : Keeps t z f l s)
       (cells-u 2 k (omega arith) ∙ h .nodes k r m .second)
 
   -- the nodes stay
-  stays-g : Stays 5 8 u (g .table)
+  stays-g : Stays parentsField bucketField u (g .table)
   stays-g = stays-orphans u (e .first) (e .last) (o .first) (o .second)
 
   cells-g : (i c : ℕ) → i < 5 → cell (g .table) i c ≡ cell t i c
   cells-g i c b = stays-g .cells i c (inl b) ∙ cells-u i c (omega arith)
 
   -- each record has twelve cells, there are as many records
-  wide-u : Wide u
-  wide-u = remove-wide (e .table) k (stays-unlink t f l k .wide (h .wide))
-
   long-u : length u ≡ length t
   long-u = remove-length (e .table) k ∙ stays-unlink t f l k .long
 
@@ -133,13 +129,13 @@ module _ (t : List (List ℕ)) (z f l k : ℕ) (s : State) (h : Keeps t z f l s)
   second-known = omega (arith, so .children k (o .second) (second-child o), h .given)
 
   -- the counts, which are those of the table without the node
-  counts-g : (c : ℕ) → 0 < c → cell (g .table) 5 c ≡ cell t 5 c - bit (eqb (o .first) c) - bit (eqb (o .second) c)
+  counts-g : (c : ℕ) → 0 < c → cell (g .table) parentsField c ≡ cell t parentsField c - bit (eqb (o .first) c) - bit (eqb (o .second) c)
   counts-g c p =
-      orphans-count u (e .first) (e .last) (o .first) (o .second) wide-u
+      orphans-count u (e .first) (e .last) (o .first) (o .second)
       (omega (arith, first-known, h .few, h .long, long-u)) (omega (arith, second-known, h .few, h .long, long-u)) c p
       ∙ ap (λ (a : ℕ). a - bit (eqb (o .first) c) - bit (eqb (o .second) c)) (cells-u 5 c (omega arith))
 
-  counted : (c : ℕ) → 0 < c → c ≤ z → cell (g .table) 5 c ≡ parents rest c
+  counted : (c : ℕ) → 0 < c → c ≤ z → cell (g .table) parentsField c ≡ parents rest c
   counted c p q = omega (arith, counts-g c p, h .counts c p q, parents-rest (s .table) k c p)
 
   -- a child of the node is not in the queue
@@ -148,32 +144,31 @@ module _ (t : List (List ℕ)) (z f l k : ℕ) (s : State) (h : Keeps t z f l s)
       ∙ all-has (Free (s .table)) c (without k (s .queue)) (all-without′ (Free (s .table)) k (s .queue) (so .waiting)) j .alone k))
 
   -- a count says whether there is a parent left
-  told : (c : ℕ) → c ≤ z → 0 < c → hasParent rest c ≡ not (eqb (cell (g .table) 5 c) 0)
+  told : (c : ℕ) → c ≤ z → 0 < c → hasParent rest c ≡ not (eqb (cell (g .table) parentsField c) 0)
   told c q p = parents-none rest c ∙ ap (λ (a : ℕ). not (eqb a 0)) (sym (counted c p q))
 
   -- the queue and the buckets
   queue-g : Held g (freed s k)
   unfolding freed
   queue-g =
-      held-orphans u (e .first) (e .last) (o .first) (o .second) (without k (s .queue)) rest wide-u
+      held-orphans u (e .first) (e .last) (o .first) (o .second) (without k (s .queue)) rest
       (omega (arith, first-known, h .few)) (omega (arith, second-known, h .few))
       (λ p. child-absent (o .first) (first-child o)) (λ p. child-absent (o .second) (second-child o))
       (told (o .first) first-known) (told (o .second) second-known)
       (held-same (e .table) u (e .first) (e .last) (without k (s .queue)) (remove-length (e .table) k)
       (λ i c a b. remove-other (e .table) k i c b)
-      (held-unlink t f l k (s .queue) (h .wide) (qd .complete k r (omega (arith, m, h .given)) alone) (h .queue)))
+      (held-unlink t f l k (s .queue) (qd .complete k r (omega (arith, m, h .given)) alone) (h .queue)))
 
   buckets-g : Buckets (g .table) z k
   buckets-g =
       buckets-stay u (g .table) z k stays-g
-      (buckets-unlink (e .table) z k (stays-unlink t f l k .wide (h .wide)) (omega (arith, h .long, stays-unlink t f l k .long))
+      (buckets-unlink (e .table) z k (omega (arith, h .long, stays-unlink t f l k .long))
       (h .few) r m (buckets-stay t (e .table) z 0
-      (stays-wider 6 8 5 8 t (e .table) (omega arith) (omega arith) (stays-unlink t f l k)) (h .buckets)))
+      (stays-wider queueField bucketField parentsField bucketField t (e .table) (omega arith) (omega arith) (stays-unlink t f l k)) (h .buckets)))
 
   -- k is ready
   pub release-ready : Ready (releaseIn t f l k .table) z (releaseIn t f l k .first) (releaseIn t f l k .last) k s
   release-ready = subst⁻¹ (λ (x : Lane). Ready (x .table) z (x .first) (x .last) k s) released (record {
-    wide = stays-g .wide wide-u;
     long = omega (arith, h .long, long-u, stays-g .long);
     few = h .few;
     among = m;

@@ -26,7 +26,7 @@ use Rattle.theory_writing.specs.Normal.{start-normal}
 use Rattle.theory_writing.specs.Queue.{start-queued}
 use Rattle.theory_writing.specs.Online.{Went, waiting, online}
 use Rattle.theory_writing.specs.OnlineRuns.{run-online}
-use Rattle.theory_engine.specs.Cells.{cell, Wide}
+use Rattle.theory_engine.specs.Cells.{cell}
 use Rattle.theory_engine.specs.Pending.{Waiting, pushAll, sentTo, writtenTo, partRoom, waitingLimit}
 use Rattle.theory_engine.specs.PendingLaws.{number-length, waiting-room, sent-output, sent-written, sent-full}
 use Rattle.theory_engine.specs.Engine.{Walked, Sent, sendText, walkIn, progressAfter, endIn, doneIn, streamIn}
@@ -34,6 +34,7 @@ use Rattle.theory_engine.specs.Keeping.{keeps-start}
 use Rattle.theory_engine.specs.Leading.{Stands, Leads}
 use Rattle.theory_engine.specs.Meeting.{Fits, online-fits}
 use Rattle.theory_engine.specs.Walking.{Ready, partIn, push-ready, part-ready, tilde-length, walk-leads}
+use Rattle.node_records.specs.declared.WriterRecord.{WriterRecord}
 
 -- ---- What goes out ---------------------------------------------------------------------------
 
@@ -114,13 +115,13 @@ head-length size few =
     omega (arith, few, length-append (decimal size) (lineFeed ∷ []), number-length size few)
 
 -- the writer stands at the start, after the size and its LF
-pub start-stands : (n size : ℕ) (o : List ℕ) (t : List (List ℕ)) (x : Sent) → Wide t → tableLimit ≤ length t
+pub start-stands : (n size : ℕ) (o : List ℕ) (t : List WriterRecord) (x : Sent) → tableLimit ≤ length t
     → ((i k : ℕ) → cell t i k ≡ 0) → Wrote o (head size) x → x .full ≡ false
     → Stands n size o (head size) t (x .output) (progressAfter x) start
-start-stands n size o t x wide long zeros h f =
+start-stands n size o t x long zeros h f =
     let fits = ltb-false (length o) (length (head size)) (sym (h .full) ∙ f) in
     record {
-      keeps = keeps-start t wide long zeros;
+      keeps = keeps-start t long zeros;
       sound = start-sound;
       normal = start-normal n;
       queued = start-queued;
@@ -149,11 +150,11 @@ unfolding writeText
 write-online n size v = run-online n size (truthAt v)
 
 -- the engine leaves in the output what the text leaves there
-stream-wrote : (n size : ℕ) (v : List ℕ) (t : List (List ℕ)) (out w : List ℕ) → n ≤ truthTableMost → size ≤ tableLimit → Wide t
-    → tableLimit ≤ length t → ((i k : ℕ) → cell t i k ≡ 0) → length w ≡ waitingLimit
+stream-wrote : (n size : ℕ) (v : List ℕ) (t : List WriterRecord) (out w : List ℕ) → n ≤ truthTableMost → size ≤ tableLimit → tableLimit ≤ length t
+    → ((i k : ℕ) → cell t i k ≡ 0) → length w ≡ waitingLimit
     → Wrote out (writeText n size v) (streamIn n size v t out w)
 unfolding streamIn
-stream-wrote n size v t out w small few wide long zeros room = go (x .full) refl
+stream-wrote n size v t out w small few long zeros room = go (x .full) refl
   where
     options : n ≤ optionLimit
     options = omega (arith, small, truth-options)
@@ -195,7 +196,7 @@ stream-wrote n size v t out w small few wide long zeros room = go (x .full) refl
         (walkIn v size n 1 at (m .count) t (x .output) (m .bytes) (progressAfter x)) (online size n 1 at p (truthAt v) start))
         (zero-mul (2 ^ n))
         (walk-leads v n size n 1 0 (m .count) out (head size) p (m .bytes) t (x .output) (progressAfter x) start (omega arith)
-        (omega arith) options few (start-stands n size out t x wide long zeros sent f) (begun .text)
+        (omega arith) options few (start-stands n size out t x long zeros sent f) (begun .text)
         (omega (arith, begun .count, tilde-length (truthAt v 0), begun .room, ready .room, room, waiting-room n options)) (start-young n small))
 
     go : (u : Bool) → x .full ≡ u → Wrote out (writeText n size v) (cond u x (doneIn (m .count) r))
@@ -207,10 +208,10 @@ stream-wrote n size v t out w small few wide long zeros room = go (x .full) refl
         (write-online n size v) (leads f)
 
 -- how much is written, whether more was sent than the output holds, and the output
-pub stream-text : (n size : ℕ) (v : List ℕ) (t : List (List ℕ)) (out w : List ℕ) → n ≤ truthTableMost → size ≤ tableLimit → Wide t
-    → tableLimit ≤ length t → ((i k : ℕ) → cell t i k ≡ 0) → length w ≡ waitingLimit →
+pub stream-text : (n size : ℕ) (v : List ℕ) (t : List WriterRecord) (out w : List ℕ) → n ≤ truthTableMost → size ≤ tableLimit → tableLimit ≤ length t
+    → ((i k : ℕ) → cell t i k ≡ 0) → length w ≡ waitingLimit →
     let x = streamIn n size v t out w in
     let y = writeText n size v in
     (x .written ≡ length (writtenBytes y out)) × (x .full ≡ ltb (length out) (length y)) × (x .output ≡ outputAfter y out)
-stream-text n size v t out w small few wide long zeros room =
-    let h = stream-wrote n size v t out w small few wide long zeros room in (h .written, h .full, h .output)
+stream-text n size v t out w small few long zeros room =
+    let h = stream-wrote n size v t out w small few long zeros room in (h .written, h .full, h .output)

@@ -34,6 +34,7 @@ use Rattle.theory_engine.specs.Blocks.{block-no, block-yes, block-repeat
 use Rattle.theory_engine.specs.Leading.{Stands, After, Leads}
 use Rattle.theory_engine.specs.Meeting.{WroteAs, Fits, Waited, wait-came, online-fits, meet-leads}
 use Rattle.theory_engine.specs.Again.{still-leads, repeat-leads}
+use Rattle.node_records.specs.declared.WriterRecord.{WriterRecord}
 
 -- ---- What two halves send --------------------------------------------------------------------
 
@@ -360,7 +361,7 @@ module _ (n size d i at m : ℕ) (o T p w : List ℕ) (f : ℕ → Bool) (s : St
 -- ---- The walk over a truth table -------------------------------------------------------------
 
 -- a part that is the constant c
-pub constant-leads : (n size i m : ℕ) (o T p w : List ℕ) (t : List (List ℕ)) (out : List ℕ) (progress : Progress) (s : State) (c : Bool)
+pub constant-leads : (n size i m : ℕ) (o T p w : List ℕ) (t : List WriterRecord) (out : List ℕ) (progress : Progress) (s : State) (c : Bool)
     → Stands n size o T t out progress s → take m w ≡ p
     → Leads n size i m o T p w (kept (constantHalf c) t out w progress)
     (record { ref = terminal; complement = c; wrote = false; state = s; sent = [] })
@@ -369,7 +370,7 @@ constant-leads n size i m o T p w t out progress s c st here =
     (record { ref = refl; number = refl; skipped = refl; complement = refl; wrote = refl })
 
 -- a part whose words are all c
-pub block-leads : (n size d i at m : ℕ) (o T p w : List ℕ) (f : ℕ → Bool) (t : List (List ℕ)) (out : List ℕ) (progress : Progress)
+pub block-leads : (n size d i at m : ℕ) (o T p w : List ℕ) (f : ℕ → Bool) (t : List WriterRecord) (out : List ℕ) (progress : Progress)
     (s : State) (c : Bool) → 0 < i → i + d ≡ suc n → Stands n size o T t out progress s → take m w ≡ p
     → ((j : ℕ) → at ≤ j → j < at + 2 ^ d → f j ≡ c)
     → Leads n size i m o T p w (kept (constantHalf c) t out w progress) (online size d i at p f s)
@@ -392,7 +393,7 @@ second-at c d at e =
 -- with d options left, the walk over the part of level i that begins at word `at` leads to what the walk of Online knows
 abbrev Walks : List ℕ → ℕ → ℕ → ℕ → ℕ → List ℕ → Type 0
 Walks v n size d i o =
-    (c at m : ℕ) (T p w : List ℕ) (t : List (List ℕ)) (out : List ℕ) (progress : Progress) (s : State) → at ≡ c * 2 ^ d
+    (c at m : ℕ) (T p w : List ℕ) (t : List WriterRecord) (out : List ℕ) (progress : Progress) (s : State) → at ≡ c * 2 ^ d
     → Stands n size o T t out progress s → take m w ≡ p → m + levelRoom * d + endRoom ≤ length w
     → ((k : ℕ) → stamp (s .table) k + 2 ^ d ≤ 4294967295)
     → Leads n size i m o T p w (walkIn v size d i at m t out w progress) (online size d i at p (truthAt v) s)
@@ -532,7 +533,7 @@ walks v n size (suc d) i o real deep small few =
     walk-step v n size d i o real deep small few (walks v n size d (suc i) o (omega arith) (omega arith) small few)
 
 -- the walk over a truth table leads to what the walk of Online knows
-pub walk-leads : (v : List ℕ) (n size d i c m : ℕ) (o T p w : List ℕ) (t : List (List ℕ)) (out : List ℕ) (progress : Progress) (s : State)
+pub walk-leads : (v : List ℕ) (n size d i c m : ℕ) (o T p w : List ℕ) (t : List WriterRecord) (out : List ℕ) (progress : Progress) (s : State)
     → 0 < i → i + d ≡ suc n → n ≤ optionLimit → size ≤ tableLimit → Stands n size o T t out progress s → take m w ≡ p
     → m + levelRoom * d + endRoom ≤ length w → ((k : ℕ) → stamp (s .table) k + 2 ^ d ≤ 4294967295)
     → Leads n size i m o T p w (walkIn v size d i (c * 2 ^ d) m t out w progress) (online size d i (c * 2 ^ d) p (truthAt v) s)

@@ -16,21 +16,23 @@ use Rattle.theory_reading.specs.Causes.{unlessRefused}
 use Rattle.theory_writing.specs.Run.{whole, inputEnded, outputFull, writtenBytes, outputAfter, Answer, answerOf}
 use Rattle.theory_writing.specs.Calls.{writeText, writeAnswer, Write, write}
 use Rattle.theory_engine.specs.Pending.{waitingLimit}
-use Rattle.theory_engine.specs.Cells.{zero-wide, zero-cell}
+use Rattle.theory_engine.specs.Cells.{zero-cell}
 use Rattle.theory_engine.specs.Engine.{Sent, streamIn}
 use Rattle.theory_engine.specs.Streaming.{stream-text}
+use Rattle.node_records.specs.Records.{noWriterRecord}
+use Rattle.node_records.specs.declared.WriterRecord.{WriterRecord}
 
 -- ---- A cleared table -------------------------------------------------------------------------
 
 -- as many zero records
-pub cleared-replicate : (z : List ℕ) (t : List (List ℕ)) → replicate (length t) z ≡ cleared z t
+pub cleared-replicate : {A : Type 0} (z : A) (t : List A) → replicate (length t) z ≡ cleared z t
 unfolding cleared
 cleared-replicate z [] = refl
-cleared-replicate z (r ∷ t) = ap (λ (l : List (List ℕ)). z ∷ l) (cleared-replicate z t)
+cleared-replicate {A} z (r ∷ t) = ap (λ (l : List A). z ∷ l) (cleared-replicate z t)
 
 -- ---- Writing ---------------------------------------------------------------------------------
 
-module _ (z : List ℕ) (n size : ℕ) (v out : List ℕ) (t : List (List ℕ)) where
+module _ (z : WriterRecord) (n size : ℕ) (v out : List ℕ) (t : List WriterRecord) where
   -- n is not that of a truth table
   pub write-options : (n < truthTableLeast) ⊎ (truthTableMost < n)
       → record { answer = refused (refusal optionCount 0 0); table = t; output = out } ≡ write z n size v out t
@@ -93,7 +95,7 @@ module _ (z : List ℕ) (n size : ℕ) (v out : List ℕ) (t : List (List ℕ)) 
   unfolding write tableAfter unlessRefused
   write-done l k few room h =
       let y = writeText n size v in
-      ap₂ (λ (a : Answer) (u : List (List ℕ)). record { answer = done a; table = u; output = outputAfter y out })
+      ap₂ (λ (a : Answer) (u : List WriterRecord). record { answer = done a; table = u; output = outputAfter y out })
       (sym (answer-whole y)) (cleared-replicate z t)
       ∙ sym (ap (λ (a : Result Answer). record {
         answer = a;
@@ -111,31 +113,30 @@ whole-answer n k w f e =
     (eq-eqb (2 ^ n) (2 ^ n) refl)
 
 -- what the code comes to, past cause 6: records of zeros before the walk and after it
-pub write-finish : (n size : ℕ) (v out w : List ℕ) (t t₀ u : List (List ℕ)) (x : Sent) (r : Answer) → truthTableLeast ≤ n → n ≤ truthTableMost
-    → size ≤ tableLimit → tableLimit ≤ length t → length v ≡ 2 ^ n / 8 → length w ≡ waitingLimit → t₀ ≡ replicate (length t) (replicate 12 0)
+pub write-finish : (n size : ℕ) (v out w : List ℕ) (t t₀ u : List WriterRecord) (x : Sent) (r : Answer) → truthTableLeast ≤ n → n ≤ truthTableMost
+    → size ≤ tableLimit → tableLimit ≤ length t → length v ≡ 2 ^ n / 8 → length w ≡ waitingLimit → t₀ ≡ replicate (length t) noWriterRecord
     → x ≡ streamIn n size v t₀ out w → r ≡ record { written = x .written; covered = 2 ^ n; ending = cond (x .full) outputFull whole }
-    → u ≡ replicate (length t) (replicate 12 0)
-    → record { answer = done r; table = u; output = x .output } ≡ write (replicate 12 0) n size v out t
+    → u ≡ replicate (length t) noWriterRecord
+    → record { answer = done r; table = u; output = x .output } ≡ write noWriterRecord n size v out t
 write-finish n size v out w t t₀ u x r a b c d e f g h k l =
-    let noNodeRecord : List ℕ = replicate 12 0 in
-    let s = stream-text n size v (replicate (length t) (replicate 12 0)) out w b c (zero-wide (length t))
-    (omega (arith, d, length-replicate (length t) noNodeRecord)) (zero-cell (length t)) f in
+    let s = stream-text n size v (replicate (length t) noWriterRecord) out w b c
+    (omega (arith, d, length-replicate (length t) noWriterRecord)) (zero-cell (length t)) f in
     ap (λ (r : Answer). record { answer = done r; table = u; output = x .output }) k
-    ∙ ap (given u) (h ∙ ap (λ (t : List (List ℕ)). streamIn n size v t out w) g)
+    ∙ ap (given u) (h ∙ ap (λ (t : List WriterRecord). streamIn n size v t out w) g)
     ∙ ap (λ (k : ℕ). made k (streamed .full) u (streamed .output)) (s .0)
     ∙ ap (λ (q : Bool). made (length (writtenBytes y out)) q u (streamed .output)) (s .1)
     ∙ ap (made (length (writtenBytes y out)) (ltb (length out) (length y)) u) (s .2)
-    ∙ ap (λ (u : List (List ℕ)). made (length (writtenBytes y out)) (ltb (length out) (length y)) u (outputAfter y out)) l
-    ∙ write-done (replicate 12 0) n size v out t a b c d e
+    ∙ ap (λ (u : List WriterRecord). made (length (writtenBytes y out)) (ltb (length out) (length y)) u (outputAfter y out)) l
+    ∙ write-done noWriterRecord n size v out t a b c d e
   where
     y : List ℕ
     y = writeText n size v
 
     streamed : Sent
-    streamed = streamIn n size v (replicate (length t) (replicate 12 0)) out w
+    streamed = streamIn n size v (replicate (length t) noWriterRecord) out w
 
-    made : ℕ → Bool → List (List ℕ) → List ℕ → Write (List ℕ)
+    made : ℕ → Bool → List WriterRecord → List ℕ → Write WriterRecord
     made k q u o = record { answer = done (record { written = k; covered = 2 ^ n; ending = cond q outputFull whole }); table = u; output = o }
 
-    given : List (List ℕ) → Sent → Write (List ℕ)
+    given : List WriterRecord → Sent → Write WriterRecord
     given u x = made (x .written) (x .full) u (x .output)

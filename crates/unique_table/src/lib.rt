@@ -1,56 +1,25 @@
 // The unique table and its recycling queue in lent records.
 ghost use mathlib.Core.Path.{_≡_};
-ghost use mathlib.Core.Bool.{cond};
-ghost use lib.ListN.{length, replicate};
-ghost use Prim.Native.Nat.{_+_, _-_, _<_};
-ghost use Rattle.theory_writing.specs.Links.{stops};
-ghost use Rattle.theory_engine.specs.Cells.{cell, putCell};
-ghost use Rattle.theory_engine.specs.Hashing.{stir};
-ghost use Rattle.theory_engine.specs.Recycling.{oneMore, unlinkIn, linkIn, freeOf, bucketOf, fitsAt, searchIn, findIn, insertIn, removeIn, moreIn};
+ghost use Rattle.theory_engine.specs.Cells.{cell, levelField, stampField};
+ghost use Rattle.theory_engine.specs.Recycling.{unlinkIn, linkIn, freeOf, bucketAt, searchIn, findIn, insertIn, removeIn};
 ghost use Rattle.theory_engine.specs.Recycling.{fewerIn, orphanIn, orphansIn, releaseIn, adoptIn, noteIn, placeIn, storeIn, nextIn};
-use node_records::TABLE_LIMIT;
-
-// ---- Records: the cells of a number are 0 level, 1 and 2 children, 3 complement, 4 stamp, 5 parents, 6 and 7 the numbers after and before it in the
-// queue, 8 and 9 those in its bucket; 10 and 11 are the first and the last number of the bucket that has this place.
-
-fn get(t: &[[u32; 12]], j: usize, k: u32) -> u32
-    requires { ⌜ j < 12 ⌝ }
-    ensures { λ x. ⌜ x ≡ cell (now (t .entry)) j k ⌝ }
-{
-    if k == 0 {
-        return 0;
-    }
-    let p = (k - 1) as usize;
-    if t.len() <= p {
-        return 0;
-    }
-    t[p][j]
-}
-
-fn put(t: &mut [[u32; 12]], j: usize, k: u32, x: u32)
-    requires { ⌜ j < 12 ⌝ }
-    ensures { λ _. ⌜ now (t .exit) ≡ putCell (now (t .entry)) j k x ⌝ }
-{
-    if k == 0 {
-        return;
-    }
-    let p = (k - 1) as usize;
-    if t.len() <= p {
-        return;
-    }
-    t[p][j] = x;
-}
-
-// Every record becomes zero.
-pub fn clear(t: &mut [[u32; 12]])
-    ensures { λ _. ⌜ now (t .exit) ≡ replicate (length (now (t .entry))) (replicate 12 0) ⌝ }
-{
-    let mut i = 0;
-    while i < t.len() {
-        t[i] = [0; 12];
-        i += 1;
-    }
-}
+ghost use Rattle.writer_records.specs.Records.{laneField};
+use node_records::WriterRecord;
+use node_records::get_writer_record;
+use node_records::put_writer_record;
+use writer_records::after_of;
+use writer_records::before_of;
+use writer_records::bucket;
+use writer_records::either;
+use writer_records::is_free;
+use writer_records::is_node;
+use writer_records::one_less;
+use writer_records::one_more;
+use writer_records::with_after;
+use writer_records::with_before;
+use writer_records::with_ends;
+use writer_records::with_node;
+use writer_records::with_parents;
 
 // ---- Numbers linked both ways
 
@@ -60,21 +29,16 @@ pub struct Ends {
     pub last: u32,
 }
 
-pub fn either(c: bool, x: u32, y: u32) -> u32
-    ensures { λ r. ⌜ r ≡ cond c x y ⌝ }
+// k leaves the queue, or its bucket.
+fn unlink(t: &mut [WriterRecord], queue: bool, e: Ends, k: u32) -> Ends
+    ensures { λ r. ⌜ record { table = now (t .exit); first = r .first; last = r .last }
+        ≡ unlinkIn (now (t .entry)) (laneField queue) (e .first) (e .last) k ⌝ }
 {
-    if c { x } else { y }
-}
-
-// k leaves the queue (j is 6) or a bucket (j is 8).
-fn unlink(t: &mut [[u32; 12]], j: usize, e: Ends, k: u32) -> Ends
-    requires { ⌜ j + 1 < 12 ⌝ }
-    ensures { λ r. ⌜ record { table = now (t .exit); first = r .first; last = r .last } ≡ unlinkIn (now (t .entry)) j (e .first) (e .last) k ⌝ }
-{
-    let p = get(t, j + 1, k);
-    let x = get(t, j, k);
-    put(t, j, p, x);
-    put(t, j + 1, x, p);
+    let r = get_writer_record(t, k);
+    let p = before_of(queue, r);
+    let x = after_of(queue, r);
+    put_writer_record(t, p, with_after(queue, get_writer_record(t, p), x));
+    put_writer_record(t, x, with_before(queue, get_writer_record(t, x), p));
     Ends {
         first: either(p == 0, x, e.first),
         last: either(x == 0, p, e.last),
@@ -82,102 +46,49 @@ fn unlink(t: &mut [[u32; 12]], j: usize, e: Ends, k: u32) -> Ends
 }
 
 // k joins at the end.
-fn link_last(t: &mut [[u32; 12]], j: usize, e: Ends, k: u32) -> Ends
-    requires { ⌜ j + 1 < 12 ⌝ }
-    ensures { λ r. ⌜ record { table = now (t .exit); first = r .first; last = r .last } ≡ linkIn (now (t .entry)) j (e .first) (e .last) k ⌝ }
+fn link_last(t: &mut [WriterRecord], queue: bool, e: Ends, k: u32) -> Ends
+    ensures { λ r. ⌜ record { table = now (t .exit); first = r .first; last = r .last }
+        ≡ linkIn (now (t .entry)) (laneField queue) (e .first) (e .last) k ⌝ }
 {
     let l = e.last;
-    put(t, j, k, 0);
-    put(t, j, l, k);
-    put(t, j + 1, k, l);
+    put_writer_record(
+        t,
+        k,
+        with_before(queue, with_after(queue, get_writer_record(t, k), 0), l),
+    );
+    put_writer_record(t, l, with_after(queue, get_writer_record(t, l), k));
     Ends {
         first: either(l == 0, k, e.first),
         last: k,
     }
 }
 
-// The search for a number to reuse ends at x.
-fn is_free(a: u32, b: u32, x: u32) -> bool
-    ensures { λ r. ⌜ r ≡ stops a b x ⌝ }
-{
-    if x == 0 {
-        return true;
-    }
-    if a == x {
-        return false;
-    }
-    b != x
-}
-
 // The first of the queue, x, or the next, or the one after it, that is not a or b.
-fn free(t: &[[u32; 12]], x: u32, a: u32, b: u32) -> u32
+fn free(t: &[WriterRecord], x: u32, a: u32, b: u32) -> u32
     ensures { λ r. ⌜ r ≡ freeOf (now (t .entry)) x a b ⌝ }
 {
     if is_free(a, b, x) {
         return x;
     }
-    let y = get(t, 6, x);
+    let y = after_of(true, get_writer_record(t, x));
     if is_free(a, b, y) {
         return y;
     }
-    get(t, 6, y)
+    after_of(true, get_writer_record(t, y))
 }
 
 // ---- Looking up
 
-// As many buckets as a table may have records
-const BUCKETS: u64 = TABLE_LIMIT as u64;
-
-// Cells side by side: so many values for a number, and for a level
-pub const NUMBER_SPAN: u64 = 2048;
-
-const LEVEL_SPAN: u64 = 64;
-
-// One round of mixing, of the lower 32 bits of v
-pub fn stir(k: u32, v: u64) -> u64
-    ensures { λ r. ⌜ r ≡ stir k v ⌝ }
-{
-    let x = v % 4294967296;
-    let p = x * ((x + k as u64) % 4294967296);
-    p / 4294967296 + p % 4294967296
-}
-
-// The bucket of a node: level, children, complement
-fn bucket(i: u32, a: u32, b: u32, c: u32) -> u32
-    ensures { λ r. ⌜ r ≡ bucketOf i a b c ⌝ }
-{
-    let x = ((a as u64 * NUMBER_SPAN + b as u64) * LEVEL_SPAN + i as u64) * 2 + c as u64;
-    (stir(2246822519, stir(2654435769, x)) % BUCKETS + 1) as u32
-}
-
 // The bucket of the node that has number k
-fn bucket_at(t: &[[u32; 12]], k: u32) -> u32
-    ensures { λ r. ⌜ r ≡ bucketOf (cell (now (t .entry)) 0 k) (cell (now (t .entry)) 1 k) (cell (now (t .entry)) 2 k) (cell (now (t .entry)) 3 k) ⌝ }
+fn bucket_at(t: &[WriterRecord], k: u32) -> u32
+    ensures { λ r. ⌜ r ≡ bucketAt (now (t .entry)) k ⌝ }
 {
-    let i = get(t, 0, k);
-    let a = get(t, 1, k);
-    let b = get(t, 2, k);
-    let c = get(t, 3, k);
-    bucket(i, a, b, c)
-}
-
-fn fits(t: &[[u32; 12]], k: u32, i: u32, a: u32, b: u32, c: u32) -> bool
-    ensures { λ r. ⌜ r ≡ fitsAt (now (t .entry)) k i a b c ⌝ }
-{
-    if get(t, 0, k) != i {
-        return false;
-    }
-    if get(t, 1, k) != a {
-        return false;
-    }
-    if get(t, 2, k) != b {
-        return false;
-    }
-    get(t, 3, k) == c
+    let x = get_writer_record(t, k);
+    bucket(x.level, x.first, x.second, x.complement)
 }
 
 // From k on in its bucket, the first that fits; at most m are looked at.
-fn search_from(t: &[[u32; 12]], m: u32, k: u32, i: u32, a: u32, b: u32, c: u32) -> u32
+fn search_from(t: &[WriterRecord], m: u32, k: u32, i: u32, a: u32, b: u32, c: u32) -> u32
     ensures { λ r. ⌜ r ≡ searchIn (now (t .entry)) m k i a b c ⌝ }
 {
     if m == 0 {
@@ -186,89 +97,83 @@ fn search_from(t: &[[u32; 12]], m: u32, k: u32, i: u32, a: u32, b: u32, c: u32) 
     if k == 0 {
         return 0;
     }
-    if fits(t, k, i, a, b, c) {
+    let x = get_writer_record(t, k);
+    if is_node(x, i, a, b, c) {
         return k;
     }
-    let x = get(t, 8, k);
-    search_from(t, m - 1, x, i, a, b, c)
+    search_from(t, m - 1, x.next, i, a, b, c)
 }
 
 // The number of a node among z numbers, 0 if there is none.
-pub fn find(t: &[[u32; 12]], z: u32, i: u32, a: u32, b: u32, c: u32) -> u32
+pub fn find(t: &[WriterRecord], z: u32, i: u32, a: u32, b: u32, c: u32) -> u32
     ensures { λ r. ⌜ r ≡ findIn (now (t .entry)) z i a b c ⌝ }
 {
-    let k = get(t, 10, bucket(i, a, b, c));
-    search_from(t, z, k, i, a, b, c)
+    let x = get_writer_record(t, bucket(i, a, b, c));
+    search_from(t, z, x.head, i, a, b, c)
 }
 
 // Number k joins its bucket.
-fn bucket_insert(t: &mut [[u32; 12]], k: u32)
+fn bucket_insert(t: &mut [WriterRecord], k: u32)
     ensures { λ _. ⌜ now (t .exit) ≡ insertIn (now (t .entry)) k ⌝ }
 {
     let h = bucket_at(t, k);
-    let f = get(t, 10, h);
-    let l = get(t, 11, h);
-    let e = link_last(t, 8, Ends { first: f, last: l }, k);
-    put(t, 10, h, e.first);
-    put(t, 11, h, e.last);
+    let x = get_writer_record(t, h);
+    let e = link_last(
+        t,
+        false,
+        Ends {
+            first: x.head,
+            last: x.tail,
+        },
+        k,
+    );
+    put_writer_record(t, h, with_ends(get_writer_record(t, h), e.first, e.last));
 }
 
 // It leaves it.
-fn bucket_remove(t: &mut [[u32; 12]], k: u32)
+fn bucket_remove(t: &mut [WriterRecord], k: u32)
     ensures { λ _. ⌜ now (t .exit) ≡ removeIn (now (t .entry)) k ⌝ }
 {
     let h = bucket_at(t, k);
-    let f = get(t, 10, h);
-    let l = get(t, 11, h);
-    let e = unlink(t, 8, Ends { first: f, last: l }, k);
-    put(t, 10, h, e.first);
-    put(t, 11, h, e.last);
+    let x = get_writer_record(t, h);
+    let e = unlink(
+        t,
+        false,
+        Ends {
+            first: x.head,
+            last: x.tail,
+        },
+        k,
+    );
+    put_writer_record(t, h, with_ends(get_writer_record(t, h), e.first, e.last));
 }
 
 // ---- Storing
 
-pub fn one_more(p: u32) -> u32
-    ensures { λ x. ⌜ x ≡ oneMore p ⌝ }
-{
-    if p < 4294967295 { p + 1 } else { p }
-}
-
-// Number c gets a parent more.
-fn more_parents(t: &mut [[u32; 12]], c: u32)
-    ensures { λ _. ⌜ now (t .exit) ≡ moreIn (now (t .entry)) c ⌝ }
-{
-    let p = get(t, 5, c);
-    put(t, 5, c, one_more(p));
-}
-
-fn one_less(p: u32) -> u32
-    ensures { λ x. ⌜ x ≡ p - 1 ⌝ }
-{
-    if p == 0 { 0 } else { p - 1 }
-}
-
-fn fewer_parents(t: &mut [[u32; 12]], c: u32)
+// Number c has a parent less.
+fn fewer_parents(t: &mut [WriterRecord], c: u32)
     ensures { λ _. ⌜ now (t .exit) ≡ fewerIn (now (t .entry)) c ⌝ }
 {
-    let p = get(t, 5, c);
-    put(t, 5, c, one_less(p));
+    let x = get_writer_record(t, c);
+    put_writer_record(t, c, with_parents(x, one_less(x.parents)));
 }
 
 // c joins the queue if it has no parent.
-fn orphan(t: &mut [[u32; 12]], e: Ends, c: u32) -> Ends
+fn orphan(t: &mut [WriterRecord], e: Ends, c: u32) -> Ends
     ensures { λ r. ⌜ record { table = now (t .exit); first = r .first; last = r .last } ≡ orphanIn (now (t .entry)) (e .first) (e .last) c ⌝ }
 {
     if c == 0 {
         return e;
     }
-    if get(t, 5, c) != 0 {
+    let x = get_writer_record(t, c);
+    if x.parents != 0 {
         return e;
     }
-    link_last(t, 6, e, c)
+    link_last(t, true, e, c)
 }
 
 // The children x and y of a node that is no more.
-fn orphans(t: &mut [[u32; 12]], e: Ends, x: u32, y: u32) -> Ends
+fn orphans(t: &mut [WriterRecord], e: Ends, x: u32, y: u32) -> Ends
     ensures { λ r. ⌜ record { table = now (t .exit); first = r .first; last = r .last } ≡ orphansIn (now (t .entry)) (e .first) (e .last) x y ⌝ }
 {
     fewer_parents(t, x);
@@ -281,57 +186,61 @@ fn orphans(t: &mut [[u32; 12]], e: Ends, x: u32, y: u32) -> Ends
 }
 
 // Number k is taken from its node, to be reused.
-fn release(t: &mut [[u32; 12]], e: Ends, k: u32) -> Ends
+fn release(t: &mut [WriterRecord], e: Ends, k: u32) -> Ends
     ensures { λ r. ⌜ record { table = now (t .exit); first = r .first; last = r .last } ≡ releaseIn (now (t .entry)) (e .first) (e .last) k ⌝ }
 {
-    let f = unlink(t, 6, e, k);
+    let f = unlink(t, true, e, k);
     bucket_remove(t, k);
-    let x = get(t, 1, k);
-    let y = get(t, 2, k);
-    orphans(t, f, x, y)
+    let x = get_writer_record(t, k);
+    orphans(t, f, x.first, x.second)
 }
 
 // c becomes the child of a new node.
-fn adopt(t: &mut [[u32; 12]], e: Ends, c: u32) -> Ends
+fn adopt(t: &mut [WriterRecord], e: Ends, c: u32) -> Ends
     ensures { λ r. ⌜ record { table = now (t .exit); first = r .first; last = r .last } ≡ adoptIn (now (t .entry)) (e .first) (e .last) c ⌝ }
 {
-    let p = get(t, 5, c);
-    more_parents(t, c);
+    let x = get_writer_record(t, c);
+    put_writer_record(t, c, with_parents(x, one_more(x.parents)));
     if c == 0 {
         return e;
     }
-    if p != 0 {
+    if x.parents != 0 {
         return e;
     }
-    unlink(t, 6, e, c)
+    unlink(t, true, e, c)
 }
 
 // The record of number k gets a node.
-fn note(t: &mut [[u32; 12]], k: u32, i: u32, a: u32, b: u32, c: u32)
+fn note(t: &mut [WriterRecord], k: u32, i: u32, a: u32, b: u32, c: u32)
     ensures { λ _. ⌜ now (t .exit) ≡ noteIn (now (t .entry)) k i a b c ⌝ }
 {
-    let g = get(t, 4, k);
-    put(t, 0, k, i);
-    put(t, 1, k, a);
-    put(t, 2, k, b);
-    put(t, 3, k, c);
-    put(t, 4, k, one_more(g));
+    put_writer_record(t, k, with_node(get_writer_record(t, k), i, a, b, c));
 }
 
 // Number k, which is nobody's, is given to a node.
-fn place(t: &mut [[u32; 12]], e: Ends, k: u32, i: u32, a: u32, b: u32, c: u32) -> Ends
+fn place(t: &mut [WriterRecord], e: Ends, k: u32, i: u32, a: u32, b: u32, c: u32) -> Ends
     ensures { λ r. ⌜ record { table = now (t .exit); first = r .first; last = r .last } ≡ placeIn (now (t .entry)) (e .first) (e .last) k i a b c ⌝ }
 {
     let f = adopt(t, e, a);
     let g = adopt(t, f, b);
     note(t, k, i, a, b, c);
     bucket_insert(t, k);
-    link_last(t, 6, g, k)
+    link_last(t, true, g, k)
 }
 
 // Of z numbers given out k is reused, or it is the next.
-pub fn store(t: &mut [[u32; 12]], z: u32, e: Ends, k: u32, i: u32, a: u32, b: u32, c: u32) -> Ends
-    ensures { λ r. ⌜ record { table = now (t .exit); first = r .first; last = r .last } ≡ storeIn (now (t .entry)) z (e .first) (e .last) k i a b c ⌝ }
+pub fn store(
+    t: &mut [WriterRecord],
+    z: u32,
+    e: Ends,
+    k: u32,
+    i: u32,
+    a: u32,
+    b: u32,
+    c: u32,
+) -> Ends
+    ensures { λ r. ⌜ record { table = now (t .exit); first = r .first; last = r .last }
+        ≡ storeIn (now (t .entry)) z (e .first) (e .last) k i a b c ⌝ }
 {
     if z < k {
         return place(t, e, k, i, a, b, c);
@@ -341,7 +250,7 @@ pub fn store(t: &mut [[u32; 12]], z: u32, e: Ends, k: u32, i: u32, a: u32, b: u3
 }
 
 // The number for a node with children a and b, 0 if there is none. f: the first of the queue
-pub fn next_number(t: &[[u32; 12]], z: u32, f: u32, size: u32, a: u32, b: u32) -> u32
+pub fn next_number(t: &[WriterRecord], z: u32, f: u32, size: u32, a: u32, b: u32) -> u32
     ensures { λ r. ⌜ r ≡ nextIn (now (t .entry)) z f size a b ⌝ }
 {
     if z < size {
@@ -351,15 +260,17 @@ pub fn next_number(t: &[[u32; 12]], z: u32, f: u32, size: u32, a: u32, b: u32) -
 }
 
 // The stamp of number k: how often it was given out
-pub fn stamp_of(t: &[[u32; 12]], k: u32) -> u32
-    ensures { λ x. ⌜ x ≡ cell (now (t .entry)) 4 k ⌝ }
+pub fn stamp_of(t: &[WriterRecord], k: u32) -> u32
+    ensures { λ x. ⌜ x ≡ cell (now (t .entry)) stampField k ⌝ }
 {
-    get(t, 4, k)
+    let x = get_writer_record(t, k);
+    x.stamp
 }
 
 // The level of number k
-pub fn level_of(t: &[[u32; 12]], k: u32) -> u32
-    ensures { λ x. ⌜ x ≡ cell (now (t .entry)) 0 k ⌝ }
+pub fn level_of(t: &[WriterRecord], k: u32) -> u32
+    ensures { λ x. ⌜ x ≡ cell (now (t .entry)) levelField k ⌝ }
 {
-    get(t, 0, k)
+    let x = get_writer_record(t, k);
+    x.level
 }

@@ -17,67 +17,54 @@ use Rattle.theory_reading.specs.LimitLaws.{few-parents}
 use Rattle.theory_reading.specs.Nodes.{Node, newNode, noNode, node}
 use Rattle.theory_reading.specs.ParentCounts.{edges, parents, parents-set, parents-most, parents-fresh, edges-parents}
 use Rattle.node_records.specs.declared.NodeRecord.{NodeRecord}
-use Rattle.work_table.specs.Table.{noNodeRecord, recordOf, listOf, getIn, putAt, countedTo, countedList, countAt, storeAt, noRecord, clearTo}
-use Rattle.work_table.specs.Table.{get-above, get-here, put-none, put-here, count-none, count-above, count-here}
+use Rattle.node_records.specs.Records.{noRecord, putEntry, clearTo, entry-put-none, entry-put-here}
+use Rattle.work_table.specs.Table.{getIn, countedTo, countedRecord, countAt, storeAt}
+use Rattle.work_table.specs.Table.{get-above, get-here, count-none, count-above, count-here}
 
 -- ---- The records as the theory's table -------------------------------------------------------
 
 -- a row without the count of its parents
 abbrev pub recordNode : NodeRecord → Node
-recordNode x = newNode (x .level) (x .first) (x .second) (x .complement) (x .stamp)
+recordNode x = newNode (x .level) (x .first) (x .second) (not (eqb (x .complement) 0)) (x .stamp)
 
--- a record of the lent table, as the theory has it
-abbrev pub nodeOf : List ℕ → Node
-nodeOf a = recordNode (recordOf a)
+-- the number for a yes or a no, read back
+pub bit-back : (b : Bool) → not (eqb (cond b 1 0) 0) ≡ b
+bit-back true = refl
+bit-back false = refl
 
 -- the theory's table of the first z records
-abbrev pub tableOf : List (List ℕ) → ℕ → List Node
-tableOf t z = noNode ∷ map nodeOf (take z t)
+abbrev pub tableOf : List NodeRecord → ℕ → List Node
+tableOf t z = noNode ∷ map recordNode (take z t)
 
 -- Place 0 and a place for each number.
-pub table-length : (t : List (List ℕ)) (z : ℕ) → z ≤ length t → length (tableOf t z) ≡ suc z
-table-length t z h = ap suc (length-map (take z t) nodeOf ∙ length-take z t ∙ omega (arith, h))
+pub table-length : (t : List NodeRecord) (z : ℕ) → z ≤ length t → length (tableOf t z) ≡ suc z
+table-length t z h = ap suc (length-map (take z t) recordNode ∙ length-take z t ∙ omega (arith, h))
 
 -- Each number has the record that code reads, 0 and those above the size have none.
-pub table-node : (t : List (List ℕ)) (z k : ℕ) → node (tableOf t z) k ≡ recordNode (getIn t z k)
+pub table-node : (t : List NodeRecord) (z k : ℕ) → node (tableOf t z) k ≡ recordNode (getIn t z k)
 table-node t z zero = refl
-table-node t z (suc k) = List·getD-map nodeOf (take z t) k [] ∙ ⊎-elim inside above (decide-le (suc k) z)
+table-node t z (suc k) = List·getD-map recordNode (take z t) k noRecord ∙ ⊎-elim inside above (decide-le (suc k) z)
   where
-    inside : suc k ≤ z → nodeOf (getD (take z t) k []) ≡ recordNode (getIn t z (suc k))
+    inside : suc k ≤ z → recordNode (getD (take z t) k noRecord) ≡ recordNode (getIn t z (suc k))
     inside h =
         let e : k ≡ suc k - 1 = omega arith in
-        ap nodeOf (getD-take z t k [] h ∙ ap (λ (i : ℕ). getD t i []) e) ∙ ap recordNode (get-here t z (suc k) (λ i. omega (arith, i)) h)
+        ap recordNode (getD-take z t k noRecord h ∙ ap (λ (i : ℕ). getD t i noRecord) e) ∙ ap recordNode (get-here t z (suc k) (λ i. omega (arith, i)) h)
 
-    above : z < suc k → nodeOf (getD (take z t) k []) ≡ recordNode (getIn t z (suc k))
+    above : z < suc k → recordNode (getD (take z t) k noRecord) ≡ recordNode (getIn t z (suc k))
     above h =
         let s : length (take z t) ≤ k = omega (arith, length-take z t, h) in
-        ap nodeOf (List·getD-eq-default (take z t) [] s) ∙ ap recordNode (get-above t z (suc k) (λ i. omega (arith, i)) h)
+        ap recordNode (List·getD-eq-default (take z t) noRecord s) ∙ ap recordNode (get-above t z (suc k) h)
 
 -- ---- One record ------------------------------------------------------------------------------
 
-record-list : (x : NodeRecord) → recordOf (listOf x) ≡ x
-record-list x = ap (λ (b : Bool). record {
-  level = x .level;
-  first = x .first;
-  second = x .second;
-  complement = b;
-  stamp = x .stamp;
-  parents = x
-      .parents;
-}) (same (x .complement))
-  where
-    same : (b : Bool) → not (eqb (cond b 1 0) 0) ≡ b
-    same true = refl
-    same false = refl
+get-same : (t u : List NodeRecord) (z k : ℕ) → ((k ≡ 0 → ⊥) → getD t (k - 1) noRecord ≡ getD u (k - 1) noRecord) → getIn t z k ≡ getIn u z k
+get-same t u z k h = ⊎-elim (λ e. rw e refl) (λ n. ap (λ (a : NodeRecord). cond (eqb k 0 || ltb z k) noRecord a) (h n)) (decide-eq k 0)
 
-get-same : (t u : List (List ℕ)) (z k : ℕ) → ((k ≡ 0 → ⊥) → getD t (k - 1) [] ≡ getD u (k - 1) []) → getIn t z k ≡ getIn u z k
-get-same t u z k h = ⊎-elim (λ e. rw e refl) (λ n. ap (λ (a : List ℕ). cond (eqb k 0 || ltb z k) noNodeRecord (recordOf a)) (h n)) (decide-eq k 0)
+put-set : (t : List NodeRecord) (k : ℕ) (x : NodeRecord) → (k ≡ 0 → ⊥) → putEntry t k x ≡ set t (k - 1) x
+put-set t k x h = sym (entry-put-here t k x h)
 
-put-set : (t : List (List ℕ)) (k : ℕ) (x : NodeRecord) → (k ≡ 0 → ⊥) → putAt t k x ≡ set t (k - 1) (listOf x)
-put-set t k x h = sym (put-here t k x (cond (x .complement) 1 0) h refl)
-
-length-put : (t : List (List ℕ)) (k : ℕ) (x : NodeRecord) → length (putAt t k x) ≡ length t
-length-put t k x = ⊎-elim (λ e. ap length (sym (put-none t k x e))) (λ n. ap length (put-set t k x n) ∙ length-set t (k - 1) (listOf x))
+length-put : (t : List NodeRecord) (k : ℕ) (x : NodeRecord) → length (putEntry t k x) ≡ length t
+length-put t k x = ⊎-elim (λ e. ap length (sym (entry-put-none t k x e))) (λ n. ap length (put-set t k x n) ∙ length-set t (k - 1) x)
     (decide-eq k 0)
 
 pred-same : (k j : ℕ) → (k ≡ 0 → ⊥) → (j ≡ 0 → ⊥) → j - 1 ≡ k - 1 → k ≡ j
@@ -86,44 +73,42 @@ pred-same (suc k) zero n m e = absurd (m refl)
 pred-same (suc k) (suc j) n m e = omega (arith, e)
 
 -- the other numbers keep their records
-get-other : (t : List (List ℕ)) (z k j : ℕ) (x : NodeRecord) → (k ≡ j → ⊥) → getIn (putAt t k x) z j ≡ getIn t z j
+get-other : (t : List NodeRecord) (z k j : ℕ) (x : NodeRecord) → (k ≡ j → ⊥) → getIn (putEntry t k x) z j ≡ getIn t z j
 get-other t z k j x d = ⊎-elim none some (decide-eq k 0)
   where
-    none : k ≡ 0 → getIn (putAt t k x) z j ≡ getIn t z j
-    none e = ap (λ (u : List (List ℕ)). getIn u z j) (sym (put-none t k x e))
+    none : k ≡ 0 → getIn (putEntry t k x) z j ≡ getIn t z j
+    none e = ap (λ (u : List NodeRecord). getIn u z j) (sym (entry-put-none t k x e))
 
-    some : (k ≡ 0 → ⊥) → getIn (putAt t k x) z j ≡ getIn t z j
-    some n = get-same (putAt t k x) t z j (λ m. ap (λ (u : List (List ℕ)). getD u (j - 1) []) (put-set t k x n)
-        ∙ getD-set-other t (k - 1) (j - 1) (listOf x) [] (λ e. d (pred-same k j n m e)))
+    some : (k ≡ 0 → ⊥) → getIn (putEntry t k x) z j ≡ getIn t z j
+    some n = get-same (putEntry t k x) t z j (λ m. ap (λ (u : List NodeRecord). getD u (j - 1) noRecord) (put-set t k x n)
+        ∙ getD-set-other t (k - 1) (j - 1) x noRecord (λ e. d (pred-same k j n m e)))
 
 -- the number has the record that was put
-get-put : (t : List (List ℕ)) (z k : ℕ) (x : NodeRecord) → z ≤ length t → (k ≡ 0 → ⊥) → k ≤ z → getIn (putAt t k x) z k ≡ x
+get-put : (t : List NodeRecord) (z k : ℕ) (x : NodeRecord) → z ≤ length t → (k ≡ 0 → ⊥) → k ≤ z → getIn (putEntry t k x) z k ≡ x
 get-put t z k x r n h =
     let i : k - 1 < length t = omega (arith, r, n, h) in
-    sym (get-here (putAt t k x) z k n h)
-    ∙ ap (λ (u : List (List ℕ)). recordOf (getD u (k - 1) [])) (put-set t k x n)
-    ∙ ap recordOf (getD-set-same t (k - 1) (listOf x) [] i)
-    ∙ record-list x
+    sym (get-here (putEntry t k x) z k n h)
+    ∙ ap (λ (u : List NodeRecord). getD u (k - 1) noRecord) (put-set t k x n)
+    ∙ getD-set-same t (k - 1) x noRecord i
 
-map-set : (f : List ℕ → Node) (l : List (List ℕ)) (i : ℕ) (a : List ℕ) → map f (set l i a) ≡ set (map f l) i (f a)
+map-set : (f : NodeRecord → Node) (l : List NodeRecord) (i : ℕ) (a : NodeRecord) → map f (set l i a) ≡ set (map f l) i (f a)
 map-set f [] i a = refl
 map-set f (b ∷ l) zero a = refl
 map-set f (b ∷ l) (suc i) a = ap (λ (m : List Node). f b ∷ m) (map-set f l i a)
 
-table-set : (t : List (List ℕ)) (z k : ℕ) (a : List ℕ) → (k ≡ 0 → ⊥) → k ≤ z → tableOf (set t (k - 1) a) z ≡ set (tableOf t z) k (nodeOf a)
+table-set : (t : List NodeRecord) (z k : ℕ) (a : NodeRecord) → (k ≡ 0 → ⊥) → k ≤ z → tableOf (set t (k - 1) a) z ≡ set (tableOf t z) k (recordNode a)
 table-set t z zero a n h = absurd (n refl)
 table-set t z (suc k) a n h =
     let e : suc k - 1 ≡ k = omega arith in
     ap (λ (l : List Node). noNode ∷ l)
-    (ap (λ (i : ℕ). map nodeOf (take z (set t i a))) e
-    ∙ ap (map nodeOf) (take-set-lt z t k a h)
-    ∙ map-set nodeOf (take z t) k a)
+    (ap (λ (i : ℕ). map recordNode (take z (set t i a))) e
+    ∙ ap (map recordNode) (take-set-lt z t k a h)
+    ∙ map-set recordNode (take z t) k a)
 
-table-put : (t : List (List ℕ)) (z k : ℕ) (x : NodeRecord) → (k ≡ 0 → ⊥) → k ≤ z → tableOf (putAt t k x) z ≡ set (tableOf t z) k (recordNode x)
+table-put : (t : List NodeRecord) (z k : ℕ) (x : NodeRecord) → (k ≡ 0 → ⊥) → k ≤ z → tableOf (putEntry t k x) z ≡ set (tableOf t z) k (recordNode x)
 table-put t z k x n h =
-    ap (λ (u : List (List ℕ)). tableOf u z) (put-set t k x n)
-    ∙ table-set t z k (listOf x) n h
-    ∙ ap (λ (y : NodeRecord). set (tableOf t z) k (recordNode y)) (record-list x)
+    ap (λ (u : List NodeRecord). tableOf u z) (put-set t k x n)
+    ∙ table-set t z k x n h
 
 -- ---- One parent more or less -----------------------------------------------------------------
 
@@ -132,42 +117,42 @@ count-ways : {A : Type 0} (k z : ℕ) → (k ≡ 0 → A) → ((k ≡ 0 → ⊥)
 count-ways k z none above here = ⊎-elim none (λ n. ⊎-elim (here n) (above n) (decide-le k z)) (decide-eq k 0)
 
 -- the count of parents is not of the theory's table
-table-count : (t : List (List ℕ)) (z k : ℕ) (b : Bool) → tableOf (countAt t z k b) z ≡ tableOf t z
+table-count : (t : List NodeRecord) (z k : ℕ) (b : Bool) → tableOf (countAt t z k b) z ≡ tableOf t z
 table-count t z k b = count-ways k z
-    (λ e. ap (λ (u : List (List ℕ)). tableOf u z) (sym (count-none t z k b e)))
-    (λ n l. ap (λ (u : List (List ℕ)). tableOf u z) (sym (count-above t z k b n l)))
-    (λ n l. ap (λ (u : List (List ℕ)). tableOf u z) (sym (count-here t z k b n l))
-    ∙ table-set t z k (countedList (getD t (k - 1) []) b) n l
+    (λ e. ap (λ (u : List NodeRecord). tableOf u z) (sym (count-none t z k b e)))
+    (λ n l. ap (λ (u : List NodeRecord). tableOf u z) (sym (count-above t z k b l)))
+    (λ n l. ap (λ (u : List NodeRecord). tableOf u z) (sym (count-here t z k b n l))
+    ∙ table-set t z k (countedRecord (getD t (k - 1) noRecord) b) n l
     ∙ ap (set (tableOf t z) k) (sym (table-node t z k ∙ ap recordNode (sym (get-here t z k n l))))
     ∙ set-getD (tableOf t z) k noNode)
 
-length-count : (t : List (List ℕ)) (z k : ℕ) (b : Bool) → length (countAt t z k b) ≡ length t
+length-count : (t : List NodeRecord) (z k : ℕ) (b : Bool) → length (countAt t z k b) ≡ length t
 length-count t z k b = count-ways k z
     (λ e. ap length (sym (count-none t z k b e)))
-    (λ n l. ap length (sym (count-above t z k b n l)))
-    (λ n l. ap length (sym (count-here t z k b n l)) ∙ length-set t (k - 1) (countedList (getD t (k - 1) []) b))
+    (λ n l. ap length (sym (count-above t z k b l)))
+    (λ n l. ap length (sym (count-here t z k b n l)) ∙ length-set t (k - 1) (countedRecord (getD t (k - 1) noRecord) b))
 
 -- the number's own count
-counted-here : (t : List (List ℕ)) (z k : ℕ) (b : Bool) → z ≤ length t → (k ≡ 0 → ⊥) → k ≤ z → getIn (countAt t z k b) z k .parents
+counted-here : (t : List NodeRecord) (z k : ℕ) (b : Bool) → z ≤ length t → (k ≡ 0 → ⊥) → k ≤ z → getIn (countAt t z k b) z k .parents
     ≡ countedTo (getIn t z k .parents) b
 counted-here t z k b r n h =
     let i : k - 1 < length t = omega (arith, r, n, h) in
     ap (λ (x : NodeRecord). x .parents) (sym (get-here (countAt t z k b) z k n h))
-    ∙ ap (λ (u : List (List ℕ)). recordOf (getD u (k - 1) []) .parents) (sym (count-here t z k b n h))
-    ∙ ap (λ (a : List ℕ). recordOf a .parents) (getD-set-same t (k - 1) (countedList (getD t (k - 1) []) b) [] i)
+    ∙ ap (λ (u : List NodeRecord). getD u (k - 1) noRecord .parents) (sym (count-here t z k b n h))
+    ∙ ap (λ (a : NodeRecord). a .parents) (getD-set-same t (k - 1) (countedRecord (getD t (k - 1) noRecord) b) noRecord i)
     ∙ ap (λ (x : NodeRecord). countedTo (x .parents) b) (get-here t z k n h)
 
 -- another number keeps its record
-counted-other : (t : List (List ℕ)) (z k j : ℕ) (b : Bool) → (k ≡ j → ⊥) → getIn (countAt t z k b) z j ≡ getIn t z j
+counted-other : (t : List NodeRecord) (z k j : ℕ) (b : Bool) → (k ≡ j → ⊥) → getIn (countAt t z k b) z j ≡ getIn t z j
 counted-other t z k j b d = count-ways k z
-    (λ e. ap (λ (u : List (List ℕ)). getIn u z j) (sym (count-none t z k b e)))
-    (λ n l. ap (λ (u : List (List ℕ)). getIn u z j) (sym (count-above t z k b n l)))
-    (λ n l. ap (λ (u : List (List ℕ)). getIn u z j) (sym (count-here t z k b n l))
-    ∙ get-same (set t (k - 1) (countedList (getD t (k - 1) []) b)) t z j
-    (λ m. getD-set-other t (k - 1) (j - 1) (countedList (getD t (k - 1) []) b) [] (λ e. d (pred-same k j n m e))))
+    (λ e. ap (λ (u : List NodeRecord). getIn u z j) (sym (count-none t z k b e)))
+    (λ n l. ap (λ (u : List NodeRecord). getIn u z j) (sym (count-above t z k b l)))
+    (λ n l. ap (λ (u : List NodeRecord). getIn u z j) (sym (count-here t z k b n l))
+    ∙ get-same (set t (k - 1) (countedRecord (getD t (k - 1) noRecord) b)) t z j
+    (λ m. getD-set-other t (k - 1) (j - 1) (countedRecord (getD t (k - 1) noRecord) b) noRecord (λ e. d (pred-same k j n m e))))
 
 -- how one parent more shows in the counts
-count-more : (t : List (List ℕ)) (z k j : ℕ) → z ≤ length t → (j ≡ 0 → ⊥) → j ≤ z → getIn t z j .parents < 4294967295
+count-more : (t : List NodeRecord) (z k j : ℕ) → z ≤ length t → (j ≡ 0 → ⊥) → j ≤ z → getIn t z j .parents < 4294967295
     → getIn (countAt t z k true) z j .parents ≡ getIn t z j .parents + bit (eqb k j)
 count-more t z k j r n h l = ⊎-elim here other (decide-eq k j)
   where
@@ -178,7 +163,7 @@ count-more t z k j r n h l = ⊎-elim here other (decide-eq k j)
     other d = rw (ne-eqb k j d) (ap (λ (x : NodeRecord). x .parents) (counted-other t z k j true d) ∙ omega arith)
 
 -- how one parent less shows in the counts
-count-less : (t : List (List ℕ)) (z k j : ℕ) → z ≤ length t → (j ≡ 0 → ⊥) → j ≤ z → bit (eqb k j) ≤ getIn t z j .parents
+count-less : (t : List NodeRecord) (z k j : ℕ) → z ≤ length t → (j ≡ 0 → ⊥) → j ≤ z → bit (eqb k j) ≤ getIn t z j .parents
     → getIn t z j .parents ≡ getIn (countAt t z k false) z j .parents + bit (eqb k j)
 count-less t z k j r n h l = ⊎-elim here other (decide-eq k j)
   where
@@ -198,15 +183,15 @@ count-less t z k j r n h l = ⊎-elim here other (decide-eq k j)
 -- ---- Storing ---------------------------------------------------------------------------------
 
 -- What code keeps true of the lent table: there is a record for each number, and its count of parents is right.
-pub record Held (t : List (List ℕ)) (z : ℕ) : Type 0 where
+pub record Held (t : List NodeRecord) (z : ℕ) : Type 0 where
   pub room : z ≤ length t
   pub counts : (k : ℕ) → (k ≡ 0 → ⊥) → k ≤ z → getIn t z k .parents ≡ parents (tableOf t z) k
 
 -- A storing keeps the length.
-pub length-store : (t : List (List ℕ)) (z k : ℕ) (x : NodeRecord) → length (storeAt t z k x) ≡ length t
+pub length-store : (t : List NodeRecord) (z k : ℕ) (x : NodeRecord) → length (storeAt t z k x) ≡ length t
 unfolding storeAt
 length-store t z k x =
-    let t₀ = putAt t k x in
+    let t₀ = putEntry t k x in
     let t₁ = countAt t₀ z (getIn t z k .first) false in
     let t₂ = countAt t₁ z (getIn t z k .second) false in
     let t₃ = countAt t₂ z (x .first) true in
@@ -214,11 +199,11 @@ length-store t z k x =
     ∙ length-count t₀ z (getIn t z k .first) false ∙ length-put t k x
 
 -- A storing sets the record of the number in the theory's table.
-pub store-table : (t : List (List ℕ)) (z k : ℕ) (x : NodeRecord) → (k ≡ 0 → ⊥) → k ≤ z → tableOf (storeAt t z k x) z
+pub store-table : (t : List NodeRecord) (z k : ℕ) (x : NodeRecord) → (k ≡ 0 → ⊥) → k ≤ z → tableOf (storeAt t z k x) z
     ≡ set (tableOf t z) k (recordNode x)
 unfolding storeAt
 store-table t z k x n h =
-    let t₀ = putAt t k x in
+    let t₀ = putEntry t k x in
     let t₁ = countAt t₀ z (getIn t z k .first) false in
     let t₂ = countAt t₁ z (getIn t z k .second) false in
     let t₃ = countAt t₂ z (x .first) true in
@@ -226,7 +211,7 @@ store-table t z k x n h =
     ∙ table-count t₀ z (getIn t z k .first) false ∙ table-put t z k x n h
 
 -- the counts after two parents less and two more
-count-four : (t : List (List ℕ)) (z a b c d j : ℕ) → z ≤ length t → (j ≡ 0 → ⊥) → j ≤ z
+count-four : (t : List NodeRecord) (z a b c d j : ℕ) → z ≤ length t → (j ≡ 0 → ⊥) → j ≤ z
     → bit (eqb a j) + bit (eqb b j) ≤ getIn t z j .parents → bit (eqb c j) + bit (eqb d j) ≤ 2 → getIn t z j .parents + 2 < 4294967295
     → getIn (countAt (countAt (countAt (countAt t z a false) z b false) z c true) z d true) z j .parents + (bit (eqb a j) + bit (eqb b j))
     ≡ getIn t z j .parents + (bit (eqb c j) + bit (eqb d j))
@@ -249,32 +234,32 @@ unfolding parents
 edges-most j y = omega (arith, parents-most (y ∷ []) j)
 
 -- A storing keeps the counts right, if the new record starts with the count of the old one.
-pub held-store : (t : List (List ℕ)) (z k : ℕ) (x : NodeRecord) → Held t z → z ≤ tableLimit → (k ≡ 0 → ⊥) → k ≤ z → x .parents ≡ getIn t z k .parents
+pub held-store : (t : List NodeRecord) (z k : ℕ) (x : NodeRecord) → Held t z → z ≤ tableLimit → (k ≡ 0 → ⊥) → k ≤ z → x .parents ≡ getIn t z k .parents
     → Held (storeAt t z k x) z
 unfolding storeAt
 held-store t z k x held small n h same = record { room = omega (arith, held .room, length-store t z k x); counts = right }
   where
-    put : (j : ℕ) → (j ≡ 0 → ⊥) → j ≤ z → getIn (putAt t k x) z j .parents ≡ parents (tableOf t z) j
+    put : (j : ℕ) → (j ≡ 0 → ⊥) → j ≤ z → getIn (putEntry t k x) z j .parents ≡ parents (tableOf t z) j
     put j m l = ⊎-elim here other (decide-eq k j) ∙ held .counts j m l
       where
-        here : k ≡ j → getIn (putAt t k x) z j .parents ≡ getIn t z j .parents
-        here e = subst (λ (i : ℕ). getIn (putAt t k x) z i .parents ≡ getIn t z i .parents) e
+        here : k ≡ j → getIn (putEntry t k x) z j .parents ≡ getIn t z j .parents
+        here e = subst (λ (i : ℕ). getIn (putEntry t k x) z i .parents ≡ getIn t z i .parents) e
             (ap (λ (y : NodeRecord). y .parents) (get-put t z k x (held .room) n h) ∙ same)
 
-        other : (k ≡ j → ⊥) → getIn (putAt t k x) z j .parents ≡ getIn t z j .parents
+        other : (k ≡ j → ⊥) → getIn (putEntry t k x) z j .parents ≡ getIn t z j .parents
         other d = ap (λ (y : NodeRecord). y .parents) (get-other t z k j x d)
 
     right : (j : ℕ) → (j ≡ 0 → ⊥) → j ≤ z → getIn (storeAt t z k x) z j .parents ≡ parents (tableOf (storeAt t z k x) z) j
     right j m l =
         let long : length (tableOf t z) ≡ suc z = table-length t z (held .room) in
         let old : edges j (node (tableOf t z) k) ≡ edges j (recordNode (getIn t z k)) = ap (edges j) (table-node t z k) in
-        let p : getIn (putAt t k x) z j .parents ≡ parents (tableOf t z) j = put j m l in
-        let most : getIn (putAt t k x) z j .parents + 2 < 4294967295 = omega (arith, p, parents-most (tableOf t z) j, long, small, few-parents) in
-        let enough : edges j (recordNode (getIn t z k)) ≤ getIn (putAt t k x) z j .parents = omega (arith, p, old, edges-parents (tableOf t z) k j m)
+        let p : getIn (putEntry t k x) z j .parents ≡ parents (tableOf t z) j = put j m l in
+        let most : getIn (putEntry t k x) z j .parents + 2 < 4294967295 = omega (arith, p, parents-most (tableOf t z) j, long, small, few-parents) in
+        let enough : edges j (recordNode (getIn t z k)) ≤ getIn (putEntry t k x) z j .parents = omega (arith, p, old, edges-parents (tableOf t z) k j m)
         in
         let moved : getIn (storeAt t z k x) z j .parents + edges j (recordNode (getIn t z k))
-        ≡ getIn (putAt t k x) z j .parents + edges j (recordNode x)
-        = count-four (putAt t k x) z (getIn t z k .first) (getIn t z k .second) (x .first) (x .second) j (omega (arith, held .room, length-put t k x))
+        ≡ getIn (putEntry t k x) z j .parents + edges j (recordNode x)
+        = count-four (putEntry t k x) z (getIn t z k .first) (getIn t z k .second) (x .first) (x .second) j (omega (arith, held .room, length-put t k x))
         m l enough (edges-most j (recordNode x)) most in
         let sets : parents (set (tableOf t z) k (recordNode x)) j + edges j (node (tableOf t z) k)
         ≡ parents (tableOf t z) j + edges j (recordNode x) = parents-set (tableOf t z) k j (recordNode x) (omega (arith, long, h)) in
@@ -284,31 +269,31 @@ held-store t z k x held small n h same = record { room = omega (arith, held .roo
 -- ---- Clearing --------------------------------------------------------------------------------
 
 -- Clearing keeps the length.
-pub length-clear : (t : List (List ℕ)) (m : ℕ) → length (clearTo t m) ≡ length t
+pub length-clear : (t : List NodeRecord) (m : ℕ) → length (clearTo noRecord t m) ≡ length t
 length-clear t m = length-append (replicate (min m (length t)) noRecord) (drop m t)
     ∙ omega (arith, length-replicate (min m (length t)) noRecord, length-drop m t)
 
-clear-room : (t : List (List ℕ)) (z : ℕ) → z ≤ length t → length (replicate (min z (length t)) noRecord) ≡ z
+clear-room : (t : List NodeRecord) (z : ℕ) → z ≤ length t → length (replicate (min z (length t)) noRecord) ≡ z
 clear-room t z h = length-replicate (min z (length t)) noRecord ∙ omega (arith, h)
 
 -- A cleared table is the theory's new one.
-pub clear-table : (t : List (List ℕ)) (z : ℕ) → z ≤ length t → tableOf (clearTo t z) z ≡ replicate (suc z) noNode
+pub clear-table : (t : List NodeRecord) (z : ℕ) → z ≤ length t → tableOf (clearTo noRecord t z) z ≡ replicate (suc z) noNode
 clear-table t z h =
     let e : min z (length t) ≡ z = omega (arith, h) in
     ap (λ (l : List Node). noNode ∷ l)
-    (ap (map nodeOf) (take-at (replicate (min z (length t)) noRecord) (drop z t) z (clear-room t z h))
-    ∙ map-replicate nodeOf (min z (length t)) noRecord
+    (ap (map recordNode) (take-at (replicate (min z (length t)) noRecord) (drop z t) z (clear-room t z h))
+    ∙ map-replicate recordNode (min z (length t)) noRecord
     ∙ ap (λ (k : ℕ). replicate k noNode) e)
 
 -- In a cleared table the counts are right.
-pub held-clear : (t : List (List ℕ)) (z : ℕ) → z ≤ length t → Held (clearTo t z) z
+pub held-clear : (t : List NodeRecord) (z : ℕ) → z ≤ length t → Held (clearTo noRecord t z) z
 held-clear t z h = record { room = omega (arith, h, length-clear t z); counts = right }
   where
-    right : (k : ℕ) → (k ≡ 0 → ⊥) → k ≤ z → getIn (clearTo t z) z k .parents ≡ parents (tableOf (clearTo t z) z) k
+    right : (k : ℕ) → (k ≡ 0 → ⊥) → k ≤ z → getIn (clearTo noRecord t z) z k .parents ≡ parents (tableOf (clearTo noRecord t z) z) k
     right k n l =
         let i : k - 1 < length (replicate (min z (length t)) noRecord) = omega (arith, clear-room t z h, n, l) in
         let j : k - 1 < min z (length t) = omega (arith, h, n, l) in
-        ap (λ (x : NodeRecord). x .parents) (sym (get-here (clearTo t z) z k n l))
-        ∙ ap (λ (a : List ℕ). recordOf a .parents) (List·getD-append (replicate (min z (length t)) noRecord) (drop z t) [] (k - 1) i
-        ∙ getD-replicate (min z (length t)) (k - 1) noRecord [] j)
+        ap (λ (x : NodeRecord). x .parents) (sym (get-here (clearTo noRecord t z) z k n l))
+        ∙ ap (λ (a : NodeRecord). a .parents) (List·getD-append (replicate (min z (length t)) noRecord) (drop z t) noRecord (k - 1) i
+        ∙ getD-replicate (min z (length t)) (k - 1) noRecord noRecord j)
         ∙ sym (ap (λ (u : List Node). parents u k) (clear-table t z h) ∙ parents-fresh (suc z) k n)

@@ -2,11 +2,12 @@
 ghost use mathlib.Core.Path.{_≡_};
 ghost use mathlib.Core.Bool.{cond};
 ghost use lib.Dec.{eqb};
-ghost use lib.ListN.{getD, replicate};
+ghost use lib.ListN.{getD};
 ghost use Prim.Native.Nat.{_+_, _≤_, _^_};
 ghost use Rattle.theory_reading.specs.Limits.{optionLimit, truthTableMost, levelLimit, truthLimit};
 ghost use Rattle.theory_writing.specs.Run.{whole, inputEnded, outputFull};
 ghost use Rattle.theory_writing.specs.Calls.{truthAt, Writes};
+ghost use Rattle.node_records.specs.Records.{noWriterRecord};
 ghost use Rattle.theory_engine.specs.Engine.{sameBytes, allBytes, alikeBytes, againHalf, walkIn, bodyIn, streamIn};
 ghost use Rattle.meeting.specs.Abstraction.{halfOf, progressOf, walkedOf, writtenOf, writingOf};
 use checker::early;
@@ -28,6 +29,8 @@ use meeting::second;
 use node_records::TABLE_LIMIT;
 use node_records::TRUTH_TABLE_LEAST;
 use node_records::TRUTH_TABLE_MOST;
+use node_records::WriterRecord;
+use node_records::clear_writer_records;
 use node_records::differs;
 use pending_text::Sent;
 use pending_text::WAITING_LIMIT;
@@ -36,7 +39,6 @@ use pending_text::push_number;
 use pending_text::push_tilde;
 use pending_text::send;
 use pending_text::wait;
-use unique_table::clear;
 
 // ---- The walk over a truth table
 
@@ -137,7 +139,7 @@ fn walk(
     i: u32,
     at: usize,
     m: usize,
-    t: &mut [[u32; 12]],
+    t: &mut [WriterRecord],
     out: &mut [u8],
     w: &mut [u8],
     progress: Progress,
@@ -184,7 +186,7 @@ fn body(
     n: u32,
     size: u32,
     v: &[u8],
-    t: &mut [[u32; 12]],
+    t: &mut [WriterRecord],
     out: &mut [u8],
     w: &mut [u8],
     x: Sent,
@@ -208,7 +210,7 @@ fn body(
     done(m, r, out, w)
 }
 
-fn stream(n: u32, size: u32, v: &[u8], t: &mut [[u32; 12]], out: &mut [u8], w: &mut [u8]) -> Sent
+fn stream(n: u32, size: u32, v: &[u8], t: &mut [WriterRecord], out: &mut [u8], w: &mut [u8]) -> Sent
     requires { ⌜ n ≤ truthTableMost ⌝ }
     ensures { λ r. ⌜ record { written = r .written; full = r .full; output = now (out .exit); waits = now (w .exit) }
         ≡ streamIn n size (now (v .entry)) (now (t .entry)) (now (out .entry)) (now (w .entry)) ⌝ }
@@ -238,8 +240,8 @@ fn answer(n: u32, covered: u64, x: Sent) -> Written
 }
 
 // WRITING the stream of a truth table: causes 1, 3, 4 and 6.
-pub fn write(n: u32, size: u32, v: &[u8], out: &mut [u8], t: &mut [[u32; 12]]) -> Writing
-    ensures { λ r. ⌜ Writes (replicate 12 0) n size (now (v .entry)) (now (out .entry)) (now (t .entry))
+pub fn write(n: u32, size: u32, v: &[u8], out: &mut [u8], t: &mut [WriterRecord]) -> Writing
+    ensures { λ r. ⌜ Writes noWriterRecord n size (now (v .entry)) (now (out .entry)) (now (t .entry))
         (record { answer = writingOf r; table = now (t .exit); output = now (out .exit) }) ⌝ }
 {
     if n < TRUTH_TABLE_LEAST {
@@ -257,9 +259,9 @@ pub fn write(n: u32, size: u32, v: &[u8], out: &mut [u8], t: &mut [[u32; 12]]) -
     if v.len() != (1usize << n) / 8 {
         return Writing::Refused(early(Cause::TruthTable));
     }
-    clear(t);
+    clear_writer_records(t);
     let mut w = [0u8; WAITING_LIMIT];
     let x = stream(n, size, v, t, out, &mut w);
-    clear(t);
+    clear_writer_records(t);
     Writing::Done(answer(n, 1u64 << n, x))
 }

@@ -1,2 +1,2 @@
 # crates/combiner/src/lib.rt
-/^pub fn combine/,/^}/s/^    clear_records(t1);/    \/\/ clear_records(t1);/
+/^pub fn combine/,/^}/s/^    clear_all(t1);/    \/\/ clear_all(t1);/

@@ -1,2 +1,2 @@
 # crates/combiner/src/lib.rt
-/^fn clear_records/,/^}/s/let z = t\.len();/let z = t.len() - 1;/
+/^fn clear_all/,/^}/s/let z = t\.len();/let z = t.len() - 1;/

@@ -1,2 +1,2 @@
 # crates/combiner/src/lib.rt
-/^pub fn combine/,/^}/s/^    clear_records(t2);/    \/\/ clear_records(t2);/
+/^pub fn combine/,/^}/s/^    clear_all(t2);/    \/\/ clear_all(t2);/

@@ -1,5 +1,5 @@
 # crates/combiner/src/lib.rt
 /^    let b = load(n, y, t2);/{
 n
-s/^    clear(t);/    \/\/ clear(t);/
+s/^    clear_writer_records(t);/    \/\/ clear_writer_records(t);/
 }

@@ -1,2 +1,2 @@
-# crates/work_table/src/lib.rt
+# crates/node_records/src/lib.rt
 s/^    let e = least(m, t.len());/    let e = least(m, 1024);/

@@ -1,2 +1,2 @@
-# crates/unique_table/src/lib.rt
-/^pub fn clear(/,/^}/s/^    while i < t.len() {/    while i + 1 < t.len() {/
+# crates/node_records/src/lib.rt
+/^pub fn clear_writer_records(/,/^}/s/^    while i < e {/    while i + 1 < e {/

@@ -1,2 +1,2 @@
-# crates/unique_table/src/lib.rt
-/^fn is_free/,/^}/s/^    b != x$/    true/
+# crates/writer_records/src/lib.rt
+/^pub fn is_free/,/^}/s/^    b != x$/    true/

@@ -1,2 +1,2 @@
 # crates/unique_table/src/lib.rt
-/^fn release/,/^}/s/^    orphans(t, f, x, y)/    orphans(t, f, y, x)/
+/^fn release/,/^}/s/^    orphans(t, f, x.first, x.second)/    orphans(t, f, x.second, x.first)/

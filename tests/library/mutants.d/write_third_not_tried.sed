@@ -1,2 +1,2 @@
 # crates/unique_table/src/lib.rt
-/^fn free/,/^}/s/^    get(t, 6, y)/    0/
+/^fn free/,/^}/s/^    after_of(true, get_writer_record(t, y))/    0/

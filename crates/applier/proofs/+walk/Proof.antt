@@ -1,11 +1,12 @@
 -- A word, a part whose result is fixed or remembered, or two halves that meet; each half has an option less.
 -- Assumes nothing.
+mod Lts-walk
+mod Tie
 use borrow.Author.Needs.{needs}
 use borrow.Fn.Kinds.{In}
 use borrow.Fn.PlainCycle.{Measures, is, falls, and}
-use Rattle.applier.proofs.walk.Kinds as walk-kinds
-use Rattle.applier.proofs.+walk.Lts-walk as walk-lts
-use Rattle.applier.proofs.walk.Reads as walk
+use Rattle.applier.proofs.Lifted.walk as walk-kinds
+use Rattle.applier.proofs.+walk.Proof.Lts-walk as walk-lts
 use Rattle.edges.proofs.both_pass.Reads as both-pass
 use Rattle.edges.proofs.first_edge.Reads as first-edge
 use Rattle.applier.proofs.half_told.Reads as half-told
@@ -14,8 +15,8 @@ use Rattle.edges.proofs.is_fixed.Reads as is-fixed
 use Rattle.operation_cache.proofs.key_of.Reads as key-of
 use Rattle.operation_cache.proofs.note.Reads as note
 use Rattle.edges.proofs.operate.Reads as operates
-use Rattle.operation_cache.proofs.recall.Reads as recall
-use Rattle.work_table.proofs.get.Reads as get
+use Rattle.operation_cache.proofs.Lifted.recall as recall
+use Rattle.work_table.proofs.Lifted.get as get
 use Rattle.edges.proofs.second_edge.Reads as second-edge
 use Rattle.operation_cache.proofs.slot.Reads as slot
 use Rattle.meeting.proofs.constant.Reads as constant
@@ -24,12 +25,12 @@ use Rattle.meeting.proofs.half_of.Reads as half-of
 use Rattle.meeting.proofs.kept.Reads as kept
 use Rattle.meeting.proofs.numbered.Reads as numbered
 use Rattle.meeting.proofs.progress_of.Reads as progress-of
-use Rattle.meeting.proofs.second.Reads as second
+use Rattle.meeting.proofs.Lifted.second as second
 use Rattle.pending_text.proofs.push.Reads as push
 use Rattle.pending_text.proofs.push_tilde.Reads as push-tilde
 use Rattle.pending_text.proofs.wait.Reads as wait
 use Rattle.applier.proofs.+walk.{statement}
-use Rattle.applier.proofs.+walk.Tie.{close}
+use Rattle.applier.proofs.+walk.Proof.Tie.{close}
 use mathlib.Core.Path.{sym, ap, _∙_}
 use native.Mathlib.Omega.{arith}
 use Prim.Native.Nat.{ℕ, _<_, _-_}
@@ -45,10 +46,10 @@ abbrev μ : Measures 6 walk-kinds.ps ℕ
 μ κs a = a .1 .1 .0
 
 abbrev at : ℕ → In 6 walk-kinds.ps
-at t = and 6 walk-kinds.ps (is 6 walk-kinds.ps μ t) walk.Pre
+at t = and 6 walk-kinds.ps (is 6 walk-kinds.ps μ t) walk-kinds.Pre
 
 abbrev below : ℕ → In 6 walk-kinds.ps
-below t = and 6 walk-kinds.ps (falls 6 walk-kinds.ps _<_ μ t) walk.Pre
+below t = and 6 walk-kinds.ps (falls 6 walk-kinds.ps _<_ μ t) walk-kinds.Pre
 
 module _ (t : ℕ) where
   -- what each callee asks, and what it gives
@@ -77,7 +78,7 @@ module _ (t : ℕ) where
     first-edge.Asked,
     first-edge.Learnt,
     below t,
-    walk.Post,
+    walk-kinds.Post,
     progress-of.Asked,
     progress-of.Learnt,
     half-of.Asked,
@@ -102,16 +103,16 @@ module _ (t : ℕ) where
     note.Learnt,
   )
 
-  operate-requires : walk-lts.Need-operate-requires K (at t) walk.Post
+  operate-requires : walk-lts.Need-operate-requires K (at t) walk-kinds.Post
   operate-requires c κs = tt
 
-  constant-requires : walk-lts.Need-constant-requires K (at t) walk.Post
+  constant-requires : walk-lts.Need-constant-requires K (at t) walk-kinds.Post
   constant-requires c κs = tt
 
-  kept-requires : walk-lts.Need-kept-requires K (at t) walk.Post
+  kept-requires : walk-lts.Need-kept-requires K (at t) walk-kinds.Post
   kept-requires c κs = tt
 
-  returns : walk-lts.Need-returns K (at t) walk.Post
+  returns : walk-lts.Need-returns K (at t) walk-kinds.Post
   returns c =
       let c1 = c .before in
       let c2 = c1 .before in
@@ -123,19 +124,19 @@ module _ (t : ℕ) where
       ∙ recall-word slotOf (operate (a .op)) (a .size) (a .d) (a .i) (a .m) (pair (a .x) (a .t1 .now) (a .y) (a .t2 .now)) (a .c .now) (a .t .now)
       (a .out .now) (a .w .now) (progressOf (a .progress)) (c2 .operate .result) (c3 .if1 .taken) (c2 .operate .ensures)
 
-  is-fixed-requires : walk-lts.Need-is-fixed-requires K (at t) walk.Post
+  is-fixed-requires : walk-lts.Need-is-fixed-requires K (at t) walk-kinds.Post
   is-fixed-requires c κs = tt
 
-  operate-requires-2 : walk-lts.Need-operate-requires-2 K (at t) walk.Post
+  operate-requires-2 : walk-lts.Need-operate-requires-2 K (at t) walk-kinds.Post
   operate-requires-2 c κs = tt
 
-  constant-requires-2 : walk-lts.Need-constant-requires-2 K (at t) walk.Post
+  constant-requires-2 : walk-lts.Need-constant-requires-2 K (at t) walk-kinds.Post
   constant-requires-2 c κs = tt
 
-  kept-requires-2 : walk-lts.Need-kept-requires-2 K (at t) walk.Post
+  kept-requires-2 : walk-lts.Need-kept-requires-2 K (at t) walk-kinds.Post
   kept-requires-2 c κs = tt
 
-  returns-2 : walk-lts.Need-returns-2 K (at t) walk.Post
+  returns-2 : walk-lts.Need-returns-2 K (at t) walk-kinds.Post
   returns-2 c =
       let c1 = c .before in
       let c2 = c1 .before in
@@ -150,34 +151,34 @@ module _ (t : ℕ) where
       (a .t .now) (a .out .now) (a .w .now) (progressOf (a .progress)) (a .d) (c2 .operate2 .result) (one-down (a .d) (c5 .if1 .left))
       (sym (c4 .is-fixed .ensures (a .t1 .now) (a .t2 .now)) ∙ c3 .if2 .taken) (c2 .operate2 .ensures)
 
-  get-requires : walk-lts.Need-get-requires K (at t) walk.Post
+  get-requires : walk-lts.Need-get-requires K (at t) walk-kinds.Post
   get-requires c κs = tt
 
-  get-requires-2 : walk-lts.Need-get-requires-2 K (at t) walk.Post
+  get-requires-2 : walk-lts.Need-get-requires-2 K (at t) walk-kinds.Post
   get-requires-2 c κs = tt
 
-  key-of-requires : walk-lts.Need-key-of-requires K (at t) walk.Post
+  key-of-requires : walk-lts.Need-key-of-requires K (at t) walk-kinds.Post
   key-of-requires c κs = tt
 
-  slot-requires : walk-lts.Need-slot-requires K (at t) walk.Post
+  slot-requires : walk-lts.Need-slot-requires K (at t) walk-kinds.Post
   slot-requires c κs = tt
 
-  recall-requires : walk-lts.Need-recall-requires K (at t) walk.Post
+  recall-requires : walk-lts.Need-recall-requires K (at t) walk-kinds.Post
   recall-requires c κs = tt
 
-  half-told-requires : walk-lts.Need-half-told-requires K (at t) walk.Post
+  half-told-requires : walk-lts.Need-half-told-requires K (at t) walk-kinds.Post
   half-told-requires c κs = tt
 
-  kept-requires-3 : walk-lts.Need-kept-requires-3 K (at t) walk.Post
+  kept-requires-3 : walk-lts.Need-kept-requires-3 K (at t) walk-kinds.Post
   kept-requires-3 c κs = tt
 
-  same-length : walk-lts.Need-same-length K (at t) walk.Post
+  same-length : walk-lts.Need-same-length K (at t) walk-kinds.Post
   same-length c = search needs
 
-  same-length-2 : walk-lts.Need-same-length-2 K (at t) walk.Post
+  same-length-2 : walk-lts.Need-same-length-2 K (at t) walk-kinds.Post
   same-length-2 c = search needs
 
-  returns-3 : walk-lts.Need-returns-3 K (at t) walk.Post
+  returns-3 : walk-lts.Need-returns-3 K (at t) walk-kinds.Post
   returns-3 c =
       let c1 = c .before in
       let c2 = c1 .before in
@@ -199,52 +200,52 @@ module _ (t : ℕ) where
       (c6 .slot .ensures) (c3 .recall .result) (c3 .recall .ensures)
       (c1 .half-told .result) (c1 .half-told .ensures) (c2 .if3 .taken)
 
-  sub-e : walk-lts.Need-sub-e K (at t) walk.Post
+  sub-e : walk-lts.Need-sub-e K (at t) walk-kinds.Post
   sub-e c =
       let c10 = c .before .before .before .before .before .before .before .before .before .before in
       let c13 = c10 .before .before .before in
       let a = c13 .args in one-asks (a .d) (c10 .if1 .left)
 
-  add-j : walk-lts.Need-add-j K (at t) walk.Post
+  add-j : walk-lts.Need-add-j K (at t) walk-kinds.Post
   add-j c =
       let c13 = c .before .before .before .before .before .before .before .before .before .before .before .before .before in
       let z = c13 .pre in omega (arith, z)
 
-  push-requires : walk-lts.Need-push-requires K (at t) walk.Post
+  push-requires : walk-lts.Need-push-requires K (at t) walk-kinds.Post
   push-requires c κs = tt
 
-  first-edge-requires : walk-lts.Need-first-edge-requires K (at t) walk.Post
+  first-edge-requires : walk-lts.Need-first-edge-requires K (at t) walk-kinds.Post
   first-edge-requires c κs = tt
 
-  first-edge-requires-2 : walk-lts.Need-first-edge-requires-2 K (at t) walk.Post
+  first-edge-requires-2 : walk-lts.Need-first-edge-requires-2 K (at t) walk-kinds.Post
   first-edge-requires-2 c κs = tt
 
-  walk-requires : walk-lts.Need-walk-requires K (at t) walk.Post
+  walk-requires : walk-lts.Need-walk-requires K (at t) walk-kinds.Post
   walk-requires c κs =
       let c20 = c .before .before .before .before .before .before .before .before .before .before .before .before .before .before .before .before
       .before .before .before .before in
       let c23 = c20 .before .before .before in
       let a = c23 .args in half-asks (a .d) (a .i) t (c23 .pre) (c20 .if1 .left)
 
-  progress-of-requires : walk-lts.Need-progress-of-requires K (at t) walk.Post
+  progress-of-requires : walk-lts.Need-progress-of-requires K (at t) walk-kinds.Post
   progress-of-requires c κs = tt
 
-  same-length-3 : walk-lts.Need-same-length-3 K (at t) walk.Post
+  same-length-3 : walk-lts.Need-same-length-3 K (at t) walk-kinds.Post
   same-length-3 c = search needs
 
-  same-length-4 : walk-lts.Need-same-length-4 K (at t) walk.Post
+  same-length-4 : walk-lts.Need-same-length-4 K (at t) walk-kinds.Post
   same-length-4 c = search needs
 
-  same-length-5 : walk-lts.Need-same-length-5 K (at t) walk.Post
+  same-length-5 : walk-lts.Need-same-length-5 K (at t) walk-kinds.Post
   same-length-5 c =
       let c4 = c .before .before .before .before in
       let c16 = c4 .before .before .before .before .before .before .before .before .before .before .before .before in
       c4 .w2 .given ∙ c16 .w .given
 
-  same-length-6 : walk-lts.Need-same-length-6 K (at t) walk.Post
+  same-length-6 : walk-lts.Need-same-length-6 K (at t) walk-kinds.Post
   same-length-6 c = search needs
 
-  returns-4 : walk-lts.Need-returns-4 K (at t) walk.Post
+  returns-4 : walk-lts.Need-returns-4 K (at t) walk-kinds.Post
   returns-4 c =
       let c1 = c .before in
       let c8 = c1 .before .before .before .before .before .before .before in
@@ -273,57 +274,57 @@ module _ (t : ℕ) where
       (c13 .first-edge2 .ensures) (c17 .push .ensures) (c8 .walk .ensures) (progressOf (c1 .progress-of .result))
       (ap progressOf (c1 .progress-of .ensures)) (c .if4 .taken)
 
-  half-of-requires : walk-lts.Need-half-of-requires K (at t) walk.Post
+  half-of-requires : walk-lts.Need-half-of-requires K (at t) walk-kinds.Post
   half-of-requires c κs = tt
 
-  both-pass-requires : walk-lts.Need-both-pass-requires K (at t) walk.Post
+  both-pass-requires : walk-lts.Need-both-pass-requires K (at t) walk-kinds.Post
   both-pass-requires c κs = tt
 
-  second-edge-requires : walk-lts.Need-second-edge-requires K (at t) walk.Post
+  second-edge-requires : walk-lts.Need-second-edge-requires K (at t) walk-kinds.Post
   second-edge-requires c κs = tt
 
-  second-edge-requires-2 : walk-lts.Need-second-edge-requires-2 K (at t) walk.Post
+  second-edge-requires-2 : walk-lts.Need-second-edge-requires-2 K (at t) walk-kinds.Post
   second-edge-requires-2 c κs = tt
 
-  operate-requires-3 : walk-lts.Need-operate-requires-3 K (at t) walk.Post
+  operate-requires-3 : walk-lts.Need-operate-requires-3 K (at t) walk-kinds.Post
   operate-requires-3 c κs = tt
 
-  differs-requires : walk-lts.Need-differs-requires K (at t) walk.Post
+  differs-requires : walk-lts.Need-differs-requires K (at t) walk-kinds.Post
   differs-requires c κs = tt
 
-  wait-requires : walk-lts.Need-wait-requires K (at t) walk.Post
+  wait-requires : walk-lts.Need-wait-requires K (at t) walk-kinds.Post
   wait-requires c κs = tt
 
-  push-tilde-requires : walk-lts.Need-push-tilde-requires K (at t) walk.Post
+  push-tilde-requires : walk-lts.Need-push-tilde-requires K (at t) walk-kinds.Post
   push-tilde-requires c κs = tt
 
-  is-alike-requires : walk-lts.Need-is-alike-requires K (at t) walk.Post
+  is-alike-requires : walk-lts.Need-is-alike-requires K (at t) walk-kinds.Post
   is-alike-requires c κs = tt
 
-  numbered-requires : walk-lts.Need-numbered-requires K (at t) walk.Post
+  numbered-requires : walk-lts.Need-numbered-requires K (at t) walk-kinds.Post
   numbered-requires c κs = tt
 
-  kept-requires-4 : walk-lts.Need-kept-requires-4 K (at t) walk.Post
+  kept-requires-4 : walk-lts.Need-kept-requires-4 K (at t) walk-kinds.Post
   kept-requires-4 c κs = tt
 
-  second-requires : walk-lts.Need-second-requires K (at t) walk.Post
+  second-requires : walk-lts.Need-second-requires K (at t) walk-kinds.Post
   second-requires c κs = tt
 
-  same-length-7 : walk-lts.Need-same-length-7 K (at t) walk.Post
+  same-length-7 : walk-lts.Need-same-length-7 K (at t) walk-kinds.Post
   same-length-7 c =
       let c4 = c .before .before .before .before in
       let c34 = c4 .before .before .before .before .before .before .before .before .before .before .before .before .before .before .before .before
       .before .before .before .before .before .before .before .before .before .before .before .before .before .before in
       c4 .t2 .given ∙ c34 .t .given
 
-  same-length-8 : walk-lts.Need-same-length-8 K (at t) walk.Post
+  same-length-8 : walk-lts.Need-same-length-8 K (at t) walk-kinds.Post
   same-length-8 c =
       let c3 = c .before .before .before in
       let c33 = c3 .before .before .before .before .before .before .before .before .before .before .before .before .before .before .before .before
       .before .before .before .before .before .before .before .before .before .before .before .before .before .before in
       c3 .out2 .given ∙ c33 .out .given
 
-  same-length-9 : walk-lts.Need-same-length-9 K (at t) walk.Post
+  same-length-9 : walk-lts.Need-same-length-9 K (at t) walk-kinds.Post
   same-length-9 c =
       let c1 = c .before in
       let c14 = c1 .before .before .before .before .before .before .before .before .before .before .before .before .before in
@@ -332,13 +333,13 @@ module _ (t : ℕ) where
       let c43 = c31 .before .before .before .before .before .before .before .before .before .before .before .before in
       c1 .w5 .given ∙ c14 .w4 .given ∙ c18 .w3 .given ∙ c31 .w2 .given ∙ c43 .w .given
 
-  same-length-10 : walk-lts.Need-same-length-10 K (at t) walk.Post
+  same-length-10 : walk-lts.Need-same-length-10 K (at t) walk-kinds.Post
   same-length-10 c =
       let c29 = c .before .before .before .before .before .before .before .before .before .before .before .before .before .before .before .before
       .before .before .before .before .before .before .before .before .before .before .before .before .before in
       c29 .c .given
 
-  returns-5 : walk-lts.Need-returns-5 K (at t) walk.Post
+  returns-5 : walk-lts.Need-returns-5 K (at t) walk-kinds.Post
   returns-5 c =
       let c5 = c .before .before .before .before .before in
       let c9 = c5 .before .before .before .before in
@@ -395,7 +396,7 @@ module _ (t : ℕ) where
       (c35 .walk .last .1 .1 .1 .1 .1 .1 .1 .1 .1 .0) (c35 .walk .last .1 .1 .1 .1 .1 .1 .1 .1 .1 .1 .0) (c15 .push-tilde .last .0)
       (c35 .walk .last .1 .1 .1 .1 .1 .1 .1 .1 .1 .1 .1 .1 .0) (c9 .kept4 .ensures) (c10 .numbered .ensures))
 
-  walk-requires-2 : walk-lts.Need-walk-requires-2 K (at t) walk.Post
+  walk-requires-2 : walk-lts.Need-walk-requires-2 K (at t) walk-kinds.Post
   walk-requires-2 c κs =
       let c49 = c .before .before .before .before .before .before .before .before .before .before .before .before .before .before .before .before
       .before .before .before .before .before .before .before .before .before .before .before .before .before .before .before .before .before
@@ -403,13 +404,13 @@ module _ (t : ℕ) where
       let c52 = c49 .before .before .before in
       let a = c52 .args in half-asks (a .d) (a .i) t (c52 .pre) (c49 .if1 .left)
 
-  second-requires-2 : walk-lts.Need-second-requires-2 K (at t) walk.Post
+  second-requires-2 : walk-lts.Need-second-requires-2 K (at t) walk-kinds.Post
   second-requires-2 c κs = tt
 
-  note-requires : walk-lts.Need-note-requires K (at t) walk.Post
+  note-requires : walk-lts.Need-note-requires K (at t) walk-kinds.Post
   note-requires c κs = tt
 
-  same-length-11 : walk-lts.Need-same-length-11 K (at t) walk.Post
+  same-length-11 : walk-lts.Need-same-length-11 K (at t) walk-kinds.Post
   same-length-11 c =
       let c7 = c .before .before .before .before .before .before .before in
       let c17 = c7 .before .before .before .before .before .before .before .before .before .before in
@@ -417,7 +418,7 @@ module _ (t : ℕ) where
       .before .before .before .before .before .before .before .before .before .before .before .before .before in
       c7 .t4 .given ∙ c17 .t3 .given ∙ c46 .t .given
 
-  same-length-12 : walk-lts.Need-same-length-12 K (at t) walk.Post
+  same-length-12 : walk-lts.Need-same-length-12 K (at t) walk-kinds.Post
   same-length-12 c =
       let c6 = c .before .before .before .before .before .before in
       let c16 = c6 .before .before .before .before .before .before .before .before .before .before in
@@ -425,7 +426,7 @@ module _ (t : ℕ) where
       .before .before .before .before .before .before .before .before .before .before .before .before .before in
       c6 .out4 .given ∙ c16 .out3 .given ∙ c45 .out .given
 
-  same-length-13 : walk-lts.Need-same-length-13 K (at t) walk.Post
+  same-length-13 : walk-lts.Need-same-length-13 K (at t) walk-kinds.Post
   same-length-13 c =
       let c4 = c .before .before .before .before in
       let c14 = c4 .before .before .before .before .before .before .before .before .before .before in
@@ -435,14 +436,14 @@ module _ (t : ℕ) where
       let c55 = c43 .before .before .before .before .before .before .before .before .before .before .before .before in
       c4 .w7 .given ∙ c14 .w6 .given ∙ c26 .w4 .given ∙ c30 .w3 .given ∙ c43 .w2 .given ∙ c55 .w .given
 
-  same-length-14 : walk-lts.Need-same-length-14 K (at t) walk.Post
+  same-length-14 : walk-lts.Need-same-length-14 K (at t) walk-kinds.Post
   same-length-14 c =
       let c12 = c .before .before .before .before .before .before .before .before .before .before .before .before in
       let c41 = c12 .before .before .before .before .before .before .before .before .before .before .before .before .before .before .before .before
       .before .before .before .before .before .before .before .before .before .before .before .before .before in
       c .c3 .given ∙ c12 .c2 .given ∙ c41 .c .given
 
-  returns-6 : walk-lts.Need-returns-6 K (at t) walk.Post
+  returns-6 : walk-lts.Need-returns-6 K (at t) walk-kinds.Post
   returns-6 c =
       let c1 = c .before in
       let c8 = c1 .before .before .before .before .before .before .before in
@@ -497,7 +498,7 @@ module _ (t : ℕ) where
       (c24 .is-alike .result) (c24 .is-alike .ensures) (c23 .if5 .left) (c18 .walk2 .ensures) (c1 .note .last .0) (c1 .note .ensures)
 
 pub +walk-spec : {M : Type 1} → statement M
-+walk-spec = close μ λ t. walk-lts.spec (K t) (at t) walk.Post
++walk-spec = close μ λ t. walk-lts.spec (K t) (at t) walk-kinds.Post
     (operate-requires t)
     (constant-requires t)
     (kept-requires t)

@@ -1,4 +1,6 @@
 -- Past the options or levels of a rule nothing is walked. Assumes nothing.
+mod Lts
+mod Tie
 use mathlib.Core.Path.{refl, ap, _∙_}
 use mathlib.Core.Bool.{Bool, false, _||_}
 use native.Mathlib.Omega.{arith}
@@ -9,7 +11,7 @@ use Rattle.theory_reading.specs.Limits.{optionLimit, levelLimit}
 use Rattle.meeting.specs.Abstraction.{progressOf}
 use Rattle.applier.specs.WalkCorrect.{pair, constant-in, applied-past, applied-within}
 use Rattle.applier.proofs.apply.Statement.{statement}
-use Rattle.applier.proofs.apply.Tie as tie
+use Rattle.applier.proofs.apply.Proof.Tie as tie
 
 constant-requires : tie.Need-constant-requires
 constant-requires c κs = tt

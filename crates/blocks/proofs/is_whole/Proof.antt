@@ -1,12 +1,14 @@
 -- The four tests in the order of the definition.
 -- Assumes nothing.
+mod Lts
+mod Tie
 use mathlib.Core.Path.{refl, sym, ap, _∙_}
 use lib.Dec.{eqb}
 use borrow.Author.Tests.{ne-eqb, eq-eqb, not-true, not-false}
 use Rattle.node_records.specs.declared.NodeRecord.{NodeRecord}
 use borrow.Author.Needs.{needs}
 use Rattle.blocks.proofs.is_whole.Statement.{statement}
-use Rattle.blocks.proofs.is_whole.Tie as tie
+use Rattle.blocks.proofs.is_whole.Proof.Tie as tie
 
 returns : tie.Need-returns
 returns c = rw (c .if1 .taken) refl

@@ -1,10 +1,12 @@
 -- The loop reads the stream to its end, and what is loaded is made of what it reaches (`load-correct`).
 -- Assumes nothing.
+mod Lts
+mod Tie
 use native.Mathlib.Omega.{arith}
 use Rattle.blocks.specs.Load.{load-options, load-table, load-correct}
 use borrow.Author.Needs.{needs}
 use Rattle.blocks.proofs.load.Statement.{statement}
-use Rattle.blocks.proofs.load.Tie as tie
+use Rattle.blocks.proofs.load.Proof.Tie as tie
 
 not-loaded-requires : tie.Need-not-loaded-requires
 not-loaded-requires c κs = search needs

@@ -1,10 +1,12 @@
 -- The block is made of what the loop reaches with the covered count as its stop (`next-called`).
 -- Assumes nothing.
+mod Lts
+mod Tie
 use Rattle.reader.specs.OpenCells.{cursorIn}
 use Rattle.blocks.specs.Blocks.{next-called}
 use borrow.Author.Needs.{needs}
 use Rattle.blocks.proofs.next_block.Statement.{statement}
-use Rattle.blocks.proofs.next_block.Tie as tie
+use Rattle.blocks.proofs.next_block.Proof.Tie as tie
 
 read-on-requires : tie.Need-read-on-requires
 read-on-requires c κs = search needs

@@ -1,5 +1,7 @@
 -- The loop reads the stream to its end (`all-reads`); then every record is cleared.
 -- Assumes nothing.
+mod Lts
+mod Tie
 use mathlib.Core.Path.{ap}
 use native.Mathlib.Omega.{arith}
 use Rattle.theory_reading.specs.Limits.{wordLimit}
@@ -8,7 +10,7 @@ use Rattle.reader.specs.ReadOn.{read-begun}
 use Rattle.checker.specs.CheckCorrect.{cleared-after, all-reads, check-options, check-table, check-correct}
 use borrow.Author.Needs.{needs}
 use Rattle.checker.proofs.check.Statement.{statement}
-use Rattle.checker.proofs.check.Tie as tie
+use Rattle.checker.proofs.check.Proof.Tie as tie
 
 early-requires : tie.Need-early-requires
 early-requires c κs = search needs
@@ -33,8 +35,8 @@ first-cursor-requires c κs = search needs
 read-on-requires : tie.Need-read-on-requires
 read-on-requires c κs = search needs
 
-clear-requires : tie.Need-clear-requires
-clear-requires c κs = search needs
+clear-records-requires : tie.Need-clear-records-requires
+clear-records-requires c κs = search needs
 
 checked-at-requires : tie.Need-checked-at-requires
 checked-at-requires c κs = search needs
@@ -55,7 +57,7 @@ returns-3 c =
     (omega (arith, if2 .left)) (firstcursor .ensures) _ _ (readon .ensures) in
     check-correct (a .n) (a .s .now) (a .t .now) _ _ _ _ (omega (arith, few)) (omega (arith, if2 .left))
     (all-reads (a .n) (a .s .now) _ _ (omega (arith, few)) reached) (c .checked-at .ensures)
-    (cleared-after _ _ _ _ _ reached (a .t .now) (t0 .given) _ (c .before .before .clear .ensures))
+    (cleared-after _ _ _ _ _ reached (a .t .now) (t0 .given) _ (c .before .before .clear-records .ensures))
 
 pub check-spec : {M : Type 1} → statement M
 check-spec =
@@ -67,7 +69,7 @@ check-spec =
     returns-2
     first-cursor-requires
     read-on-requires
-    clear-requires
+    clear-records-requires
     checked-at-requires
     same-length
     returns-3)

@@ -1,4 +1,6 @@
 -- In its text, at the terminal, or at its outermost node. Assumes nothing.
+mod Lts
+mod Tie
 use borrow.Author.Tests.{not-true, not-false}
 use Rattle.blocks.specs.Blocks.{blockIn}
 use Rattle.blocks.specs.Load.{loadIn}
@@ -6,7 +8,7 @@ use Rattle.operands.specs.Abstraction.{begunFrom}
 use Rattle.combiner.specs.CallCorrect.{enter-text, enter-blind, enter-root}
 use borrow.Author.Needs.{needs}
 use Rattle.combiner.proofs.enter.Statement.{statement}
-use Rattle.combiner.proofs.enter.Tie as tie
+use Rattle.combiner.proofs.enter.Proof.Tie as tie
 
 begin-requires : tie.Need-begin-requires
 begin-requires c κs = tt

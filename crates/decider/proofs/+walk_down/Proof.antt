@@ -1,5 +1,7 @@
 -- The terminal and a word without options are decided at once; else the word goes on in the first child or in the second, with an option less.
 -- Assumes nothing.
+mod Lts-walk_down
+mod Tie
 use mathlib.Core.Path.{ap, _∙_}
 use Prim.Native.Nat.{ℕ, _<_}
 use native.Mathlib.Omega.{arith}
@@ -11,23 +13,22 @@ use Rattle.work_table.specs.TableLaws.{tableOf}
 use Rattle.decider.specs.WalkLaws.{walk-terminal, walk-over, walk-low, walk-high}
 use borrow.Author.Needs.{needs}
 use Rattle.decider.proofs.+walk_down.{statement}
-use Rattle.decider.proofs.+walk_down.Tie.{close}
-use Rattle.decider.proofs.walk_down.Reads as walk-down
-use Rattle.decider.proofs.walk_down.Kinds as walk-down-kinds
-use Rattle.decider.proofs.+walk_down.Lts-walk_down as walk-down-lts
+use Rattle.decider.proofs.+walk_down.Proof.Tie.{close}
+use Rattle.decider.proofs.Lifted.walk_down as walk-down
+use Rattle.decider.proofs.+walk_down.Proof.Lts-walk_down as walk-down-lts
 use Rattle.node_records.proofs.first_edge.Reads as first-edge
-use Rattle.work_table.proofs.get.Reads as get
+use Rattle.work_table.proofs.Lifted.get as get
 use Rattle.node_records.proofs.second_edge.Reads as second-edge
 use Rattle.decider.proofs.verdict_of.Reads as verdict-of
 
-abbrev μ : Measures 1 walk-down-kinds.ps ℕ
+abbrev μ : Measures 1 walk-down.ps ℕ
 μ κs a = a .1 .1 .0
 
-abbrev at : ℕ → In 1 walk-down-kinds.ps
-at t = and 1 walk-down-kinds.ps (is 1 walk-down-kinds.ps μ t) walk-down.Pre
+abbrev at : ℕ → In 1 walk-down.ps
+at t = and 1 walk-down.ps (is 1 walk-down.ps μ t) walk-down.Pre
 
-abbrev below : ℕ → In 1 walk-down-kinds.ps
-below t = and 1 walk-down-kinds.ps (falls 1 walk-down-kinds.ps _<_ μ t) walk-down.Pre
+abbrev below : ℕ → In 1 walk-down.ps
+below t = and 1 walk-down.ps (falls 1 walk-down.ps _<_ μ t) walk-down.Pre
 
 module _ (t : ℕ) where
   -- what each callee asks, and what it gives

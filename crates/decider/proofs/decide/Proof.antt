@@ -1,5 +1,7 @@
 -- The loop reads until the word is passed, which the table then decides (`word-passed`), or to the end, where it is not (`word-not`); then to the end,
 -- since a later fault still refuses. Every record is cleared. Assumes nothing.
+mod Lts
+mod Tie
 use mathlib.Core.Path.{sym, ap, _∙_}
 use Prim.Native.Nat.{_≤_}
 use native.Mathlib.Omega.{arith}
@@ -15,7 +17,7 @@ use Rattle.decider.specs.Answers.{verdictsOf}
 use Rattle.decider.specs.DecideCorrect.{word-most, passed-bounds, word-not, decide-options, decide-table, decide-word, decide-correct}
 use borrow.Author.Needs.{needs}
 use Rattle.decider.proofs.decide.Statement.{statement}
-use Rattle.decider.proofs.decide.Tie as tie
+use Rattle.decider.proofs.decide.Proof.Tie as tie
 
 early-requires : tie.Need-early-requires
 early-requires c κs = search needs
@@ -54,8 +56,8 @@ first-cursor-requires c κs = search needs
 read-on-requires : tie.Need-read-on-requires
 read-on-requires c κs = search needs
 
-clear-requires : tie.Need-clear-requires
-clear-requires c κs = search needs
+clear-records-requires : tie.Need-clear-records-requires
+clear-records-requires c κs = search needs
 
 decided-at-requires : tie.Need-decided-at-requires
 decided-at-requires c κs = search needs
@@ -78,7 +80,7 @@ returns-4 c =
     (omega (arith, if2 .left)) (firstcursor .ensures) _ _ (readon .ensures) in
     decide-correct n s t w _ _ _ _ notYet few (omega (arith, if2 .left)) (omega (arith, if3 .left, shifted n (omega (arith, few))))
     (halted-reads n s w _ _ reached (if4 .taken)) (word-not n s t w _ _ reached (if4 .taken)) (c .decided-at .ensures)
-    (cleared-after _ _ _ _ _ reached t (t0 .given) _ (c .before .before .clear .ensures))
+    (cleared-after _ _ _ _ _ reached t (t0 .given) _ (c .before .before .clear-records .ensures))
 
 word-at-requires : tie.Need-word-at-requires
 word-at-requires c κs =
@@ -97,8 +99,8 @@ word-at-requires c κs =
 read-on-requires-2 : tie.Need-read-on-requires-2
 read-on-requires-2 c κs = search needs
 
-clear-requires-2 : tie.Need-clear-requires-2
-clear-requires-2 c κs = search needs
+clear-records-requires-2 : tie.Need-clear-records-requires-2
+clear-records-requires-2 c κs = search needs
 
 decided-at-requires-2 : tie.Need-decided-at-requires-2
 decided-at-requires-2 c κs = search needs
@@ -132,7 +134,7 @@ returns-5 c =
     decide-correct n s t w _ _ _ _ (verdictsOf (wordat .result)) few (omega (arith, if2 .left))
     (omega (arith, if3 .left, shifted n (omega (arith, few))))
     (all-reads n s _ _ few ended) (λ _. word-passed n s w _ _ reached (if4 .left) ∙ sym (wordat .ensures)) (c .decided-at2 .ensures)
-    (cleared-after _ _ _ _ _ ended t (t3 .given ∙ t0 .given) _ (c .before .before .clear2 .ensures))
+    (cleared-after _ _ _ _ _ ended t (t3 .given ∙ t0 .given) _ (c .before .before .clear-records2 .ensures))
 
 pub decide-spec : {M : Type 1} → statement M
 decide-spec =
@@ -147,13 +149,13 @@ decide-spec =
     returns-3
     first-cursor-requires
     read-on-requires
-    clear-requires
+    clear-records-requires
     decided-at-requires
     same-length
     returns-4
     word-at-requires
     read-on-requires-2
-    clear-requires-2
+    clear-records-requires-2
     decided-at-requires-2
     same-length-2
     returns-5)

@@ -1,5 +1,7 @@
 -- A walk down from the node that was passed last, inside the open nodes that were around it.
 -- Assumes nothing.
+mod Lts
+mod Tie
 use mathlib.Core.Path.{ap₂, _∙_}
 use Prim.Native.Nat.{ℕ, _-_, _+_}
 use native.Mathlib.Omega.{arith}
@@ -10,7 +12,7 @@ use Rattle.work_table.specs.TableLaws.{tableOf}
 use Rattle.node_records.specs.declared.Edge.{Edge}
 use borrow.Author.Needs.{needs}
 use Rattle.decider.proofs.word_at.Statement.{statement}
-use Rattle.decider.proofs.word_at.Tie as tie
+use Rattle.decider.proofs.word_at.Proof.Tie as tie
 
 cast-i : tie.Need-cast-i
 cast-i c = omega (arith, c .before .pre .1 .0)

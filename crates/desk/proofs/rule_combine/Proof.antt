@@ -1,8 +1,10 @@
 -- The call, its answer as numbers.
 -- Assumes nothing.
+mod Lts
+mod Tie
 use borrow.Author.Needs.{needs}
 use Rattle.desk.proofs.rule_combine.Statement.{statement}
-use Rattle.desk.proofs.rule_combine.Tie as tie
+use Rattle.desk.proofs.rule_combine.Proof.Tie as tie
 use Rattle.desk.specs.Numbers.{combine-numbers}
 
 combine-requires : tie.Need-combine-requires

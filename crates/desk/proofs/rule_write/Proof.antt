@@ -1,8 +1,10 @@
 -- The call, its answer as numbers.
 -- Assumes nothing.
+mod Lts
+mod Tie
 use borrow.Author.Needs.{needs}
 use Rattle.desk.proofs.rule_write.Statement.{statement}
-use Rattle.desk.proofs.rule_write.Tie as tie
+use Rattle.desk.proofs.rule_write.Proof.Tie as tie
 use Rattle.desk.specs.Numbers.{write-numbers}
 
 write-requires : tie.Need-write-requires

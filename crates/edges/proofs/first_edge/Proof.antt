@@ -2,7 +2,7 @@
 use mathlib.Core.Path.{ap, _∙_}
 use Rattle.theory_combining.specs.EdgeCorrect.{first-child}
 use Rattle.edges.specs.Abstraction.{edgeIn}
-use Rattle.edges.specs.declared.Edge.{Edge}
+use Rattle.edges.specs.declared.TableEdge.{TableEdge}
 use borrow.Author.Needs.{needs}
 use Rattle.edges.proofs.first_edge.Statement.{statement}
 use Rattle.edges.proofs.first_edge.Tie as tie
@@ -20,7 +20,7 @@ returns : tie.Need-returns
 returns c = λ t e.
     let b = c .before .before in
     let a = b .before .args in
-    ap (λ (y : Edge). edgeIn y t) (c .beside .ensures)
+    ap (λ (y : TableEdge). edgeIn y t) (c .beside .ensures)
     ∙ first-child t (a .x .size) (a .i) (record { number = a .x .number; complement = a .x .complement }) (a .r) e (b .bare .result)
     (c .before .first-edge .result) (b .bare .ensures) (c .before .first-edge .ensures)
 

@@ -1,5 +1,7 @@
 -- With no option below it a node is one word, as `put_edge` puts it; else the words of its first child come first and those of its second after
 -- them, by the rule of `putNodeIn`. Assumes nothing.
+mod Lts-fill_node
+mod Tie
 use mathlib.Core.Path.{refl}
 use Prim.Native.Nat.{ℕ, _<_}
 use native.Mathlib.Omega.{arith}
@@ -10,23 +12,22 @@ use Rattle.theory_lists.specs.Powers.{few-words, both-halves}
 use Rattle.filler.specs.TruthLaws.{put-one, put-correct}
 use borrow.Author.Needs.{needs}
 use Rattle.filler.proofs.+fill_node.{statement}
-use Rattle.filler.proofs.+fill_node.Tie.{close}
-use Rattle.filler.proofs.fill_node.Reads as fill-node
-use Rattle.filler.proofs.fill_node.Kinds as fill-node-kinds
-use Rattle.filler.proofs.+fill_node.Lts-fill_node as fill-node-lts
+use Rattle.filler.proofs.+fill_node.Proof.Tie.{close}
+use Rattle.filler.proofs.Lifted.fill_node as fill-node
+use Rattle.filler.proofs.+fill_node.Proof.Lts-fill_node as fill-node-lts
 use Rattle.node_records.proofs.first_edge.Reads as first-edge
-use Rattle.work_table.proofs.get.Reads as get
+use Rattle.work_table.proofs.Lifted.get as get
 use Rattle.filler.proofs.put_edge.Reads as put-edge
 use Rattle.node_records.proofs.second_edge.Reads as second-edge
 
-abbrev μ : Measures 2 fill-node-kinds.ps ℕ
+abbrev μ : Measures 2 fill-node.ps ℕ
 μ κs a = a .1 .1 .1 .0
 
-abbrev at : ℕ → In 2 fill-node-kinds.ps
-at t = and 2 fill-node-kinds.ps (is 2 fill-node-kinds.ps μ t) fill-node.Pre
+abbrev at : ℕ → In 2 fill-node.ps
+at t = and 2 fill-node.ps (is 2 fill-node.ps μ t) fill-node.Pre
 
-abbrev below : ℕ → In 2 fill-node-kinds.ps
-below t = and 2 fill-node-kinds.ps (falls 2 fill-node-kinds.ps _<_ μ t) fill-node.Pre
+abbrev below : ℕ → In 2 fill-node.ps
+below t = and 2 fill-node.ps (falls 2 fill-node.ps _<_ μ t) fill-node.Pre
 
 module _ (t : ℕ) where
   -- what each callee asks, and what it gives

@@ -1,5 +1,7 @@
 -- The stream is checked first, so that a refused call leaves the truth table; then it is read once more and fills it. Every record is cleared.
 -- Assumes nothing.
+mod Lts
+mod Tie
 use mathlib.Core.Path.{refl, sym, ap, _∙_}
 use mathlib.Core.Logic.{inl, inr}
 use Prim.Native.Nat.{ℕ, _/_, _≤_}
@@ -14,7 +16,7 @@ use Rattle.checker.specs.CheckCorrect.{cleared-after, cleared-long, all-reads, 
 use Rattle.filler.specs.FillCorrect.{fill-options, fill-table, fill-length, fill-correct}
 use borrow.Author.Needs.{needs}
 use Rattle.filler.proofs.fill.Statement.{statement}
-use Rattle.filler.proofs.fill.Tie as tie
+use Rattle.filler.proofs.fill.Proof.Tie as tie
 
 early-requires : tie.Need-early-requires
 early-requires c κs = search needs
@@ -65,8 +67,8 @@ first-cursor-requires c κs = search needs
 read-on-requires : tie.Need-read-on-requires
 read-on-requires c κs = search needs
 
-clear-requires : tie.Need-clear-requires
-clear-requires c κs = search needs
+clear-records-requires : tie.Need-clear-records-requires
+clear-records-requires c κs = search needs
 
 late-requires : tie.Need-late-requires
 late-requires c κs = search needs
@@ -90,7 +92,7 @@ returns-5 c =
     (firstcursor .ensures) _ _ (readon .ensures) in
     fill-correct n s v t _ _ v _ _ (truth-count n (omega (arith, if1 .left)) few) (omega (arith, if3 .left))
     (if4 .left ∙ ap (λ (k : ℕ). k / 8) (shifted n (omega (arith, few)))) (all-reads n s _ _ (omega (arith, few)) reached)
-    (ap C.refused (c .late .ensures) ∙ rw (if5 .taken) refl) (cleared-after _ _ _ _ _ reached t (t0 .given) _ (c .before .before .clear .ensures))
+    (ap C.refused (c .late .ensures) ∙ rw (if5 .taken) refl) (cleared-after _ _ _ _ _ reached t (t0 .given) _ (c .before .before .clear-records .ensures))
     (rw (if5 .taken) refl)
 
 wipe-requires : tie.Need-wipe-requires
@@ -125,8 +127,8 @@ fill-words-requires c κs =
       ),
     )
 
-clear-requires-2 : tie.Need-clear-requires-2
-clear-requires-2 c κs = search needs
+clear-records-requires-2 : tie.Need-clear-records-requires-2
+clear-records-requires-2 c κs = search needs
 
 same-length-2 : tie.Need-same-length-2
 same-length-2 c = search needs
@@ -158,7 +160,7 @@ returns-6 c =
     (firstcursor .ensures) _ _ (readon .ensures) in
     fill-correct n s v t _ _ _ _ _ (truth-count n (omega (arith, if1 .left)) few) (omega (arith, if3 .left))
     (if4 .left ∙ ap (λ (k : ℕ). k / 8) (shifted n (omega (arith, few)))) (all-reads n s _ _ (omega (arith, few)) reached)
-    (rw (if5 .left) refl) (cleared-long _ _ (fillwords .ensures .1) t (t0 .given) _ (c .before .before .clear2 .ensures))
+    (rw (if5 .left) refl) (cleared-long _ _ (fillwords .ensures .1) t (t0 .given) _ (c .before .before .clear-records2 .ensures))
     (fillwords .ensures .0 ∙ rw (if5 .left) refl)
 
 pub fill-spec : {M : Type 1} → statement M
@@ -176,13 +178,13 @@ fill-spec =
     returns-4
     first-cursor-requires
     read-on-requires
-    clear-requires
+    clear-records-requires
     late-requires
     same-length
     returns-5
     wipe-requires
     fill-words-requires
-    clear-requires-2
+    clear-records-requires-2
     same-length-2
     same-length-3
     returns-6)

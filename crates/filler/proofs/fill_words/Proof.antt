@@ -1,5 +1,7 @@
 -- Each iteration reads until more words are covered, and fills those of the node that was passed (`words-iteration`); where reading halts all are filled.
 -- Assumes nothing.
+mod Lts
+mod Tie
 use mathlib.Core.Path.{_≡_, refl, _∙_}
 use mathlib.Core.Option.{none}
 use Prim.Native.Nat.{_-_, _≤_, _^_}
@@ -11,7 +13,7 @@ use Rattle.reader.specs.OpenCells.{opensIn}
 use Rattle.filler.specs.FillCorrect.{FilledTo, filled-begun, words-whole, words-fit, words-shallow, words-iteration, words-less}
 use borrow.Author.Needs.{needs}
 use Rattle.filler.proofs.fill_words.Statement.{statement}
-use Rattle.filler.proofs.fill_words.Tie as tie
+use Rattle.filler.proofs.fill_words.Proof.Tie as tie
 
 abbrev Inv-loop : tie.InvT-loop
 Inv-loop n s v₀ t₀ o₀ c₀ v t o c =

@@ -1,7 +1,9 @@
 -- The call, its answer as numbers. Assumes nothing.
+mod Lts
+mod Tie
 use Rattle.firmware.specs.Numbers.{check-numbers}
 use Rattle.firmware.proofs.rule_check.Statement.{statement}
-use Rattle.firmware.proofs.rule_check.Tie as tie
+use Rattle.firmware.proofs.rule_check.Proof.Tie as tie
 use borrow.Author.Needs.{needs}
 
 check-requires : tie.Need-check-requires

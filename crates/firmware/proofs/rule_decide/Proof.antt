@@ -1,7 +1,9 @@
 -- The call, its answer as numbers. Assumes nothing.
+mod Lts
+mod Tie
 use Rattle.firmware.specs.Numbers.{decide-numbers}
 use Rattle.firmware.proofs.rule_decide.Statement.{statement}
-use Rattle.firmware.proofs.rule_decide.Tie as tie
+use Rattle.firmware.proofs.rule_decide.Proof.Tie as tie
 use borrow.Author.Needs.{needs}
 
 decide-requires : tie.Need-decide-requires

@@ -1,7 +1,9 @@
 -- The call, its answer as numbers. Assumes nothing.
+mod Lts
+mod Tie
 use Rattle.firmware.specs.Numbers.{fill-numbers}
 use Rattle.firmware.proofs.rule_fill.Statement.{statement}
-use Rattle.firmware.proofs.rule_fill.Tie as tie
+use Rattle.firmware.proofs.rule_fill.Proof.Tie as tie
 use borrow.Author.Needs.{needs}
 
 fill-requires : tie.Need-fill-requires

@@ -1,8 +1,10 @@
 -- The questions of rule 2 in turn.
 -- Assumes nothing.
+mod Lts
+mod Tie
 use borrow.Author.Needs.{needs}
 use Rattle.meeting.proofs.alike_number.Statement.{statement}
-use Rattle.meeting.proofs.alike_number.Tie as tie
+use Rattle.meeting.proofs.alike_number.Proof.Tie as tie
 use mathlib.Core.Path.{sym, ap, _∙_}
 use mathlib.Core.Bool.{not}
 use Rattle.theory_engine.specs.EngineCorrect.{number-none, number-other, number-complement, number-stale, number-told}

@@ -1,8 +1,10 @@
 -- Without a number the node is temporary; with one it is stored, and goes out with it.
 -- Assumes nothing.
+mod Lts
+mod Tie
 use borrow.Author.Needs.{needs}
 use Rattle.meeting.proofs.give.Statement.{statement}
-use Rattle.meeting.proofs.give.Tie as tie
+use Rattle.meeting.proofs.give.Proof.Tie as tie
 use mathlib.Core.Path.{ap, _∙_}
 use Rattle.theory_engine.specs.Recycling.{storeIn}
 use Rattle.theory_engine.specs.EngineCorrect.{give-none, give-number}

@@ -1,8 +1,10 @@
 -- A temporary half bars; another bars if its number was given out again.
 -- Assumes nothing.
+mod Lts
+mod Tie
 use borrow.Author.Needs.{needs}
 use Rattle.meeting.proofs.is_barred.Statement.{statement}
-use Rattle.meeting.proofs.is_barred.Tie as tie
+use Rattle.meeting.proofs.is_barred.Proof.Tie as tie
 use mathlib.Core.Path.{refl, _∙_}
 use Rattle.theory_engine.specs.EngineCorrect.{barred-told}
 use Rattle.meeting.specs.Abstraction.{halfOf}

@@ -1,8 +1,10 @@
 -- The constant has no number; another half's stamp is held against the record's.
 -- Assumes nothing.
+mod Lts
+mod Tie
 use borrow.Author.Needs.{needs}
 use Rattle.meeting.proofs.is_stale.Statement.{statement}
-use Rattle.meeting.proofs.is_stale.Tie as tie
+use Rattle.meeting.proofs.is_stale.Proof.Tie as tie
 use mathlib.Core.Path.{ap, _∙_}
 use mathlib.Core.Bool.{not}
 use Prim.Native.Nat.{ℕ}
@@ -11,7 +13,9 @@ use Rattle.theory_engine.specs.EngineCorrect.{stale-none, stale-told}
 use Rattle.meeting.specs.Abstraction.{halfOf}
 
 returns : tie.Need-returns
-returns c = let a = c .before .before .args in stale-none (a .t .now) (halfOf (a .a)) (c .if1 .taken)
+returns c =
+    let c2 = c .before .before in
+    let a = c2 .args in stale-none (a .t .now) (halfOf (a .a)) (c .if1 .taken)
 
 stamp-of-requires : tie.Need-stamp-of-requires
 stamp-of-requires c κs = search needs

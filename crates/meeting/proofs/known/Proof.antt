@@ -1,8 +1,10 @@
 -- A number that was found is met; without one the next number is asked for.
 -- Assumes nothing.
+mod Lts
+mod Tie
 use borrow.Author.Needs.{needs}
 use Rattle.meeting.proofs.known.Statement.{statement}
-use Rattle.meeting.proofs.known.Tie as tie
+use Rattle.meeting.proofs.known.Proof.Tie as tie
 use mathlib.Core.Path.{_∙_}
 use Rattle.theory_engine.specs.EngineCorrect.{known-none, known-there}
 use Rattle.meeting.specs.Abstraction.{halfOf, progressOf}

@@ -1,8 +1,10 @@
 -- The five rules in their order, each by the law of Engine for its way.
 -- Assumes nothing.
+mod Lts
+mod Tie
 use borrow.Author.Needs.{needs}
 use Rattle.meeting.proofs.meet.Statement.{statement}
-use Rattle.meeting.proofs.meet.Tie as tie
+use Rattle.meeting.proofs.meet.Proof.Tie as tie
 use mathlib.Core.Path.{sym, ap, _∙_}
 use Rattle.theory_engine.specs.Recycling.{findIn}
 use Rattle.theory_engine.specs.EngineCorrect.{meet-constant, meet-number, meet-first, meet-second, meet-known}

@@ -1,8 +1,10 @@
 -- The node goes out without a number; the records are not touched.
 -- Assumes nothing.
+mod Lts
+mod Tie
 use borrow.Author.Needs.{needs}
 use Rattle.meeting.proofs.write_temporary.Statement.{statement}
-use Rattle.meeting.proofs.write_temporary.Tie as tie
+use Rattle.meeting.proofs.write_temporary.Proof.Tie as tie
 use mathlib.Core.Path.{ap}
 use Rattle.theory_engine.specs.Engine.{temporaryHalf, sentAs, laneOf, writeNode}
 use Rattle.meeting.specs.Abstraction.{progressOf}
@@ -24,9 +26,13 @@ same-length-2 c = search needs
 
 returns : tie.Need-returns
 unfolding writeNode
-returns c = let a = c .before .before .before .before .before .before .before .before .before .before .before .args in
-    rw (c .sent-as .ensures, c .before .temporary .ensures) (ap (sentAs (temporaryHalf (a .a .complement)) (a .progress .given)
-    (laneOf (a .t .now) (progressOf (a .progress)))) (c .before .before .before .before .before .before .send-node .ensures))
+returns c =
+    let c1 = c .before in
+    let c6 = c1 .before .before .before .before .before in
+    let c11 = c6 .before .before .before .before .before in
+    let a = c11 .args in
+    rw (c .sent-as .ensures, c1 .temporary .ensures) (ap (sentAs (temporaryHalf (a .a .complement)) (a .progress .given)
+    (laneOf (a .t .now) (progressOf (a .progress)))) (c6 .send-node .ensures))
 
 pub write-temporary-spec : {M : Type 1} → statement M
 write-temporary-spec =

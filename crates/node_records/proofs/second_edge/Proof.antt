@@ -15,7 +15,7 @@ differs-requires : tie.Need-differs-requires
 differs-requires c κs = search needs
 
 returns-2 : tie.Need-returns-2
-returns-2 c = rw (sym (c .before .before .skips .ensures) ∙ c .before .if1 .left, c .differs .ensures) refl
+returns-2 c = rw (sym (c .before .before .before .skips .ensures) ∙ c .before .before .if1 .left, c .differs .ensures) refl
 
 pub second-edge-spec : {M : Type 1} → statement M
 second-edge-spec = tie.close (tie.spec skips-requires returns differs-requires returns-2)

@@ -1,9 +1,11 @@
 -- The first block of the stream, settled if it is all of it. Assumes nothing.
+mod Lts
+mod Tie
 use mathlib.Core.Path.{_∙_}
 use Rattle.operands.specs.OperandCorrect.{begun-code}
 use borrow.Author.Needs.{needs}
 use Rattle.operands.proofs.begin.Statement.{statement}
-use Rattle.operands.proofs.begin.Tie as tie
+use Rattle.operands.proofs.begin.Proof.Tie as tie
 
 first-cursor-requires : tie.Need-first-cursor-requires
 first-cursor-requires c κs = tt

@@ -1,11 +1,13 @@
 -- It settles in its text, or goes on from its edge. Assumes nothing.
+mod Lts
+mod Tie
 use mathlib.Core.Path.{_∙_}
 use Rattle.theory_combining.specs.BlockReaders.{deepOf, sourceOf, nextReader}
 use Rattle.theory_combining.specs.EdgeCorrect.{first-inside}
 use Rattle.operands.specs.Abstraction.{operandOn}
 use Rattle.operands.specs.OperandCorrect.{first-gone}
 use Rattle.operands.proofs.first_half.Statement.{statement}
-use Rattle.operands.proofs.first_half.Tie as tie
+use Rattle.operands.proofs.first_half.Proof.Tie as tie
 
 settle-requires : tie.Need-settle-requires
 settle-requires c κs = tt

@@ -1,10 +1,12 @@
 -- A block further inside the text, else none. Assumes nothing.
+mod Lts
+mod Tie
 use mathlib.Core.Path.{refl}
 use Rattle.blocks.specs.Blocks.{blockIn}
 use Rattle.operands.specs.OperandCorrect.{reads-next, reads-none}
 use borrow.Author.Needs.{needs}
 use Rattle.operands.proofs.read_on.Statement.{statement}
-use Rattle.operands.proofs.read_on.Tie as tie
+use Rattle.operands.proofs.read_on.Proof.Tie as tie
 
 next-block-requires : tie.Need-next-block-requires
 next-block-requires c κs = tt

@@ -1,10 +1,12 @@
 -- The next block, if one is to be read, and the input there. Assumes nothing.
+mod Lts
+mod Tie
 use Rattle.blocks.specs.Blocks.{blockIn}
 use Rattle.reader.specs.OpenCells.{opensIn}
 use Rattle.operands.specs.OperandCorrect.{second-arrived}
 use borrow.Author.Needs.{needs}
 use Rattle.operands.proofs.second_half.Statement.{statement}
-use Rattle.operands.proofs.second_half.Tie as tie
+use Rattle.operands.proofs.second_half.Proof.Tie as tie
 
 read-on-requires : tie.Need-read-on-requires
 read-on-requires c κs = tt

@@ -1,7 +1,9 @@
 -- It settles in its text, or goes on from its edge. Assumes nothing.
+mod Lts
+mod Tie
 use Rattle.operands.specs.OperandCorrect.{second-inside, second-gone}
 use Rattle.operands.proofs.second_operand.Statement.{statement}
-use Rattle.operands.proofs.second_operand.Tie as tie
+use Rattle.operands.proofs.second_operand.Proof.Tie as tie
 
 settle-requires : tie.Need-settle-requires
 settle-requires c κs = tt

@@ -1,11 +1,13 @@
 -- Past the end, with another key, or with this one. Assumes nothing.
+mod Lts
+mod Tie
 use borrow.Author.Tests.{not-true, not-false}
 use Rattle.operation_cache.specs.KeyCorrect.{tells-past, tells-other, tells-here}
 use mathlib.Core.List.{[]}
 use lib.ListN.{getD}
 use borrow.Author.Needs.{needs}
 use Rattle.operation_cache.proofs.recall.Statement.{statement}
-use Rattle.operation_cache.proofs.recall.Tie as tie
+use Rattle.operation_cache.proofs.recall.Proof.Tie as tie
 
 unknown-requires : tie.Need-unknown-requires
 unknown-requires c κs = search needs

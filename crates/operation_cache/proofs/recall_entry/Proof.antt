@@ -1,9 +1,11 @@
 -- The constant, a number given out again, or one that still has its stamp. Assumes nothing.
+mod Lts
+mod Tie
 use mathlib.Core.Path.{refl}
 use Rattle.operation_cache.specs.KeyCorrect.{told-constant, told-old, told-number}
 use borrow.Author.Needs.{needs}
 use Rattle.operation_cache.proofs.recall_entry.Statement.{statement}
-use Rattle.operation_cache.proofs.recall_entry.Tie as tie
+use Rattle.operation_cache.proofs.recall_entry.Proof.Tie as tie
 
 array-read-k : tie.Need-array-read-k
 array-read-k c = search needs

@@ -1,12 +1,14 @@
 -- Only a `:` after two children is barred, by the first or else by the second: `get` tells each one's stamp.
 -- Assumes nothing.
+mod Lts
+mod Tie
 use mathlib.Core.Path.{sym, ap, _∙_}
 use mathlib.Core.Bool.{not}
 use borrow.Author.Tests.{eq-eqb, ne-eqb, not-true, not-false}
 use Rattle.reader.specs.Iteration.{barred-other, barred-context, barred-first, barred-second, bars-got}
 use borrow.Author.Needs.{needs}
 use Rattle.reader.proofs.barred.Statement.{statement}
-use Rattle.reader.proofs.barred.Tie as tie
+use Rattle.reader.proofs.barred.Proof.Tie as tie
 
 returns : tie.Need-returns
 returns c = barred-other (c .before .args .t .now) (c .before .args .r) (c .before .args .b) (c .if1 .taken)

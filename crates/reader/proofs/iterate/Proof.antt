@@ -1,5 +1,7 @@
 -- What each way of an iteration comes to is a case of `Iterates`.
 -- Assumes nothing.
+mod Lts
+mod Tie
 use mathlib.Core.Path.{refl, sym, ap, _∙_}
 use native.Mathlib.Omega.{arith}
 use lib.ListN.{length}
@@ -10,7 +12,7 @@ use Rattle.reader.specs.Tokens.{token-fault, token-out, token-got}
 use Rattle.reader.specs.Iteration.{token-kinds, iteration-taken, iteration-updated}
 use borrow.Author.Needs.{needs}
 use Rattle.reader.proofs.iterate.Statement.{statement}
-use Rattle.reader.proofs.iterate.Tie as tie
+use Rattle.reader.proofs.iterate.Proof.Tie as tie
 
 halted-requires : tie.Need-halted-requires
 halted-requires c κs = search needs

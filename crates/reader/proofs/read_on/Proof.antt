@@ -1,11 +1,13 @@
 -- Past the limits nothing is read (`read-off`); else the loop reads on (`read-on`).
 -- Assumes nothing.
+mod Lts
+mod Tie
 use mathlib.Core.Path.{sym, _∙_}
 use Rattle.reader.specs.OpenCells.{cursorIn}
 use Rattle.reader.specs.ReadOn.{within, read-off, read-on}
 use borrow.Author.Needs.{needs}
 use Rattle.reader.proofs.read_on.Statement.{statement}
-use Rattle.reader.proofs.read_on.Tie as tie
+use Rattle.reader.proofs.read_on.Proof.Tie as tie
 
 is-off-requires : tie.Need-is-off-requires
 is-off-requires c κs = search needs

@@ -1,5 +1,7 @@
 -- Each iteration leads on to what the function comes to (`leads-goes`), and moves on in the bytes; it halts, or is past its stop, where the function does.
 -- Assumes nothing.
+mod Lts
+mod Tie
 use mathlib.Core.Path.{refl, _∙_, _≡_}
 use Prim.Native.Nat.{_-_, _≤_}
 use native.Mathlib.Omega.{arith}
@@ -12,7 +14,7 @@ use Rattle.reader.specs.ReadOn.{readAll, Leads, leads-first, leads-past,
 use Rattle.kinds.specs.Kinds.{kindTable}
 use borrow.Author.Needs.{needs}
 use Rattle.reader.proofs.run_on.Statement.{statement}
-use Rattle.reader.proofs.run_on.Tie as tie
+use Rattle.reader.proofs.run_on.Proof.Tie as tie
 
 abbrev Inv-loop : tie.InvT-loop
 Inv-loop k n s t₀ o₀ around stop run₀ depth₀ from₀ deep₀ t o run depth from deep =

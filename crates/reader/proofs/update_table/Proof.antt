@@ -1,10 +1,12 @@
 -- The two flags are those of `updatedTo`: a storing puts the record of `record_of`,
 -- and a size clears its records. Assumes nothing.
+mod Lts
+mod Tie
 use mathlib.Core.Path.{refl, _∙_}
 use Rattle.reader.specs.Iteration.{updated-stored}
 use borrow.Author.Needs.{needs}
 use Rattle.reader.proofs.update_table.Statement.{statement}
-use Rattle.reader.proofs.update_table.Tie as tie
+use Rattle.reader.proofs.update_table.Proof.Tie as tie
 
 record-of-requires : tie.Need-record-of-requires
 record-of-requires c κs = search needs
@@ -22,14 +24,14 @@ returns c =
     c .before .store .ensures
     ∙ updated-stored (a .t .now) (a .r) (a .d) (a .k) (a .x) (w .result) (a .y) (c .before .before .before .before .if1 .taken) (w .ensures)
 
-clear-requires : tie.Need-clear-requires
-clear-requires c κs = search needs
+clear-records-requires : tie.Need-clear-records-requires
+clear-records-requires c κs = search needs
 
 same-length-2 : tie.Need-same-length-2
 same-length-2 c = search needs
 
 returns-2 : tie.Need-returns-2
-returns-2 c = c .before .clear .ensures ∙ rw (c .before .before .before .before .if1 .left, c .before .before .before .if2 .taken) refl
+returns-2 c = c .before .clear-records .ensures ∙ rw (c .before .before .before .before .if1 .left, c .before .before .before .if2 .taken) refl
 
 returns-3 : tie.Need-returns-3
 returns-3 c = rw (c .before .if1 .left, c .if2 .left) refl
@@ -42,7 +44,7 @@ update-table-spec =
     store-requires
     same-length
     returns
-    clear-requires
+    clear-records-requires
     same-length-2
     returns-2
     returns-3)

@@ -1,27 +1,28 @@
 -- All inputs at edges, or two halves that meet, unless the covered words end or the output is full; each half has an option less.
 -- Assumes nothing.
+mod Lts-texts
+mod Tie
 use borrow.Author.Needs.{needs}
 use borrow.Fn.Kinds.{In}
 use borrow.Fn.PlainCycle.{Measures, is, falls, and}
-use Rattle.text_walk.proofs.texts.Kinds as texts-kinds
-use Rattle.text_walk.proofs.+texts.Lts-texts as texts-lts
-use Rattle.text_walk.proofs.texts.Reads as texts
-use Rattle.applier.proofs.apply.Reads as apply
+use Rattle.text_walk.proofs.Lifted.texts as texts-kinds
+use Rattle.text_walk.proofs.+texts.Proof.Lts-texts as texts-lts
+use Rattle.applier.proofs.Lifted.apply as apply
 use Rattle.operands.proofs.edge_of.Reads as edge-of
-use Rattle.operands.proofs.first_half.Reads as first-half
-use Rattle.meeting.proofs.second.Reads as second
+use Rattle.operands.proofs.Lifted.first_half as first-half
+use Rattle.meeting.proofs.Lifted.second as second
 use Rattle.pending_text.proofs.push.Reads as push
 use Rattle.text_walk.proofs.at_edges.Reads as at-edges
 use Rattle.text_walk.proofs.cross.Reads as cross
 use Rattle.text_walk.proofs.ended_at.Reads as ended-at
-use Rattle.text_walk.proofs.first_on.Reads as first-on
+use Rattle.text_walk.proofs.Lifted.first_on as first-on
 use Rattle.text_walk.proofs.is_halted.Reads as is-halted
 use Rattle.text_walk.proofs.met.Reads as met
-use Rattle.text_walk.proofs.second_on.Reads as second-on
+use Rattle.text_walk.proofs.Lifted.second_on as second-on
 use Rattle.text_walk.proofs.walked_of.Reads as walked-of
 use Rattle.text_walk.proofs.went_on.Reads as went-on
 use Rattle.text_walk.proofs.+texts.{statement}
-use Rattle.text_walk.proofs.+texts.Tie.{close}
+use Rattle.text_walk.proofs.+texts.Proof.Tie.{close}
 use mathlib.Core.Path.{sym, ap, _∙_}
 use mathlib.Core.Bool.{false, _||_}
 use native.Mathlib.Omega.{arith}
@@ -30,7 +31,7 @@ use Rattle.theory_engine.specs.TextCorrect.{inside-option}
 use Rattle.theory_lists.specs.Powers.{shifted, both-halves}
 use Rattle.meeting.specs.Abstraction.{progressOf}
 use Rattle.edges.specs.Abstraction.{edgeIn}
-use Rattle.edges.specs.declared.Edge.{Edge}
+use Rattle.edges.specs.declared.TableEdge.{TableEdge}
 use Rattle.reader.specs.OpenCells.{opensIn}
 use Rattle.operands.specs.Abstraction.{readerOf, operandOf, begunIn}
 use Rattle.text_walk.specs.Abstraction.{gapIn}
@@ -40,10 +41,10 @@ abbrev μ : Measures 10 texts-kinds.ps ℕ
 μ κs a = a .1 .0
 
 abbrev at : ℕ → In 10 texts-kinds.ps
-at t = and 10 texts-kinds.ps (is 10 texts-kinds.ps μ t) texts.Pre
+at t = and 10 texts-kinds.ps (is 10 texts-kinds.ps μ t) texts-kinds.Pre
 
 abbrev below : ℕ → In 10 texts-kinds.ps
-below t = and 10 texts-kinds.ps (falls 10 texts-kinds.ps _<_ μ t) texts.Pre
+below t = and 10 texts-kinds.ps (falls 10 texts-kinds.ps _<_ μ t) texts-kinds.Pre
 
 module _ (t : ℕ) where
   -- what each callee asks, and what it gives
@@ -62,7 +63,7 @@ module _ (t : ℕ) where
     first-half.Asked,
     first-half.Learnt,
     below t,
-    texts.Post,
+    texts-kinds.Post,
     is-halted.Asked,
     is-halted.Learnt,
     ended-at.Asked,
@@ -81,46 +82,46 @@ module _ (t : ℕ) where
     met.Learnt,
   )
 
-  at-edges-requires : texts-lts.Need-at-edges-requires K (at t) texts.Post
+  at-edges-requires : texts-lts.Need-at-edges-requires K (at t) texts-kinds.Post
   at-edges-requires c κs = tt
 
-  edge-of-requires : texts-lts.Need-edge-of-requires K (at t) texts.Post
+  edge-of-requires : texts-lts.Need-edge-of-requires K (at t) texts-kinds.Post
   edge-of-requires c κs = tt
 
-  edge-of-requires-2 : texts-lts.Need-edge-of-requires-2 K (at t) texts.Post
+  edge-of-requires-2 : texts-lts.Need-edge-of-requires-2 K (at t) texts-kinds.Post
   edge-of-requires-2 c κs = tt
 
-  apply-requires : texts-lts.Need-apply-requires K (at t) texts.Post
+  apply-requires : texts-lts.Need-apply-requires K (at t) texts-kinds.Post
   apply-requires c κs = tt
 
-  went-on-requires : texts-lts.Need-went-on-requires K (at t) texts.Post
+  went-on-requires : texts-lts.Need-went-on-requires K (at t) texts-kinds.Post
   went-on-requires c κs = tt
 
-  same-length : texts-lts.Need-same-length K (at t) texts.Post
+  same-length : texts-lts.Need-same-length K (at t) texts-kinds.Post
   same-length c = search needs
 
-  same-length-2 : texts-lts.Need-same-length-2 K (at t) texts.Post
+  same-length-2 : texts-lts.Need-same-length-2 K (at t) texts-kinds.Post
   same-length-2 c = search needs
 
-  same-length-3 : texts-lts.Need-same-length-3 K (at t) texts.Post
+  same-length-3 : texts-lts.Need-same-length-3 K (at t) texts-kinds.Post
   same-length-3 c =
       let c6 = c .before .before .before .before .before .before in
       c6 .t .given
 
-  same-length-4 : texts-lts.Need-same-length-4 K (at t) texts.Post
+  same-length-4 : texts-lts.Need-same-length-4 K (at t) texts-kinds.Post
   same-length-4 c =
       let c5 = c .before .before .before .before .before in
       c5 .out .given
 
-  same-length-5 : texts-lts.Need-same-length-5 K (at t) texts.Post
+  same-length-5 : texts-lts.Need-same-length-5 K (at t) texts-kinds.Post
   same-length-5 c =
       let c3 = c .before .before .before in
       c3 .w .given
 
-  same-length-6 : texts-lts.Need-same-length-6 K (at t) texts.Post
+  same-length-6 : texts-lts.Need-same-length-6 K (at t) texts-kinds.Post
   same-length-6 c = c .before .c .given
 
-  returns : texts-lts.Need-returns K (at t) texts.Post
+  returns : texts-lts.Need-returns K (at t) texts-kinds.Post
   returns c =
       let c7 = c .before .before .before .before .before .before .before in
       let c14 = c7 .before .before .before .before .before .before .before in
@@ -135,44 +136,44 @@ module _ (t : ℕ) where
       (progressOf (a .progress))
       (edgeIn (c15 .edge-of .result) (a .t1 .now)) (edgeIn (c14 .edge-of2 .result) (a .t2 .now)) (c7 .apply .result) (l .0) (l .1 .0) (l .1 .1 .0)
       (l .1 .1 .1 .0) (sym (c17 .at-edges .ensures) ∙ c16 .if1 .taken) (omega (arith, c22 .pre)) (omega (arith, c22 .pre))
-      (ap (λ (e : Edge). edgeIn e (a .t1 .now)) (c15 .edge-of .ensures)) (ap (λ (e : Edge). edgeIn e (a .t2 .now)) (c14 .edge-of2 .ensures))
+      (ap (λ (e : TableEdge). edgeIn e (a .t1 .now)) (c15 .edge-of .ensures)) (ap (λ (e : TableEdge). edgeIn e (a .t2 .now)) (c14 .edge-of2 .ensures))
       (c7 .apply .ensures))
 
-  sub-e : texts-lts.Need-sub-e K (at t) texts.Post
+  sub-e : texts-lts.Need-sub-e K (at t) texts-kinds.Post
   sub-e c =
       let c1 = c .before in
       let c6 = c1 .before .before .before .before .before in
       let a = c6 .args in let z = inside-option (a .d) (a .f .inside || (a .g .inside || false)) (sym (c1 .at-edges .ensures) ∙ c .if1 .left) in omega
       (arith, z)
 
-  add-j : texts-lts.Need-add-j K (at t) texts.Post
+  add-j : texts-lts.Need-add-j K (at t) texts-kinds.Post
   add-j c =
       let c6 = c .before .before .before .before .before .before in
       let z = c6 .pre in omega (arith, z)
 
-  cast-mid : texts-lts.Need-cast-mid K (at t) texts.Post
+  cast-mid : texts-lts.Need-cast-mid K (at t) texts-kinds.Post
   cast-mid c = search needs
 
-  shl-mid : texts-lts.Need-shl-mid K (at t) texts.Post
+  shl-mid : texts-lts.Need-shl-mid K (at t) texts-kinds.Post
   shl-mid c = search needs
 
-  add-mid : texts-lts.Need-add-mid K (at t) texts.Post
+  add-mid : texts-lts.Need-add-mid K (at t) texts-kinds.Post
   add-mid c =
       let c1 = c .before in
       let c6 = c1 .before .before .before .before .before in
       let a = c6 .args in let z = inside-option (a .d) (a .f .inside || (a .g .inside || false)) (sym (c1 .at-edges .ensures) ∙ c .if1 .left) in
       omega (arith, c6 .pre, z, shifted (a .d - 1) (omega (arith, c6 .pre)), both-halves (a .d) (λ e. omega (arith, e, z)))
 
-  push-requires : texts-lts.Need-push-requires K (at t) texts.Post
+  push-requires : texts-lts.Need-push-requires K (at t) texts-kinds.Post
   push-requires c κs = tt
 
-  first-half-requires : texts-lts.Need-first-half-requires K (at t) texts.Post
+  first-half-requires : texts-lts.Need-first-half-requires K (at t) texts-kinds.Post
   first-half-requires c κs = tt
 
-  first-half-requires-2 : texts-lts.Need-first-half-requires-2 K (at t) texts.Post
+  first-half-requires-2 : texts-lts.Need-first-half-requires-2 K (at t) texts-kinds.Post
   first-half-requires-2 c κs = tt
 
-  texts-requires : texts-lts.Need-texts-requires K (at t) texts.Post
+  texts-requires : texts-lts.Need-texts-requires K (at t) texts-kinds.Post
   texts-requires c κs =
       let c16 = c .before .before .before .before .before .before .before .before .before .before .before .before .before .before .before .before in
       let c17 = c16 .before in
@@ -180,40 +181,40 @@ module _ (t : ℕ) where
       let a = c22 .args in let z = inside-option (a .d) (a .f .inside || (a .g .inside || false)) (sym (c17 .at-edges .ensures) ∙ c16 .if1 .left) in
       first-asks (a .d) (a .i) (a .at) t (c22 .pre) z
 
-  is-halted-requires : texts-lts.Need-is-halted-requires K (at t) texts.Post
+  is-halted-requires : texts-lts.Need-is-halted-requires K (at t) texts-kinds.Post
   is-halted-requires c κs = tt
 
-  same-length-7 : texts-lts.Need-same-length-7 K (at t) texts.Post
+  same-length-7 : texts-lts.Need-same-length-7 K (at t) texts-kinds.Post
   same-length-7 c =
       let c9 = c .before .before .before .before .before .before .before .before .before in
       c9 .t1 .given
 
-  same-length-8 : texts-lts.Need-same-length-8 K (at t) texts.Post
+  same-length-8 : texts-lts.Need-same-length-8 K (at t) texts-kinds.Post
   same-length-8 c =
       let c8 = c .before .before .before .before .before .before .before .before in
       c8 .t2 .given
 
-  same-length-9 : texts-lts.Need-same-length-9 K (at t) texts.Post
+  same-length-9 : texts-lts.Need-same-length-9 K (at t) texts-kinds.Post
   same-length-9 c =
       let c7 = c .before .before .before .before .before .before .before in
       c7 .t3 .given
 
-  same-length-10 : texts-lts.Need-same-length-10 K (at t) texts.Post
+  same-length-10 : texts-lts.Need-same-length-10 K (at t) texts-kinds.Post
   same-length-10 c =
       let c6 = c .before .before .before .before .before .before in
       c6 .out2 .given
 
-  same-length-11 : texts-lts.Need-same-length-11 K (at t) texts.Post
+  same-length-11 : texts-lts.Need-same-length-11 K (at t) texts-kinds.Post
   same-length-11 c =
       let c4 = c .before .before .before .before in
       let c24 = c4 .before .before .before .before .before .before .before .before .before .before .before .before .before .before .before .before
       .before .before .before .before in
       c4 .w3 .given ∙ c24 .w2 .given
 
-  same-length-12 : texts-lts.Need-same-length-12 K (at t) texts.Post
+  same-length-12 : texts-lts.Need-same-length-12 K (at t) texts-kinds.Post
   same-length-12 c = c .before .before .c2 .given
 
-  returns-2 : texts-lts.Need-returns-2 K (at t) texts.Post
+  returns-2 : texts-lts.Need-returns-2 K (at t) texts-kinds.Post
   returns-2 c =
       let c1 = c .before in
       let c10 = c1 .before .before .before .before .before .before .before .before .before in
@@ -239,42 +240,42 @@ module _ (t : ℕ) where
       (c19 .first-half2 .ensures (a .k .n) (opensIn (a .o2 .now) (a .b2 .cursor .depth)) (a .y .now)) (c25 .push .ensures) (c10 .texts .ensures)
       (c1 .is-halted .result) (c1 .is-halted .ensures) (c .if2 .taken)
 
-  ended-at-requires : texts-lts.Need-ended-at-requires K (at t) texts.Post
+  ended-at-requires : texts-lts.Need-ended-at-requires K (at t) texts-kinds.Post
   ended-at-requires c κs = tt
 
-  same-length-13 : texts-lts.Need-same-length-13 K (at t) texts.Post
+  same-length-13 : texts-lts.Need-same-length-13 K (at t) texts-kinds.Post
   same-length-13 c =
       let c12 = c .before .before .before .before .before .before .before .before .before .before .before .before in
       c12 .t1 .given
 
-  same-length-14 : texts-lts.Need-same-length-14 K (at t) texts.Post
+  same-length-14 : texts-lts.Need-same-length-14 K (at t) texts-kinds.Post
   same-length-14 c =
       let c11 = c .before .before .before .before .before .before .before .before .before .before .before in
       c11 .t2 .given
 
-  same-length-15 : texts-lts.Need-same-length-15 K (at t) texts.Post
+  same-length-15 : texts-lts.Need-same-length-15 K (at t) texts-kinds.Post
   same-length-15 c =
       let c10 = c .before .before .before .before .before .before .before .before .before .before in
       c10 .t3 .given
 
-  same-length-16 : texts-lts.Need-same-length-16 K (at t) texts.Post
+  same-length-16 : texts-lts.Need-same-length-16 K (at t) texts-kinds.Post
   same-length-16 c =
       let c9 = c .before .before .before .before .before .before .before .before .before in
       c9 .out2 .given
 
-  same-length-17 : texts-lts.Need-same-length-17 K (at t) texts.Post
+  same-length-17 : texts-lts.Need-same-length-17 K (at t) texts-kinds.Post
   same-length-17 c =
       let c7 = c .before .before .before .before .before .before .before in
       let c27 = c7 .before .before .before .before .before .before .before .before .before .before .before .before .before .before .before .before
       .before .before .before .before in
       c7 .w3 .given ∙ c27 .w2 .given
 
-  same-length-18 : texts-lts.Need-same-length-18 K (at t) texts.Post
+  same-length-18 : texts-lts.Need-same-length-18 K (at t) texts-kinds.Post
   same-length-18 c =
       let c5 = c .before .before .before .before .before in
       c5 .c2 .given
 
-  returns-3 : texts-lts.Need-returns-3 K (at t) texts.Post
+  returns-3 : texts-lts.Need-returns-3 K (at t) texts-kinds.Post
   returns-3 c =
       let c1 = c .before in
       let c3 = c1 .before .before in
@@ -304,16 +305,16 @@ module _ (t : ℕ) where
       (c3 .if2 .left)
       (c1 .if3 .taken))
 
-  first-on-requires : texts-lts.Need-first-on-requires K (at t) texts.Post
+  first-on-requires : texts-lts.Need-first-on-requires K (at t) texts-kinds.Post
   first-on-requires c κs = tt
 
-  second-on-requires : texts-lts.Need-second-on-requires K (at t) texts.Post
+  second-on-requires : texts-lts.Need-second-on-requires K (at t) texts-kinds.Post
   second-on-requires c κs = tt
 
-  cross-requires : texts-lts.Need-cross-requires K (at t) texts.Post
+  cross-requires : texts-lts.Need-cross-requires K (at t) texts-kinds.Post
   cross-requires c κs = tt
 
-  texts-requires-2 : texts-lts.Need-texts-requires-2 K (at t) texts.Post
+  texts-requires-2 : texts-lts.Need-texts-requires-2 K (at t) texts-kinds.Post
   texts-requires-2 c κs =
       let c50 = c .before .before .before .before .before .before .before .before .before .before .before .before .before .before .before .before
       .before .before .before .before .before .before .before .before .before .before .before .before .before .before .before .before .before
@@ -323,10 +324,10 @@ module _ (t : ℕ) where
       let a = c56 .args in let z = inside-option (a .d) (a .f .inside || (a .g .inside || false)) (sym (c51 .at-edges .ensures) ∙ c50 .if1 .left) in
       second-asks (a .d) (a .i) (a .at) t (1 * 2 ^ (a .d - 1) % 18446744073709551616) (c56 .pre) z (shifted (a .d - 1) (omega (arith, c56 .pre)))
 
-  is-halted-requires-2 : texts-lts.Need-is-halted-requires-2 K (at t) texts.Post
+  is-halted-requires-2 : texts-lts.Need-is-halted-requires-2 K (at t) texts-kinds.Post
   is-halted-requires-2 c κs = tt
 
-  same-length-19 : texts-lts.Need-same-length-19 K (at t) texts.Post
+  same-length-19 : texts-lts.Need-same-length-19 K (at t) texts-kinds.Post
   same-length-19 c =
       let c9 = c .before .before .before .before .before .before .before .before .before in
       let c28 = c9 .before .before .before .before .before .before .before .before .before .before .before .before .before .before .before .before
@@ -334,7 +335,7 @@ module _ (t : ℕ) where
       let c43 = c28 .before .before .before .before .before .before .before .before .before .before .before .before .before .before .before in
       c9 .t13 .given ∙ c28 .t12 .given ∙ c43 .t1 .given
 
-  same-length-20 : texts-lts.Need-same-length-20 K (at t) texts.Post
+  same-length-20 : texts-lts.Need-same-length-20 K (at t) texts-kinds.Post
   same-length-20 c =
       let c8 = c .before .before .before .before .before .before .before .before in
       let c24 = c8 .before .before .before .before .before .before .before .before .before .before .before .before .before .before .before .before in
@@ -342,7 +343,7 @@ module _ (t : ℕ) where
       .before .before in
       c8 .t23 .given ∙ c24 .t22 .given ∙ c42 .t2 .given
 
-  same-length-21 : texts-lts.Need-same-length-21 K (at t) texts.Post
+  same-length-21 : texts-lts.Need-same-length-21 K (at t) texts-kinds.Post
   same-length-21 c =
       let c7 = c .before .before .before .before .before .before .before in
       let c41 = c7 .before .before .before .before .before .before .before .before .before .before .before .before .before .before .before .before
@@ -350,7 +351,7 @@ module _ (t : ℕ) where
       .before in
       c7 .t4 .given ∙ c41 .t3 .given
 
-  same-length-22 : texts-lts.Need-same-length-22 K (at t) texts.Post
+  same-length-22 : texts-lts.Need-same-length-22 K (at t) texts-kinds.Post
   same-length-22 c =
       let c6 = c .before .before .before .before .before .before in
       let c40 = c6 .before .before .before .before .before .before .before .before .before .before .before .before .before .before .before .before
@@ -358,7 +359,7 @@ module _ (t : ℕ) where
       .before in
       c6 .out3 .given ∙ c40 .out2 .given
 
-  same-length-23 : texts-lts.Need-same-length-23 K (at t) texts.Post
+  same-length-23 : texts-lts.Need-same-length-23 K (at t) texts-kinds.Post
   same-length-23 c =
       let c4 = c .before .before .before .before in
       let c21 = c4 .before .before .before .before .before .before .before .before .before .before .before .before .before .before .before .before
@@ -369,7 +370,7 @@ module _ (t : ℕ) where
       .before .before .before .before in
       c4 .w5 .given ∙ c21 .w4 .given ∙ c38 .w3 .given ∙ c58 .w2 .given
 
-  same-length-24 : texts-lts.Need-same-length-24 K (at t) texts.Post
+  same-length-24 : texts-lts.Need-same-length-24 K (at t) texts-kinds.Post
   same-length-24 c =
       let c2 = c .before .before in
       let c36 = c2 .before .before .before .before .before .before .before .before .before .before .before .before .before .before .before .before
@@ -377,7 +378,7 @@ module _ (t : ℕ) where
       .before in
       c2 .c3 .given ∙ c36 .c2 .given
 
-  returns-4 : texts-lts.Need-returns-4 K (at t) texts.Post
+  returns-4 : texts-lts.Need-returns-4 K (at t) texts-kinds.Post
   returns-4 c =
       let c1 = c .before in
       let c10 = c1 .before .before .before .before .before .before .before .before .before in
@@ -419,16 +420,16 @@ module _ (t : ℕ) where
       (c29 .first-on .ensures) (c25 .second-on .ensures) (c22 .cross .ensures) (c10 .texts2 .ensures)
       (c1 .is-halted2 .result) (c1 .is-halted2 .ensures) (c .if4 .taken)
 
-  walked-of-requires : texts-lts.Need-walked-of-requires K (at t) texts.Post
+  walked-of-requires : texts-lts.Need-walked-of-requires K (at t) texts-kinds.Post
   walked-of-requires c κs = tt
 
-  second-requires : texts-lts.Need-second-requires K (at t) texts.Post
+  second-requires : texts-lts.Need-second-requires K (at t) texts-kinds.Post
   second-requires c κs = tt
 
-  met-requires : texts-lts.Need-met-requires K (at t) texts.Post
+  met-requires : texts-lts.Need-met-requires K (at t) texts-kinds.Post
   met-requires c κs = tt
 
-  same-length-25 : texts-lts.Need-same-length-25 K (at t) texts.Post
+  same-length-25 : texts-lts.Need-same-length-25 K (at t) texts-kinds.Post
   same-length-25 c =
       let c21 = c .before .before .before .before .before .before .before .before .before .before .before .before .before .before .before .before
       .before .before .before .before .before in
@@ -437,7 +438,7 @@ module _ (t : ℕ) where
       let c55 = c40 .before .before .before .before .before .before .before .before .before .before .before .before .before .before .before in
       c21 .t13 .given ∙ c40 .t12 .given ∙ c55 .t1 .given
 
-  same-length-26 : texts-lts.Need-same-length-26 K (at t) texts.Post
+  same-length-26 : texts-lts.Need-same-length-26 K (at t) texts-kinds.Post
   same-length-26 c =
       let c20 = c .before .before .before .before .before .before .before .before .before .before .before .before .before .before .before .before
       .before .before .before .before in
@@ -446,7 +447,7 @@ module _ (t : ℕ) where
       .before .before in
       c20 .t23 .given ∙ c36 .t22 .given ∙ c54 .t2 .given
 
-  same-length-27 : texts-lts.Need-same-length-27 K (at t) texts.Post
+  same-length-27 : texts-lts.Need-same-length-27 K (at t) texts-kinds.Post
   same-length-27 c =
       let c5 = c .before .before .before .before .before in
       let c19 = c5 .before .before .before .before .before .before .before .before .before .before .before .before .before .before in
@@ -455,7 +456,7 @@ module _ (t : ℕ) where
       .before in
       c5 .t5 .given ∙ c19 .t4 .given ∙ c53 .t3 .given
 
-  same-length-28 : texts-lts.Need-same-length-28 K (at t) texts.Post
+  same-length-28 : texts-lts.Need-same-length-28 K (at t) texts-kinds.Post
   same-length-28 c =
       let c4 = c .before .before .before .before in
       let c18 = c4 .before .before .before .before .before .before .before .before .before .before .before .before .before .before in
@@ -464,7 +465,7 @@ module _ (t : ℕ) where
       .before in
       c4 .out4 .given ∙ c18 .out3 .given ∙ c52 .out2 .given
 
-  same-length-29 : texts-lts.Need-same-length-29 K (at t) texts.Post
+  same-length-29 : texts-lts.Need-same-length-29 K (at t) texts-kinds.Post
   same-length-29 c =
       let c2 = c .before .before in
       let c16 = c2 .before .before .before .before .before .before .before .before .before .before .before .before .before .before in
@@ -476,7 +477,7 @@ module _ (t : ℕ) where
       .before .before .before .before in
       c2 .w6 .given ∙ c16 .w5 .given ∙ c33 .w4 .given ∙ c50 .w3 .given ∙ c70 .w2 .given
 
-  same-length-30 : texts-lts.Need-same-length-30 K (at t) texts.Post
+  same-length-30 : texts-lts.Need-same-length-30 K (at t) texts-kinds.Post
   same-length-30 c =
       let c14 = c .before .before .before .before .before .before .before .before .before .before .before .before .before .before in
       let c48 = c14 .before .before .before .before .before .before .before .before .before .before .before .before .before .before .before .before
@@ -484,7 +485,7 @@ module _ (t : ℕ) where
       .before in
       c14 .c3 .given ∙ c48 .c2 .given
 
-  returns-5 : texts-lts.Need-returns-5 K (at t) texts.Post
+  returns-5 : texts-lts.Need-returns-5 K (at t) texts-kinds.Post
   returns-5 c =
       let c6 = c .before .before .before .before .before .before in
       let c10 = c6 .before .before .before .before in
@@ -532,7 +533,7 @@ module _ (t : ℕ) where
       (c10 .walked-of .ensures) (c6 .second .ensures))
 
 pub +texts-spec : {M : Type 1} → statement M
-+texts-spec = close μ λ t. texts-lts.spec (K t) (at t) texts.Post
++texts-spec = close μ λ t. texts-lts.spec (K t) (at t) texts-kinds.Post
     (at-edges-requires t)
     (edge-of-requires t)
     (edge-of-requires-2 t)

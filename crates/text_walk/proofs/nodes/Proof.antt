@@ -1,4 +1,6 @@
 -- The leading `~`, and the walk. Assumes nothing.
+mod Lts
+mod Tie
 use mathlib.Core.Path.{ap, _∙_}
 use native.Mathlib.Omega.{arith}
 use Prim.Native.Nat.{_+_, _≤_, _^_}
@@ -10,7 +12,7 @@ use Rattle.text_walk.specs.Abstraction.{sentOf}
 use Rattle.text_walk.specs.TextsCorrect.{nodes-code}
 use borrow.Author.Needs.{needs}
 use Rattle.text_walk.proofs.nodes.Statement.{statement}
-use Rattle.text_walk.proofs.nodes.Tie as tie
+use Rattle.text_walk.proofs.nodes.Proof.Tie as tie
 
 first-value-requires : tie.Need-first-value-requires
 first-value-requires c κs = tt

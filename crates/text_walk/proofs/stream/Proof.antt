@@ -1,4 +1,6 @@
 -- The size and its LF, and the nodes unless no more goes out. Assumes nothing.
+mod Lts
+mod Tie
 use mathlib.Core.Path.{_∙_}
 use mathlib.Core.List.{[], _∷_}
 use Prim.Native.Nat.{_≤_}
@@ -12,7 +14,7 @@ use Rattle.text_walk.specs.Abstraction.{sentOf}
 use Rattle.text_walk.specs.TextsCorrect.{stream-past, stream-head, stream-body}
 use borrow.Author.Needs.{needs}
 use Rattle.text_walk.proofs.stream.Statement.{statement}
-use Rattle.text_walk.proofs.stream.Tie as tie
+use Rattle.text_walk.proofs.stream.Proof.Tie as tie
 
 returns : tie.Need-returns
 returns c =

@@ -1,42 +1,32 @@
--- The four cells of the number, each got from the same records.
+-- Four fields of one record.
 -- Assumes nothing.
+mod Lts
+mod Tie
 use borrow.Author.Needs.{needs}
-use Rattle.unique_table.proofs.bucket_at.Statement.{statement}
-use Rattle.unique_table.proofs.bucket_at.Tie as tie
+use Rattle.writer_records.specs.RecordLaws.{got-field}
+use Rattle.theory_engine.specs.Cells.{levelField, firstField, secondField, complementField}
 use mathlib.Core.Path.{refl}
+use Rattle.unique_table.proofs.bucket_at.Statement.{statement}
+use Rattle.unique_table.proofs.bucket_at.Proof.Tie as tie
 
-get-requires : tie.Need-get-requires
-get-requires c κs = search needs
-
-get-requires-2 : tie.Need-get-requires-2
-get-requires-2 c κs = search needs
-
-get-requires-3 : tie.Need-get-requires-3
-get-requires-3 c κs = search needs
-
-get-requires-4 : tie.Need-get-requires-4
-get-requires-4 c κs = search needs
+get-writer-record-requires : tie.Need-get-writer-record-requires
+get-writer-record-requires c κs = search needs
 
 bucket-requires : tie.Need-bucket-requires
 bucket-requires c κs = search needs
 
 returns : tie.Need-returns
-returns c = rw (
-  c .bucket .ensures,
-  c .before .get4 .ensures,
-  c .before .before .get3 .ensures,
-  c .before .before .before .get2 .ensures,
-  c .before
-      .before .before .before .get .ensures,
-) refl
+returns c =
+    let c1 = c .before in
+    let c2 = c1 .before in
+    let a = c2 .args in
+    let e = c1 .get-writer-record .ensures in rw (
+      c .bucket .ensures,
+      got-field (a .t .now) levelField (a .k) e refl,
+      got-field (a .t .now) firstField (a .k) e refl,
+      got-field (a .t .now) secondField (a .k) e refl,
+      got-field (a .t .now) complementField (a .k) e refl,
+    ) refl
 
 pub bucket-at-spec : {M : Type 1} → statement M
-bucket-at-spec =
-    tie.close
-    (tie.spec
-    get-requires
-    get-requires-2
-    get-requires-3
-    get-requires-4
-    bucket-requires
-    returns)
+bucket-at-spec = tie.close (tie.spec get-writer-record-requires bucket-requires returns)

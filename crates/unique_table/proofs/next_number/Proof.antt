@@ -1,8 +1,10 @@
 -- The next number up to the size, then one of the queue.
 -- Assumes nothing.
+mod Lts
+mod Tie
 use borrow.Author.Needs.{needs}
 use Rattle.unique_table.proofs.next_number.Statement.{statement}
-use Rattle.unique_table.proofs.next_number.Tie as tie
+use Rattle.unique_table.proofs.next_number.Proof.Tie as tie
 use mathlib.Core.Path.{_∙_}
 use Rattle.theory_engine.specs.RecyclingCorrect.{next-fresh, next-free}
 
@@ -17,8 +19,11 @@ free-requires : tie.Need-free-requires
 free-requires c κs = search needs
 
 returns-2 : tie.Need-returns-2
-returns-2 c = (c .free .ensures ∙ next-free (c .before .before .args .t .now) (c .before .before .args .z) (c .before .before .args .f)
-    (c .before .before .args .size) (c .before .before .args .a) (c .before .before .args .b) (c .before .if1 .left))
+returns-2 c =
+    let c1 = c .before in
+    let c2 = c1 .before in
+    (c .free .ensures ∙ next-free (c2 .args .t .now) (c2 .args .z) (c2 .args .f)
+    (c2 .args .size) (c2 .args .a) (c2 .args .b) (c1 .if1 .left))
 
 pub next-number-spec : {M : Type 1} → statement M
 next-number-spec = tie.close (tie.spec add-result returns free-requires returns-2)

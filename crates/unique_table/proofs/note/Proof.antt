@@ -1,61 +1,32 @@
--- The stamp is got first, then the five cells are put.
+-- One record is got and put.
 -- Assumes nothing.
+mod Lts
+mod Tie
 use borrow.Author.Needs.{needs}
+use Rattle.writer_records.specs.RecordLaws.{put-node}
 use Rattle.unique_table.proofs.note.Statement.{statement}
-use Rattle.unique_table.proofs.note.Tie as tie
-use mathlib.Core.Path.{refl}
-use Rattle.theory_engine.specs.Recycling.{noteIn}
+use Rattle.unique_table.proofs.note.Proof.Tie as tie
 
-get-requires : tie.Need-get-requires
-get-requires c κs = search needs
+get-writer-record-requires : tie.Need-get-writer-record-requires
+get-writer-record-requires c κs = search needs
 
-put-requires : tie.Need-put-requires
-put-requires c κs = search needs
+with-node-requires : tie.Need-with-node-requires
+with-node-requires c κs = search needs
 
-put-requires-2 : tie.Need-put-requires-2
-put-requires-2 c κs = search needs
-
-put-requires-3 : tie.Need-put-requires-3
-put-requires-3 c κs = search needs
-
-put-requires-4 : tie.Need-put-requires-4
-put-requires-4 c κs = search needs
-
-one-more-requires : tie.Need-one-more-requires
-one-more-requires c κs = search needs
-
-put-requires-5 : tie.Need-put-requires-5
-put-requires-5 c κs = search needs
+put-writer-record-requires : tie.Need-put-writer-record-requires
+put-writer-record-requires c κs = search needs
 
 same-length : tie.Need-same-length
 same-length c = search needs
 
 returns : tie.Need-returns
-unfolding noteIn
-returns c = rw (
-  c .before .put5 .ensures,
-  c .before .before .before .before .before .put4 .ensures,
-  c .before .before .before .before .before .before
-      .before .before .put3 .ensures,
-  c .before .before .before .before .before .before .before .before .before .before .before .put2 .ensures,
-  c
-      .before .before .before .before .before .before .before .before .before .before .before .before .before .before .put .ensures,
-  c .before .before
-      .one-more .ensures,
-  c .before .before .before .before .before .before .before .before .before .before .before .before .before .before .before
-      .before .get .ensures,
-) refl
+returns c =
+    let c1 = c .before in
+    let c2 = c1 .before in
+    let c3 = c2 .before in
+    let c6 = c3 .before .before .before in
+    let a = c6 .args in put-node (a .t .now) (a .k) (a .i) (a .a) (a .b) (a .c) (c3 .get-writer-record .ensures) (c2 .with-node .ensures)
+    (c1 .put-writer-record .ensures)
 
 pub note-spec : {M : Type 1} → statement M
-note-spec =
-    tie.close
-    (tie.spec
-    get-requires
-    put-requires
-    put-requires-2
-    put-requires-3
-    put-requires-4
-    one-more-requires
-    put-requires-5
-    same-length
-    returns)
+note-spec = tie.close (tie.spec get-writer-record-requires with-node-requires put-writer-record-requires same-length returns)

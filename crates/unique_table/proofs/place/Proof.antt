@@ -1,8 +1,10 @@
 -- The children, the record, the bucket, the queue: the calls of the definition in turn.
 -- Assumes nothing.
+mod Lts
+mod Tie
 use borrow.Author.Needs.{needs}
 use Rattle.unique_table.proofs.place.Statement.{statement}
-use Rattle.unique_table.proofs.place.Tie as tie
+use Rattle.unique_table.proofs.place.Proof.Tie as tie
 use mathlib.Core.Path.{refl, ap}
 use Rattle.theory_engine.specs.Recycling.{Lane, placeIn}
 
@@ -26,24 +28,28 @@ same-length c = search needs
 
 returns : tie.Need-returns
 unfolding placeIn
-returns c = rw (
-  c .before .link-last .ensures,
-  c .before .before .before .before .bucket-insert .ensures,
-  c .before .before .before .before .before
-      .before .before .note .ensures,
-  ap (λ (x : Lane). x .table) (c .before .before .before .before .before .before .before .before .before .before
-      .adopt2 .ensures),
-  ap (λ (x : Lane). x .first) (c .before .before .before .before .before .before .before .before .before .before .adopt2
-      .ensures),
-  ap (λ (x : Lane). x .last) (c .before .before .before .before .before .before .before .before .before .before .adopt2 .ensures),
-  ap
-      (λ (x : Lane). x .table) (c .before .before .before .before .before .before .before .before .before .before .before .before .before .adopt
-      .ensures),
-  ap (λ (x : Lane). x .first) (c .before .before .before .before .before .before .before .before .before .before .before .before .before
-      .adopt .ensures),
-  ap (λ (x : Lane). x .last) (c .before .before .before .before .before .before .before .before .before .before .before .before
-      .before .adopt .ensures),
-) refl
+returns c =
+    let c1 = c .before in
+    let c4 = c1 .before .before .before in
+    let c7 = c4 .before .before .before in
+    let c10 = c7 .before .before .before in
+    let c13 = c10 .before .before .before in
+    rw (
+      c1 .link-last .ensures,
+      c4 .bucket-insert .ensures,
+      c7 .note .ensures,
+      ap (λ (x : Lane). x .table) (c10
+          .adopt2 .ensures),
+      ap (λ (x : Lane). x .first) (c10 .adopt2
+          .ensures),
+      ap (λ (x : Lane). x .last) (c10 .adopt2 .ensures),
+      ap
+          (λ (x : Lane). x .table) (c13 .adopt
+          .ensures),
+      ap (λ (x : Lane). x .first) (c13
+          .adopt .ensures),
+      ap (λ (x : Lane). x .last) (c13 .adopt .ensures),
+    ) refl
 
 pub place-spec : {M : Type 1} → statement M
 place-spec =

@@ -1,10 +1,14 @@
 -- The queue, the bucket, then the children, which are got from the records as they then are.
 -- Assumes nothing.
+mod Lts
+mod Tie
 use borrow.Author.Needs.{needs}
-use Rattle.unique_table.proofs.release.Statement.{statement}
-use Rattle.unique_table.proofs.release.Tie as tie
-use mathlib.Core.Path.{refl, ap}
+use Rattle.writer_records.specs.RecordLaws.{got-field}
 use Rattle.theory_engine.specs.Recycling.{Lane, releaseIn}
+use Rattle.theory_engine.specs.Cells.{firstField, secondField}
+use mathlib.Core.Path.{refl, ap}
+use Rattle.unique_table.proofs.release.Statement.{statement}
+use Rattle.unique_table.proofs.release.Proof.Tie as tie
 
 unlink-requires : tie.Need-unlink-requires
 unlink-requires c κs = search needs
@@ -12,11 +16,8 @@ unlink-requires c κs = search needs
 bucket-remove-requires : tie.Need-bucket-remove-requires
 bucket-remove-requires c κs = search needs
 
-get-requires : tie.Need-get-requires
-get-requires c κs = search needs
-
-get-requires-2 : tie.Need-get-requires-2
-get-requires-2 c κs = search needs
+get-writer-record-requires : tie.Need-get-writer-record-requires
+get-writer-record-requires c κs = search needs
 
 orphans-requires : tie.Need-orphans-requires
 orphans-requires c κs = search needs
@@ -26,28 +27,22 @@ same-length c = search needs
 
 returns : tie.Need-returns
 unfolding releaseIn
-returns c = rw (
-  c .before .orphans .ensures,
-  c .before .before .before .get2 .ensures,
-  c .before .before .before .before .before .get .ensures,
-  c
-      .before .before .before .before .before .before .before .before .bucket-remove .ensures,
-  ap (λ (x : Lane). x .table)
-      (c .before .before .before .before .before .before .before .before .before .before .before .unlink .ensures),
-  ap (λ (x : Lane). x .first)
-      (c .before .before .before .before .before .before .before .before .before .before .before .unlink .ensures),
-  ap (λ (x : Lane). x .last)
-      (c .before .before .before .before .before .before .before .before .before .before .before .unlink .ensures),
-) refl
+returns c =
+    let c1 = c .before in
+    let c3 = c1 .before .before in
+    let c6 = c3 .before .before .before in
+    let c9 = c6 .before .before .before in
+    let c11 = c9 .before .before in
+    let a = c11 .args in
+    let u = c6 .bucket-remove .last .0 in rw (
+      c1 .orphans .ensures,
+      got-field u firstField (a .k) (c3 .get-writer-record .ensures) refl,
+      got-field u secondField (a .k) (c3 .get-writer-record .ensures) refl,
+      c6 .bucket-remove .ensures,
+      ap (λ (x : Lane). x .table) (c9 .unlink .ensures),
+      ap (λ (x : Lane). x .first) (c9 .unlink .ensures),
+      ap (λ (x : Lane). x .last) (c9 .unlink .ensures),
+    ) refl
 
 pub release-spec : {M : Type 1} → statement M
-release-spec =
-    tie.close
-    (tie.spec
-    unlink-requires
-    bucket-remove-requires
-    get-requires
-    get-requires-2
-    orphans-requires
-    same-length
-    returns)
+release-spec = tie.close (tie.spec unlink-requires bucket-remove-requires get-writer-record-requires orphans-requires same-length returns)

@@ -1,15 +1,17 @@
 -- The six calls in turn are the steps of `storeAt`: `get` reads the old record, `put` puts the new one, and `count` goes over the children of
 -- both. Assumes nothing.
+mod Lts
+mod Tie
 use Rattle.work_table.specs.Table.{store-correct}
 use borrow.Author.Needs.{needs}
 use Rattle.work_table.proofs.store.Statement.{statement}
-use Rattle.work_table.proofs.store.Tie as tie
+use Rattle.work_table.proofs.store.Proof.Tie as tie
 
 get-requires : tie.Need-get-requires
 get-requires c κs = search needs
 
-put-requires : tie.Need-put-requires
-put-requires c κs = search needs
+put-record-requires : tie.Need-put-record-requires
+put-record-requires c κs = search needs
 
 count-requires : tie.Need-count-requires
 count-requires c κs = search needs
@@ -31,7 +33,7 @@ returns c =
     let a = c .before .before .before .before .before .before .before .before .before .before .before .before .before .before .before .before .before
     .args in
     let get = c .before .before .before .before .before .before .before .before .before .before .before .before .before .before .before .get in
-    let put = c .before .before .before .before .before .before .before .before .before .before .before .before .before .put in
+    let put = c .before .before .before .before .before .before .before .before .before .before .before .before .before .put-record in
     let count = c .before .before .before .before .before .before .before .before .before .before .count in
     let count2 = c .before .before .before .before .before .before .before .count2 in
     let count3 = c .before .before .before .before .count3 in
@@ -43,7 +45,7 @@ store-spec =
     tie.close
     (tie.spec
     get-requires
-    put-requires
+    put-record-requires
     count-requires
     count-requires-2
     count-requires-3

@@ -1,13 +1,14 @@
 -- A word, a block of like bytes, a second half that repeats the first, or two halves that meet; each half has an option less.
 -- Assumes nothing.
+mod Lts-walk
+mod Tie
 use borrow.Author.Needs.{needs}
 use Prim.Native.Nat.{ℕ, _<_}
 use borrow.Fn.Kinds.{In}
 use borrow.Fn.PlainCycle.{Measures, is, falls, and}
 use Rattle.theory_reading.specs.Limits.{truthTableMost, levelLimit, truthLimit}
-use Rattle.writer.proofs.walk.Reads as walk
-use Rattle.writer.proofs.walk.Kinds as walk-kinds
-use Rattle.writer.proofs.+walk.Lts-walk as walk-lts
+use Rattle.writer.proofs.Lifted.walk as walk
+use Rattle.writer.proofs.+walk.Proof.Lts-walk as walk-lts
 use Rattle.writer.proofs.all_bytes.Reads as all-bytes-reads
 use Rattle.meeting.proofs.constant.Reads as constant-reads
 use Rattle.node_records.proofs.differs.Reads as differs-reads
@@ -18,11 +19,11 @@ use Rattle.meeting.proofs.numbered.Reads as numbered-reads
 use Rattle.meeting.proofs.progress_of.Reads as progress-of-reads
 use Rattle.pending_text.proofs.push.Reads as push-reads
 use Rattle.pending_text.proofs.push_tilde.Reads as push-tilde-reads
-use Rattle.meeting.proofs.second.Reads as second-reads
+use Rattle.meeting.proofs.Lifted.second as second-reads
 use Rattle.writer.proofs.truth.Reads as truth-reads
 use Rattle.pending_text.proofs.wait.Reads as wait-reads
 use Rattle.writer.proofs.+walk.{statement}
-use Rattle.writer.proofs.+walk.Tie.{close}
+use Rattle.writer.proofs.+walk.Proof.Tie.{close}
 use mathlib.Core.Path.{_≡_, sym, ap, _∙_}
 use native.Mathlib.Omega.{arith}
 use Prim.Native.Nat.{suc, _+_, _*_, _-_, _%_, _≤_, _^_}
@@ -31,14 +32,14 @@ use Rattle.theory_engine.specs.EngineCorrect.{walk-word, walk-no, walk-yes, wal
 use Rattle.meeting.specs.Abstraction.{halfOf, progressOf, again-as}
 use Rattle.theory_lists.specs.Powers.{shifted, both-halves}
 
-abbrev μ-walk : Measures 4 walk-kinds.ps ℕ
+abbrev μ-walk : Measures 4 walk.ps ℕ
 μ-walk κs a = a .1 .1 .0
 
-abbrev at : ℕ → In 4 walk-kinds.ps
-at t = and 4 walk-kinds.ps (is 4 walk-kinds.ps μ-walk t) walk.Pre
+abbrev at : ℕ → In 4 walk.ps
+at t = and 4 walk.ps (is 4 walk.ps μ-walk t) walk.Pre
 
-abbrev below : ℕ → In 4 walk-kinds.ps
-below t = and 4 walk-kinds.ps (falls 4 walk-kinds.ps _<_ μ-walk t) walk.Pre
+abbrev below : ℕ → In 4 walk.ps
+below t = and 4 walk.ps (falls 4 walk.ps _<_ μ-walk t) walk.Pre
 
 module _ (t : ℕ) where
   -- what each callee asks, and what it gives
@@ -89,7 +90,8 @@ module _ (t : ℕ) where
       let c7 = c3 .before .before .before .before in
       let a = c7 .args in
       rw (c .kept .ensures, c .before .constant .ensures, c .before .before .truth .ensures)
-      (walk-word (a .v .now) (a .size) (a .d) (a .i) (a .at) (a .m) (a .t .now) (a .out .now) (a .w .now) (progressOf (a .progress)) (c3 .if1 .taken))
+      (walk-word (a .v .now) (a .size) (a .d) (a .i) (a .at) (a .m) (a .t .now) (a .out .now) (a .w .now) (progressOf (a .progress))
+      (c3 .if1 .taken))
 
   all-bytes-requires : walk-lts.Need-all-bytes-requires K (at t) walk.Post
   all-bytes-requires c κs = search needs
@@ -186,7 +188,8 @@ module _ (t : ℕ) where
       let a = c23 .args in
       let e : a .d ≡ suc (a .d - 1) = omega (arith, c19 .if1 .left) in
       walk-full (a .v .now) (a .size) (a .d - 1) (a .i) (a .at) (a .m) (a .t .now) (a .out .now) (a .w .now) (progressOf (a .progress)) (a .d) e
-      (sym (c18 .all-bytes .ensures) ∙ c17 .if2 .left) (sym (c16 .all-bytes2 .ensures) ∙ c15 .if3 .left) _ _ (c13 .push .ensures) (c7 .walk .ensures)
+      (sym (c18 .all-bytes .ensures) ∙ c17 .if2 .left) (sym (c16 .all-bytes2 .ensures) ∙ c15 .if3 .left) _ _ (c13 .push .ensures)
+      (c7 .walk .ensures)
       (progressOf (c .before .progress-of .result)) (ap progressOf (c .before .progress-of .ensures)) (c .if4 .taken)
 
   half-of-requires : walk-lts.Need-half-of-requires K (at t) walk.Post
@@ -271,11 +274,13 @@ module _ (t : ℕ) where
       let e : a .d ≡ suc (a .d - 1) = omega (arith, c43 .if1 .left) in
       c5 .second .ensures
       ∙ walk-repeat (a .v .now) (a .size) (a .d - 1) (a .i) (a .at) (a .m) (a .t .now) (a .out .now) (a .w .now) (progressOf (a .progress)) (a .d) e
-      (sym (c42 .all-bytes .ensures) ∙ c41 .if2 .left) (sym (c40 .all-bytes2 .ensures) ∙ c39 .if3 .left) _ _ (c37 .push .ensures) (c31 .walk .ensures)
+      (sym (c42 .all-bytes .ensures) ∙ c41 .if2 .left) (sym (c40 .all-bytes2 .ensures) ∙ c39 .if3 .left) _ _ (c37 .push .ensures)
+      (c31 .walk .ensures)
       (halfOf (c23 .half-of .result)) (progressOf (c25 .progress-of .result)) _ _ _ _ _ (ap halfOf (c23 .half-of .ensures))
       (ap progressOf (c25 .progress-of .ensures))
       (shifted (a .d - 1) (omega (arith, c47 .pre))) (c24 .if4 .left)
-      (c21 .differs .ensures ∙ ap (differ (c23 .half-of .result .complement)) (c22 .truth2 .ensures)) (c19 .wait .ensures) (c15 .push-tilde .ensures)
+      (c21 .differs .ensures ∙ ap (differ (c23 .half-of .result .complement)) (c22 .truth2 .ensures)) (c19 .wait .ensures)
+      (c15 .push-tilde .ensures)
       (sym (c12 .is-again .ensures) ∙ c11 .if5 .taken)
       (again-as (c9 .kept4 .result) (c10 .numbered .result) (c23 .half-of .result) (c25 .progress-of .result) _ _ _ _ _ (c9 .kept4 .ensures)
       (c10 .numbered .ensures) (c22 .truth2 .ensures))
@@ -345,11 +350,13 @@ module _ (t : ℕ) where
       let e : a .d ≡ suc (a .d - 1) = omega (arith, c50 .if1 .left) in
       c5 .second2 .ensures
       ∙ walk-on (a .v .now) (a .size) (a .d - 1) (a .i) (a .at) (a .m) (a .t .now) (a .out .now) (a .w .now) (progressOf (a .progress)) (a .d) e
-      (sym (c49 .all-bytes .ensures) ∙ c48 .if2 .left) (sym (c47 .all-bytes2 .ensures) ∙ c46 .if3 .left) _ _ (c44 .push .ensures) (c38 .walk .ensures)
+      (sym (c49 .all-bytes .ensures) ∙ c48 .if2 .left) (sym (c47 .all-bytes2 .ensures) ∙ c46 .if3 .left) _ _ (c44 .push .ensures)
+      (c38 .walk .ensures)
       (halfOf (c30 .half-of .result)) (progressOf (c32 .progress-of .result)) _ _ _ _ _ (ap halfOf (c30 .half-of .ensures))
       (ap progressOf (c32 .progress-of .ensures))
       (shifted (a .d - 1) (omega (arith, c54 .pre))) (c31 .if4 .left)
-      (c28 .differs .ensures ∙ ap (differ (c30 .half-of .result .complement)) (c29 .truth2 .ensures)) (c26 .wait .ensures) (c22 .push-tilde .ensures)
+      (c28 .differs .ensures ∙ ap (differ (c30 .half-of .result .complement)) (c29 .truth2 .ensures)) (c26 .wait .ensures)
+      (c22 .push-tilde .ensures)
       (sym (c19 .is-again .ensures) ∙ c18 .if5 .left) (c14 .walk2 .ensures)
 
 pub +walk-spec : {M : Type 1} → statement M

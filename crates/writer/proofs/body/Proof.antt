@@ -1,9 +1,11 @@
 -- The leading `~`, the walk and the end, by the law of Engine for this way; nothing more if the output is full.
 -- Assumes nothing.
+mod Lts
+mod Tie
 use borrow.Author.Needs.{needs}
 use Rattle.theory_reading.specs.Limits.{truthTableMost, levelLimit, truthLimit}
 use Rattle.writer.proofs.body.Statement.{statement}
-use Rattle.writer.proofs.body.Tie as tie
+use Rattle.writer.proofs.body.Proof.Tie as tie
 use mathlib.Core.Path.{refl, ap, _∙_}
 use mathlib.Core.Bool.{Bool}
 use Rattle.theory_writing.specs.Texts.{tildeIf}
@@ -27,11 +29,13 @@ progress-after-requires : tie.Need-progress-after-requires
 progress-after-requires c κs = search needs
 
 walk-requires : tie.Need-walk-requires
-walk-requires c κs = let n = c .before .before .before .before .before .before .before .before .before .before .before .before .before .args .n in
-    let e : 2 ^ n ≤ truthLimit = pow-mono (c .before .before .before .before .before .before .before .before .before .before .before .before .before
+walk-requires c κs =
+    let c13 = c .before .before .before .before .before .before .before .before .before .before .before .before .before in
+    let n = c13 .args .n in
+    let e : 2 ^ n ≤ truthLimit = pow-mono (c13
     .pre) in
     let h : (n ≤ truthTableMost) × ((1 + n ≤ levelLimit) × (0 + 2 ^ n ≤ truthLimit)) = omega
-    (arith, e, c .before .before .before .before .before .before .before .before .before .before .before .before .before .pre) in
+    (arith, e, c13 .pre) in
     h
 
 done-requires : tie.Need-done-requires
@@ -47,19 +51,21 @@ same-length-3 : tie.Need-same-length-3
 same-length-3 c = search needs
 
 returns-2 : tie.Need-returns-2
-returns-2 c = let a = c .before .before .before .before .before .before .before .before .before .before .before .before .before .before .before
-    .before .before .before .before .before .before .before .before .before .before .before .args in
-    c .before .before .before .before .done .ensures
+returns-2 c =
+    let c4 = c .before .before .before .before in
+    let c12 = c4 .before .before .before .before .before .before .before .before in
+    let c13 = c12 .before in
+    let c19 = c13 .before .before .before .before .before .before in
+    let c20 = c19 .before in
+    let c22 = c20 .before .before in
+    let c26 = c22 .before .before .before .before in
+    let a = c26 .args in
+    c4 .done .ensures
     ∙ body-correct (a .n) (a .size) (a .v .now) (a .t .now) _ _ (progressOf
-    (c .before .before .before .before .before .before .before .before .before .before .before .before .before .progress-after .result)) _
-    (c .before .before .before .before .before .before .before .before .before .before .before .before .before .before .before .before .before
-    .before .before .before .before .before .if1 .left)
-    (c .before .before .before .before .before .before .before .before .before .before .before .before .before .before .before .before .before .before
-    .before .push-tilde .ensures ∙ ap (λ (b : Bool). pushAll (a .w .now) 0 (tildeIf b))
-    (c .before .before .before .before .before .before .before .before .before .before .before .before .before .before .before .before .before
-    .before .before .before .truth .ensures)) (ap progressOf (c .before .before .before .before .before .before .before .before .before .before
-    .before .before .before .progress-after .ensures)) (c .before .before .before .before .before .before .before .before .before .before .before
-    .before .walk .ensures)
+    (c13 .progress-after .result)) _
+    (c22 .if1 .left)
+    (c19 .push-tilde .ensures ∙ ap (λ (b : Bool). pushAll (a .w .now) 0 (tildeIf b))
+    (c20 .truth .ensures)) (ap progressOf (c13 .progress-after .ensures)) (c12 .walk .ensures)
 
 pub body-spec : {M : Type 1} → statement M
 body-spec =

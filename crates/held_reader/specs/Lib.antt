@@ -1,0 +1,4 @@
+pub mod Abstraction
+pub mod Held
+pub mod HeldExamples
+pub mod HeldLaws

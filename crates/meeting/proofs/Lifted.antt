@@ -1,0 +1,10 @@
+-- Generated: what callers cite of the lifted functions.
+-- From f5bfa6c251835430, as 00dfe1b51a958ecd.
+pub mod is_stale
+pub mod alike_number
+pub mod is_barred
+pub mod write_temporary
+pub mod give
+pub mod known
+pub mod meet
+pub mod second

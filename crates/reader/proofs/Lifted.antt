@@ -1,0 +1,7 @@
+-- Generated: what callers cite of the lifted functions.
+-- From 2592314248d7ca38, as 6d1ea162123c682d.
+pub mod barred
+pub mod update_table
+pub mod iterate
+pub mod run_on
+pub mod read_on

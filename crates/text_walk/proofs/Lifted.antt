@@ -1,0 +1,7 @@
+-- Generated: what callers cite of the lifted functions.
+-- From c0fd6c9a316d640b, as 139f5d5741d92fdb.
+pub mod first_on
+pub mod second_on
+pub mod texts
+pub mod nodes
+pub mod stream

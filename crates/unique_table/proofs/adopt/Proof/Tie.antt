@@ -1,0 +1,76 @@
+-- Generated: the needs of adopt at its contract, and how its theorem closes.
+-- From 2a7436110a0a6637, as 3cd8908c8ec9b692.
+use borrow.Fn.Run
+use borrow.Fn.Written
+use contract.Running.{givenOf, tablesOf}
+use Rattle.node_records.proofs.Lifted.get_writer_record as get-writer-record-reads
+use Rattle.node_records.proofs.get_writer_record.Met as get-writer-record-met
+use Rattle.node_records.proofs.get_writer_record.Symbol as get-writer-record-symbol
+use Rattle.writer_records.proofs.one_more.Reads as one-more-reads
+use Rattle.writer_records.proofs.one_more.Met as one-more-met
+use Rattle.writer_records.proofs.one_more.Symbol as one-more-symbol
+use Rattle.writer_records.proofs.with_parents.Reads as with-parents-reads
+use Rattle.writer_records.proofs.with_parents.Met as with-parents-met
+use Rattle.writer_records.proofs.with_parents.Symbol as with-parents-symbol
+use Rattle.node_records.proofs.Lifted.put_writer_record as put-writer-record-reads
+use Rattle.node_records.proofs.put_writer_record.Met as put-writer-record-met
+use Rattle.node_records.proofs.put_writer_record.Symbol as put-writer-record-symbol
+use Rattle.unique_table.proofs.Lifted.unlink as unlink-reads
+use Rattle.unique_table.proofs.unlink.Met as unlink-met
+use Rattle.unique_table.proofs.unlink.Symbol as unlink-symbol
+use Rattle.unique_table.proofs.adopt.Key
+use Rattle.unique_table.proofs.adopt.Code as code
+use Rattle.unique_table.proofs.adopt.Statement.{statement}
+use Rattle.unique_table.proofs.adopt.Proof.Lts as lts
+use Rattle.unique_table.proofs.Lifted.adopt as self
+
+abbrev callees : lts.Claims
+callees = (get-writer-record-reads.Asked, get-writer-record-reads.Learnt, one-more-reads.Asked, one-more-reads.Learnt, with-parents-reads.Asked, with-parents-reads.Learnt, put-writer-record-reads.Asked, put-writer-record-reads.Learnt, unlink-reads.Asked, unlink-reads.Learnt)
+
+abbrev pub Need-get-writer-record-requires : Type 0
+Need-get-writer-record-requires = lts.Need-get-writer-record-requires callees self.Pre self.Post
+
+abbrev pub Need-one-more-requires : Type 0
+Need-one-more-requires = lts.Need-one-more-requires callees self.Pre self.Post
+
+abbrev pub Need-with-parents-requires : Type 0
+Need-with-parents-requires = lts.Need-with-parents-requires callees self.Pre self.Post
+
+abbrev pub Need-put-writer-record-requires : Type 0
+Need-put-writer-record-requires = lts.Need-put-writer-record-requires callees self.Pre self.Post
+
+abbrev pub Need-same-length : Type 0
+Need-same-length = lts.Need-same-length callees self.Pre self.Post
+
+abbrev pub Need-returns : Type 0
+Need-returns = lts.Need-returns callees self.Pre self.Post
+
+abbrev pub Need-same-length-2 : Type 0
+Need-same-length-2 = lts.Need-same-length-2 callees self.Pre self.Post
+
+abbrev pub Need-returns-2 : Type 0
+Need-returns-2 = lts.Need-returns-2 callees self.Pre self.Post
+
+abbrev pub Need-unlink-requires : Type 0
+Need-unlink-requires = lts.Need-unlink-requires callees self.Pre self.Post
+
+abbrev pub Need-same-length-3 : Type 0
+Need-same-length-3 = lts.Need-same-length-3 callees self.Pre self.Post
+
+abbrev pub Need-returns-3 : Type 0
+Need-returns-3 = lts.Need-returns-3 callees self.Pre self.Post
+
+module _ {M : Type 1} where
+  pub spec : Need-get-writer-record-requires → Need-one-more-requires → Need-with-parents-requires → Need-put-writer-record-requires → Need-same-length → Need-returns → Need-same-length-2 → Need-returns-2 → Need-unlink-requires → Need-same-length-3 → Need-returns-3 → lts.Closed callees self.Pre self.Post M
+  spec n0 n1 n2 n3 n4 n5 n6 n7 n8 n9 n10 = lts.spec callees self.Pre self.Post n0 n1 n2 n3 n4 n5 n6 n7 n8 n9 n10
+
+  pub close : lts.Closed callees self.Pre self.Post M → statement M
+  unfolding code.routine tablesOf
+  close closed 𝓤 H 𝓜 𝓖 𝓡 =
+      Written.close 1 self.ps self.r self.Ghost self.requires self.ensures self.pre-read self.Pinned self.Owned self.post-read record { M = M; 𝓤 = 𝓤; H = H; 𝓜 = 𝓜; 𝓖 = 𝓖; 𝓡 = 𝓡 } code.env Key.name code.function (code.unfolded 𝓤 H 𝓜 𝓡)
+      (λ κs a g. tt) (λ κs. self.owns κs record { M = M; 𝓤 = 𝓤; H = H; 𝓜 = 𝓜; 𝓖 = 𝓖; 𝓡 = 𝓡 }) (self.passes record { M = M; 𝓤 = 𝓤; H = H; 𝓜 = 𝓜; 𝓖 = 𝓖; 𝓡 = 𝓡 }) λ g. closed 𝓤 H (𝓖 .A) (givenOf 𝓤 H 𝓜 𝓖) (Run.Over 𝓤 H 𝓜 𝓖 𝓡 code.env)
+      (get-writer-record-reads.known record { M = M; 𝓤 = 𝓤; H = H; 𝓜 = 𝓜; 𝓖 = 𝓖; 𝓡 = 𝓡 } code.env get-writer-record-symbol.name get-writer-record-symbol.routine code.calls-node-records·get-writer-record (get-writer-record-met.met 𝓤 H 𝓜 𝓖 𝓡))
+      (one-more-reads.known record { M = M; 𝓤 = 𝓤; H = H; 𝓜 = 𝓜; 𝓖 = 𝓖; 𝓡 = 𝓡 } code.env one-more-symbol.name one-more-symbol.routine code.calls-writer-records·one-more (one-more-met.met 𝓤 H 𝓜 𝓖 𝓡))
+      (with-parents-reads.known record { M = M; 𝓤 = 𝓤; H = H; 𝓜 = 𝓜; 𝓖 = 𝓖; 𝓡 = 𝓡 } code.env with-parents-symbol.name with-parents-symbol.routine code.calls-writer-records·with-parents (with-parents-met.met 𝓤 H 𝓜 𝓖 𝓡))
+      (put-writer-record-reads.known record { M = M; 𝓤 = 𝓤; H = H; 𝓜 = 𝓜; 𝓖 = 𝓖; 𝓡 = 𝓡 } code.env put-writer-record-symbol.name put-writer-record-symbol.routine code.calls-node-records·put-writer-record (put-writer-record-met.met 𝓤 H 𝓜 𝓖 𝓡))
+      (unlink-reads.known record { M = M; 𝓤 = 𝓤; H = H; 𝓜 = 𝓜; 𝓖 = 𝓖; 𝓡 = 𝓡 } code.env unlink-symbol.name unlink-symbol.routine code.calls-unique-table·unlink (unlink-met.met 𝓤 H 𝓜 𝓖 𝓡))

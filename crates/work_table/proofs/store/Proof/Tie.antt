@@ -1,0 +1,59 @@
+-- Generated: the needs of store at its contract, and how its theorem closes.
+-- From da7cda4a5652d8ac, as 2729b497a8e9e767.
+use borrow.Fn.Run
+use borrow.Fn.Written
+use contract.Running.{givenOf, tablesOf}
+use Rattle.work_table.proofs.Lifted.get as get-reads
+use Rattle.work_table.proofs.get.Met as get-met
+use Rattle.work_table.proofs.get.Symbol as get-symbol
+use Rattle.node_records.proofs.Lifted.put_record as put-record-reads
+use Rattle.node_records.proofs.put_record.Met as put-record-met
+use Rattle.node_records.proofs.put_record.Symbol as put-record-symbol
+use Rattle.work_table.proofs.Lifted.count as count-reads
+use Rattle.work_table.proofs.count.Met as count-met
+use Rattle.work_table.proofs.count.Symbol as count-symbol
+use Rattle.work_table.proofs.store.Key
+use Rattle.work_table.proofs.store.Code as code
+use Rattle.work_table.proofs.store.Statement.{statement}
+use Rattle.work_table.proofs.store.Proof.Lts as lts
+use Rattle.work_table.proofs.Lifted.store as self
+
+abbrev callees : lts.Claims
+callees = (get-reads.Asked, get-reads.Learnt, put-record-reads.Asked, put-record-reads.Learnt, count-reads.Asked, count-reads.Learnt)
+
+abbrev pub Need-get-requires : Type 0
+Need-get-requires = lts.Need-get-requires callees self.Pre self.Post
+
+abbrev pub Need-put-record-requires : Type 0
+Need-put-record-requires = lts.Need-put-record-requires callees self.Pre self.Post
+
+abbrev pub Need-count-requires : Type 0
+Need-count-requires = lts.Need-count-requires callees self.Pre self.Post
+
+abbrev pub Need-count-requires-2 : Type 0
+Need-count-requires-2 = lts.Need-count-requires-2 callees self.Pre self.Post
+
+abbrev pub Need-count-requires-3 : Type 0
+Need-count-requires-3 = lts.Need-count-requires-3 callees self.Pre self.Post
+
+abbrev pub Need-count-requires-4 : Type 0
+Need-count-requires-4 = lts.Need-count-requires-4 callees self.Pre self.Post
+
+abbrev pub Need-same-length : Type 0
+Need-same-length = lts.Need-same-length callees self.Pre self.Post
+
+abbrev pub Need-returns : Type 0
+Need-returns = lts.Need-returns callees self.Pre self.Post
+
+module _ {M : Type 1} where
+  pub spec : Need-get-requires → Need-put-record-requires → Need-count-requires → Need-count-requires-2 → Need-count-requires-3 → Need-count-requires-4 → Need-same-length → Need-returns → lts.Closed callees self.Pre self.Post M
+  spec n0 n1 n2 n3 n4 n5 n6 n7 = lts.spec callees self.Pre self.Post n0 n1 n2 n3 n4 n5 n6 n7
+
+  pub close : lts.Closed callees self.Pre self.Post M → statement M
+  unfolding code.routine tablesOf
+  close closed 𝓤 H 𝓜 𝓖 𝓡 =
+      Written.close 1 self.ps self.r self.Ghost self.requires self.ensures self.pre-read self.Pinned self.Owned self.post-read record { M = M; 𝓤 = 𝓤; H = H; 𝓜 = 𝓜; 𝓖 = 𝓖; 𝓡 = 𝓡 } code.env Key.name code.function (code.unfolded 𝓤 H 𝓜 𝓡)
+      (λ κs a g. tt) (λ κs. self.owns κs record { M = M; 𝓤 = 𝓤; H = H; 𝓜 = 𝓜; 𝓖 = 𝓖; 𝓡 = 𝓡 }) (self.passes record { M = M; 𝓤 = 𝓤; H = H; 𝓜 = 𝓜; 𝓖 = 𝓖; 𝓡 = 𝓡 }) λ g. closed 𝓤 H (𝓖 .A) (givenOf 𝓤 H 𝓜 𝓖) (Run.Over 𝓤 H 𝓜 𝓖 𝓡 code.env)
+      (get-reads.known record { M = M; 𝓤 = 𝓤; H = H; 𝓜 = 𝓜; 𝓖 = 𝓖; 𝓡 = 𝓡 } code.env get-symbol.name get-symbol.routine code.calls-work-table·get (get-met.met 𝓤 H 𝓜 𝓖 𝓡))
+      (put-record-reads.known record { M = M; 𝓤 = 𝓤; H = H; 𝓜 = 𝓜; 𝓖 = 𝓖; 𝓡 = 𝓡 } code.env put-record-symbol.name put-record-symbol.routine code.calls-node-records·put-record (put-record-met.met 𝓤 H 𝓜 𝓖 𝓡))
+      (count-reads.known record { M = M; 𝓤 = 𝓤; H = H; 𝓜 = 𝓜; 𝓖 = 𝓖; 𝓡 = 𝓡 } code.env count-symbol.name count-symbol.routine code.calls-work-table·count (count-met.met 𝓤 H 𝓜 𝓖 𝓡))

@@ -1,0 +1,6 @@
+-- Generated: what callers cite of the lifted functions.
+-- From 890f16ded88694c9, as 9018633831f63f6c.
+pub mod walk
+pub mod body
+pub mod stream
+pub mod write
