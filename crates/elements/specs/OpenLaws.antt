@@ -18,13 +18,10 @@ use borrow.Author.Tests.{ltb-true, ltb-false, le-ltb, ne-eqb}
 use Rattle.elements.specs.Abstraction.{opensOf, insideOpen, deepOf, lastOpen, lowAt, highAt, spotsOf}
 use Rattle.elements.specs.declared.Spots.{Spots}
 
-opens-length : (ns : List Open) (d : ℕ) → length (opensOf ns d) ≡ d
-unfolding opensOf
-opens-length ns zero = refl
-opens-length ns (suc d) = ap suc (opens-length ns d)
-
 pub open-length : (ns : List Open) (d : ℕ) → length (opensOf ns d) ≡ d
-open-length = opens-length
+unfolding opensOf
+open-length ns zero = refl
+open-length ns (suc d) = ap suc (open-length ns d)
 
 pub open-none : (ns : List Open) → opensOf ns 0 ≡ []
 unfolding opensOf

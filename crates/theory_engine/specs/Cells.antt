@@ -130,24 +130,6 @@ put-at t j (suc k) v =
     ∙ ap (λ (x : WriterRecord). set t (suc k - 1) (withField x j v)) (sym (entry-here noWriterRecord t (suc k) (λ z. omega (arith, z))))
     ∙ ap (λ (p : ℕ). set t p (withField (getD t p noWriterRecord) j v)) e
 
-pub put-past : (t : List WriterRecord) (j k v : ℕ) → length t < k → putCell t j k v ≡ t
-unfolding putCell
-put-past t j zero v h = refl
-put-past t j (suc k) v h = set-out t k (withField (getD t k noWriterRecord) j v) (omega arith)
-
-pub cell-none : (t : List WriterRecord) (j : ℕ) → cell t j 0 ≡ 0
-unfolding cell
-cell-none t j = refl
-
-pub cell-past : (t : List WriterRecord) (j k : ℕ) → length t < k → cell t j k ≡ 0
-unfolding cell
-cell-past t j zero h = refl
-cell-past t j (suc k) h = ap (λ (x : WriterRecord). getD (fieldsOf x) j 0) (List·getD-eq-default t noWriterRecord (omega arith)) ∙ zero-at j
-
-pub put-none : (t : List WriterRecord) (j v : ℕ) → putCell t j 0 v ≡ t
-unfolding putCell
-put-none t j v = refl
-
 pub length-put : (t : List WriterRecord) (j k v : ℕ) → length (putCell t j k v) ≡ length t
 unfolding putCell
 length-put t j zero v = refl
