@@ -1,10 +1,10 @@
--- The calls that read (document 01, "The written stream", last paragraphs; "Turned down"): for every input the answer, and what each lent
--- slice holds afterwards. Assumes nothing.
+-- The calls that read (document 01, "The written stream", last paragraphs; "Turned down"; document 02, R-1): for every input the answer, and what each
+-- lent slice holds afterwards. Assumes nothing.
 use mathlib.Core.Path.{_≡_}
-use mathlib.Core.Bool.{true, false, not, cond, _&&_}
+use mathlib.Core.Bool.{Bool, true, false, not, cond, _&&_}
 use mathlib.Core.List.{List, [], _∷_}
 use mathlib.Core.Option.{Option, none, some}
-use Prim.Native.Nat.{ℕ, zero, suc, _+_, _*_, _/_, _^_}
+use Prim.Native.Nat.{ℕ, zero, suc, _+_, _-_, _*_, _/_, _^_}
 use lib.Dec.{ltb, leb, eqb}
 use lib.ListN.{length}
 use Rattle.theory_reading.specs.Limits.{optionLimit, tableLimit, truthTableLeast, truthTableMost}
@@ -107,6 +107,52 @@ decide z n bytes w table =
 -- the contract of a call that decides
 abbrev pub Decides : {R : Type 0} → R → ℕ → List ℕ → ℕ → List R → Read Verdict R → Type 0
 Decides z n bytes w table c = c ≡ decide z n bytes w table
+
+-- ---- The next admitted word (document 02, R-1) -----------------------------------------------
+
+abbrev pub isAdmitted : Verdict → Bool
+isAdmitted isNo = false
+isAdmitted isYes = true
+isAdmitted notYet = false
+
+-- the least admitted one of the k words from w on
+unfoldable pub leastAdmitted : ℕ → ℕ → Trace → ℕ → Option ℕ
+unfolding decisionOf
+leastAdmitted zero n t w = none
+leastAdmitted (suc k) n t w = elim (isAdmitted (verdict n t w)) [ true ↦ some w | false ↦ leastAdmitted k n t (w + 1) ]
+
+-- a word; "none"; "not known"
+pub data NextWord : Type 0 where
+  word : ℕ → NextWord
+  noWord notKnown : NextWord
+
+-- "If no covered word from w on is admitted, the answer is 'none' where all words are covered and 'not known' otherwise."
+abbrev pub unlessWord : Option ℕ → Bool → NextWord
+unlessWord (some v) all = word v
+unlessWord none all = cond all noWord notKnown
+
+-- "From a word w and a stream, give the least admitted word not below w": of the words that are covered
+abbrev pub nextWord : ℕ → Trace → ℕ → NextWord
+nextWord n t w = let c = t .reading .state .covered in unlessWord (leastAdmitted (c - w) n t w) (eqb c (2 ^ n))
+
+-- "Causes 1, 4, 5 and 7 to 13 apply."
+unfoldable pub findAnswer : ℕ → List ℕ → ℕ → ℕ → Result NextWord
+unfolding gate trace leastAdmitted isDigit
+findAnswer n bytes w records =
+    let t = trace n bytes in
+    gate (manyOptions n ∷ shortTable records ∷ test (atCall wordRange) (leb (2 ^ n) w) ∷ [])
+    (unlessFault 1 (t .reading .fault) (done (nextWord n t w)))
+
+-- FINDING THE NEXT ADMITTED WORD
+unfoldable pub findNext : {R : Type 0} → R → ℕ → List ℕ → ℕ → List R → Read NextWord R
+unfolding findAnswer tableAfter
+findNext z n bytes w table =
+    let a = findAnswer n bytes w (length table) in
+    record { answer = a; table = tableAfter z a table }
+
+-- the contract of a call that finds the next admitted word
+abbrev pub FindsNext : {R : Type 0} → R → ℕ → List ℕ → ℕ → List R → Read NextWord R → Type 0
+FindsNext z n bytes w table c = c ≡ findNext z n bytes w table
 
 -- ---- Filling a truth table -------------------------------------------------------------------
 

@@ -1,13 +1,14 @@
--- Readings of document 01 that are settled (docs/DECISIONS.md), each on a stream, by computation: a wrong definition fails here. Assumes nothing.
+-- Readings of documents 01 and 02 that are settled (docs/DECISIONS.md), each on a stream, by computation: a wrong definition fails here. Assumes nothing.
 use mathlib.Core.Path.{_≡_, refl}
 use mathlib.Core.List.{[]}
 use Prim.Native.Nat.{ℕ, _+_}
 use Prim.Native.String.{String}
 use Rattle.theory_reading.specs.Limits.{optionLimit, tableLimit}
 use Rattle.theory_reading.specs.Bytes.{text}
-use Rattle.theory_reading.specs.Causes.{Cause, optionCount, wrongByte, declaredSize, notInTable, otherLevel, notStorable, badNumber}
+use Rattle.theory_reading.specs.Causes.{Cause, optionCount, workTable, wordRange, wrongByte, declaredSize, notInTable, otherLevel, notStorable, badNumber}
 use Rattle.theory_reading.specs.Causes.{Result, refused, done, refusal}
 use Rattle.theory_reading.specs.Calls.{Checked, Extent, cut, checkAnswer, Verdict, isNo, isYes, notYet, decideAnswer}
+use Rattle.theory_reading.specs.Calls.{NextWord, word, noWord, notKnown, findAnswer}
 
 abbrev checks : ℕ → String → Result Checked
 unfolding checkAnswer text
@@ -16,6 +17,10 @@ checks n s = checkAnswer n (text s) tableLimit
 abbrev decides : ℕ → String → ℕ → Result Verdict
 unfolding decideAnswer text
 decides n s w = decideAnswer n (text s) w tableLimit
+
+abbrev finds : ℕ → String → ℕ → Result NextWord
+unfolding findAnswer text
+finds n s w = findAnswer n (text s) w tableLimit
 
 abbrev accepts : ℕ → ℕ → Extent → Result Checked
 accepts z c x = done (record { size = z; covered = c; extent = x })
@@ -121,3 +126,61 @@ second-child = refl
 past-covered : decides 1 "1\n(0~" 1 ≡ done notYet
 unfolding decideAnswer text
 past-covered = refl
+
+-- ---- The next admitted word (document 02, R-1) -----------------------------------------------
+
+-- "all words are covered" is about the covered count, not the point
+all-refused : finds 1 "0\n0" 0 ≡ done noWord
+unfolding findAnswer text
+all-refused = refl
+
+half-refused : finds 1 "0\n(0" 0 ≡ done notKnown
+unfolding findAnswer text
+half-refused = refl
+
+both-refused : finds 1 "0\n(0 0" 0 ≡ done noWord
+unfolding findAnswer text
+both-refused = refl
+
+-- of `(0~0)` word 1 is admitted, from 0 on and from itself on
+found-above : finds 1 "1\n(0~0):1." 0 ≡ done (word 1)
+unfolding findAnswer text
+found-above = refl
+
+found-itself : finds 1 "1\n(0~0):1." 1 ≡ done (word 1)
+unfolding findAnswer text
+found-itself = refl
+
+-- and 0 alone of its complement
+found-none : finds 1 "1\n~(0~0):1." 1 ≡ done noWord
+unfolding findAnswer text
+found-none = refl
+
+-- a word is found in what a cut stream covers
+found-early : finds 2 "1\n~((0~0):1" 0 ≡ done (word 0)
+unfolding findAnswer text
+found-early = refl
+
+-- past what it covers nothing is known
+not-known-past : finds 2 "1\n~((0~0):1" 1 ≡ done notKnown
+unfolding findAnswer text
+not-known-past = refl
+
+-- a stored node may be constant
+constant-node : finds 2 "2\n((0 0):1~1):2." 0 ≡ done (word 2)
+unfolding findAnswer text
+constant-node = refl
+
+-- a fault behind the answer is given
+fault-behind : finds 1 "1\n~(0~0):1x" 0 ≡ refused (refusal wrongByte 1 10)
+unfolding findAnswer text
+fault-behind = refl
+
+-- a word past the last, before the stream is looked at; a short work table before it
+word-outside : finds 1 "x" 2 ≡ refused (refusal wordRange 0 0)
+unfolding findAnswer text
+word-outside = refl
+
+table-before : findAnswer 1 [] 2 0 ≡ refused (refusal workTable 0 0)
+unfolding findAnswer
+table-before = refl
