@@ -30,6 +30,9 @@ class Twin:
         for fs in [self.files] + list(self.deps.values()):      # those of this crate first
             for S in (S for x in fs for f in x.fns() for S in re.findall(SLICE, f.params)):
                 if S in self.structs and S not in self.tables: self.tables[S] = MARK + len(self.tables)
+        for S in self.lent_above():
+            if S not in self.tables: self.tables[S] = MARK + len(self.tables)
+        self.own = [S for S in self.tables if self.home[S][0] == self.name]
         self.sizes = {S: size_of(S, self.structs)[0] for S in self.tables}
         self.tab = "|".join(self.tables) or "NONE"
         everyone = [f for fs in list(self.deps.values()) + [self.files] for x in fs for f in x.fns()]
@@ -57,6 +60,14 @@ class Twin:
                 seen += [u for u in re.findall(r"(?m)^[ \t]*(?:pub )?use ([^;]*);", t)
                     if re.search(rf"\b{u.split('::')[-1].split(' as ')[-1].strip()}\b", used)]
         return {d: deps[d] for d in needs if d in deps}
+
+    def lent_above(self):
+        """the structs of this crate that crates above it are lent rows of"""
+        lent = set()
+        for d in (f"{self.repo}/crates/{n}/src" for n, needs in self.lines.items() if self.name in needs):
+            for at, _, fs in os.walk(d):
+                for x in fs: lent |= set(re.findall(SLICE, open(f"{at}/{x}").read()))
+        return [S for S in self.structs if self.home[S][0] == self.name and S in lent]
 
     def is_lent(self, f):
         return re.search(r"&(?:'\w+ )?(?:mut )?\[(%s)\]" % self.tab, f.params)
@@ -135,6 +146,7 @@ class Twin:
     # ---- What the checker prints of it
 
     def derive(self, work, again):
+        if not self.lifted: return
         for kind, texts in self.kinds().items():
             root, gen = f"{work}/{kind}", f"{work}/{kind}.gen"
             if again and os.path.isdir(gen): continue

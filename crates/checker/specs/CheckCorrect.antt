@@ -14,7 +14,8 @@ use Rattle.theory_reading.specs.Calls as R
 use Rattle.theory_reading.specs.Settled.{fault-leaves}
 use Rattle.theory_reading.specs.CallLaws.{zeroes-table, zeroes-done}
 use Rattle.theory_reading.specs.Reaching.{At, at-fault, at-end, at-covered}
-use Rattle.node_records.specs.Records.{noRecord, clearTo}
+use Rattle.node_records.specs.Records.{noRecord}
+use Rattle.record_tables.specs.Entries.{clearTo}
 use Rattle.elements.specs.Abstraction.{contextOf, causeOf}
 use Rattle.reader.specs.Advance.{stateAt, HaltsAt}
 use Rattle.reader.specs.OpenCells.{ReadReached}

@@ -16,10 +16,10 @@ use node_records::NodeRecord;
 use node_records::OPTION_LIMIT;
 use node_records::TABLE_LIMIT;
 use node_records::WORD_LIMIT;
-use node_records::clear_records;
 use reader::Reached;
 use reader::first_cursor;
 use reader::read_on;
+use record_tables::clear_records;
 
 // Why a call is turned down: the cause, the stream (0: none) and the byte.
 pub struct Refusal {

@@ -1,5 +1,5 @@
 -- Generated: what callers cite of the lifted functions.
--- From c6cf98906740585a, as b72cfd219e22e6ce.
+-- From e46e83bf8f03a1af, as b72cfd219e22e6ce.
 pub mod enter
 pub mod clear_all
 pub mod combine

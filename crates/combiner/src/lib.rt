@@ -33,8 +33,6 @@ use node_records::NodeRecord;
 use node_records::OPTION_LIMIT;
 use node_records::TABLE_LIMIT;
 use node_records::WriterRecord;
-use node_records::clear_records;
-use node_records::clear_writer_records;
 use node_records::differs;
 use node_records::least;
 use operands::Begun;
@@ -43,6 +41,8 @@ use operands::begin;
 use operation_cache::CACHE_ENTRIES;
 use pending_text::Sent;
 use pending_text::WAITING_LIMIT;
+use record_tables::clear_records;
+use record_tables::clear_writer_records;
 use text_walk::Task;
 use text_walk::stream;
 

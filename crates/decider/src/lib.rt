@@ -24,13 +24,13 @@ use node_records::NodeRecord;
 use node_records::OPTION_LIMIT;
 use node_records::TABLE_LIMIT;
 use node_records::WORD_LIMIT;
-use node_records::clear_records;
 use node_records::first_edge;
 use node_records::second_edge;
 use reader::Cursor;
 use reader::Reached;
 use reader::first_cursor;
 use reader::read_on;
+use record_tables::clear_records;
 use work_table::get;
 
 pub enum Verdict {

@@ -1,4 +1,4 @@
 -- Generated: what callers cite of the lifted functions.
--- From dcd7969e1e9253aa, as df335a1b927a4584.
+-- From 7e6fa9dda67f8e0f, as df335a1b927a4584.
 pub mod rule_write
 pub mod rule_combine

@@ -1,5 +1,5 @@
 -- Generated: what callers cite of the lifted functions.
--- From dbdcfa45678f14fc, as f18991afe3bcbed1.
+-- From 5323325ea17b17bb, as f18991afe3bcbed1.
 pub mod fill_node
 pub mod fill_words
 pub mod fill

@@ -27,12 +27,12 @@ use node_records::TABLE_LIMIT;
 use node_records::TRUTH_TABLE_LEAST;
 use node_records::TRUTH_TABLE_MOST;
 use node_records::WORD_LIMIT;
-use node_records::clear_records;
 use node_records::first_edge;
 use node_records::second_edge;
 use reader::Cursor;
 use reader::first_cursor;
 use reader::read_on;
+use record_tables::clear_records;
 use work_table::get;
 
 // What filling answers: the covered count.

@@ -1,12 +1,11 @@
-// The records of work tables, how they are read and written where they are lent, the edges of a stored node, and the limits of the code.
+// The records of work tables by value, the edges of a stored node, and the limits of the code.
 ghost use mathlib.Core.Path.{_≡_};
 ghost use mathlib.Core.Bool.{cond, _||_};
 ghost use lib.Dec.{eqb, ltb};
-ghost use lib.ListN.{length};
 ghost use Prim.Native.Nat.{min};
 ghost use Rattle.theory_lists.specs.Lists.{differ};
 ghost use Rattle.node_records.specs.Edges.{firstEdge, secondEdge};
-ghost use Rattle.node_records.specs.Records.{noRecord, noWriterRecord, entryAt, putEntry, clearTo};
+ghost use Rattle.node_records.specs.Records.{noRecord, noWriterRecord};
 
 // ---- Limits, by the names of the definitions
 
@@ -97,86 +96,6 @@ pub fn no_writer_record() -> WriterRecord
         previous: 0,
         head: 0,
         tail: 0,
-    }
-}
-
-// ---- Lent records: that of the number k stands at place k - 1, and 0 and numbers past the end have none
-
-pub fn get_record(t: &[NodeRecord], k: u32) -> NodeRecord
-    ensures { λ x. ⌜ x ≡ entryAt noRecord (now (t .entry)) k ⌝ }
-{
-    if k == 0 {
-        return no_record();
-    }
-    let i = (k - 1) as usize;
-    if t.len() <= i {
-        return no_record();
-    }
-    t[i]
-}
-
-pub fn put_record(t: &mut [NodeRecord], k: u32, x: NodeRecord)
-    ensures { λ _. ⌜ now (t .exit) ≡ putEntry (now (t .entry)) k x ⌝ }
-{
-    if k == 0 {
-        return;
-    }
-    let i = (k - 1) as usize;
-    if t.len() <= i {
-        return;
-    }
-    t[i] = x;
-}
-
-// The first m records become zero.
-pub fn clear_records(t: &mut [NodeRecord], m: usize)
-    ensures { λ _. ⌜ now (t .exit) ≡ clearTo noRecord (now (t .entry)) m ⌝ }
-{
-    let e = least(m, t.len());
-    let x = no_record();
-    let mut i = 0;
-    while i < e {
-        t[i] = x;
-        i += 1;
-    }
-}
-
-pub fn get_writer_record(t: &[WriterRecord], k: u32) -> WriterRecord
-    ensures { λ x. ⌜ x ≡ entryAt noWriterRecord (now (t .entry)) k ⌝ }
-{
-    if k == 0 {
-        return no_writer_record();
-    }
-    let i = (k - 1) as usize;
-    if t.len() <= i {
-        return no_writer_record();
-    }
-    t[i]
-}
-
-pub fn put_writer_record(t: &mut [WriterRecord], k: u32, x: WriterRecord)
-    ensures { λ _. ⌜ now (t .exit) ≡ putEntry (now (t .entry)) k x ⌝ }
-{
-    if k == 0 {
-        return;
-    }
-    let i = (k - 1) as usize;
-    if t.len() <= i {
-        return;
-    }
-    t[i] = x;
-}
-
-// All records become zero.
-pub fn clear_writer_records(t: &mut [WriterRecord])
-    ensures { λ _. ⌜ now (t .exit) ≡ clearTo noWriterRecord (now (t .entry)) (length (now (t .entry))) ⌝ }
-{
-    let e = t.len();
-    let x = no_writer_record();
-    let mut i = 0;
-    while i < e {
-        t[i] = x;
-        i += 1;
     }
 }
 

@@ -1,5 +1,5 @@
 -- Generated: what callers cite of the lifted functions.
--- From 8dd8a30be1a5ae38, as c162bcb292a764a6.
+-- From c96b3483c86718f2, as c162bcb292a764a6.
 pub mod first_half
 pub mod read_on
 pub mod second_operand

@@ -1,4 +1,4 @@
 -- Generated: what callers cite of the lifted functions.
--- From c77c03aa26ce29de, as 8679b6adab29903c.
+-- From 58a5476d575b409e, as 8679b6adab29903c.
 pub mod recall_entry
 pub mod recall

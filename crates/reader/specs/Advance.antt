@@ -49,7 +49,8 @@ use Rattle.node_records.specs.declared.NodeRecord.{NodeRecord}
 use Rattle.reader.specs.declared.Taken.{Taken}
 use Rattle.reader.specs.declared.Iteration.{Iteration}
 use Rattle.reader.specs.Taking.{failsOf, isKeptOf, isBadOf, nextStamp, storedRun, takenOf}
-use Rattle.node_records.specs.Records.{noRecord, clearTo}
+use Rattle.node_records.specs.Records.{noRecord}
+use Rattle.record_tables.specs.Entries.{clearTo}
 use Rattle.work_table.specs.Table.{getIn, storeAt, get-none, get-above}
 use Rattle.work_table.specs.TableLaws.{bit-back, recordNode, tableOf, table-length, table-node, Held, length-store, store-table, held-store, length-clear}
 use Rattle.work_table.specs.TableLaws.{clear-table, held-clear}

@@ -24,7 +24,7 @@ use node_records::OPTION_LIMIT;
 use node_records::TABLE_LIMIT;
 use node_records::WORD_LIMIT;
 use node_records::bit;
-use node_records::clear_records;
+use record_tables::clear_records;
 use scanner::BLANK;
 use scanner::COLON;
 use scanner::NextToken;

@@ -7,7 +7,8 @@ use native.Mathlib.Omega.{arith}
 use lib.ListN.{length, getD, set, replicate, length-set, length-replicate, getD-replicate, List·getD-eq-default}
 use lib.Seq.{getD-set-same, getD-set-other, set-out}
 use Rattle.theory_lists.specs.Lists.{decide-eq, decide-le}
-use Rattle.node_records.specs.Records.{noWriterRecord, entryAt, putEntry, entry-here, entry-put-here}
+use Rattle.node_records.specs.Records.{noWriterRecord}
+use Rattle.record_tables.specs.Entries.{entryAt, putEntry, entry-here, entry-put-here}
 use Rattle.node_records.specs.declared.WriterRecord.{WriterRecord}
 
 -- ---- The fields of a record ------------------------------------------------------------------

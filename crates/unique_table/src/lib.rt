@@ -5,8 +5,8 @@ ghost use Rattle.theory_engine.specs.Recycling.{unlinkIn, linkIn, freeOf, bucke
 ghost use Rattle.theory_engine.specs.Recycling.{fewerIn, orphanIn, orphansIn, releaseIn, adoptIn, noteIn, placeIn, storeIn, nextIn};
 ghost use Rattle.writer_records.specs.Records.{laneField};
 use node_records::WriterRecord;
-use node_records::get_writer_record;
-use node_records::put_writer_record;
+use record_tables::get_writer_record;
+use record_tables::put_writer_record;
 use writer_records::after_of;
 use writer_records::before_of;
 use writer_records::bucket;

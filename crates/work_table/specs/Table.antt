@@ -10,7 +10,8 @@ use borrow.Author.Tests.{ne-eqb, lt-ltb, le-ltb}
 use lib.Dec.{ltb, eqb}
 use lib.ListN.{getD, set}
 use Rattle.theory_lists.specs.Lists.{decide-eq}
-use Rattle.node_records.specs.Records.{noRecord, entryAt, putEntry}
+use Rattle.node_records.specs.Records.{noRecord}
+use Rattle.record_tables.specs.Entries.{entryAt, putEntry}
 use Rattle.node_records.specs.declared.NodeRecord.{NodeRecord}
 
 -- the record of number k in a table of z numbers

@@ -17,7 +17,8 @@ use Rattle.theory_reading.specs.LimitLaws.{few-parents}
 use Rattle.theory_reading.specs.Nodes.{Node, newNode, noNode, node}
 use Rattle.theory_reading.specs.ParentCounts.{edges, parents, parents-set, parents-most, parents-fresh, edges-parents}
 use Rattle.node_records.specs.declared.NodeRecord.{NodeRecord}
-use Rattle.node_records.specs.Records.{noRecord, putEntry, clearTo, entry-put-none, entry-put-here}
+use Rattle.node_records.specs.Records.{noRecord}
+use Rattle.record_tables.specs.Entries.{putEntry, clearTo, entry-put-none, entry-put-here}
 use Rattle.work_table.specs.Table.{getIn, countedTo, countedRecord, countAt, storeAt}
 use Rattle.work_table.specs.Table.{get-above, get-here, count-none, count-above, count-here}
 

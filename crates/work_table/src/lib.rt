@@ -2,9 +2,9 @@
 ghost use mathlib.Core.Path.{_≡_};
 ghost use Rattle.work_table.specs.Table.{getIn, countedTo, countedRecord, countAt, storeAt};
 use node_records::NodeRecord;
-use node_records::get_record;
 use node_records::no_record;
-use node_records::put_record;
+use record_tables::get_record;
+use record_tables::put_record;
 
 // THE RECORD of the number k in a table of z numbers.
 pub fn get(t: &[NodeRecord], z: u32, k: u32) -> NodeRecord

@@ -30,7 +30,6 @@ use node_records::TABLE_LIMIT;
 use node_records::TRUTH_TABLE_LEAST;
 use node_records::TRUTH_TABLE_MOST;
 use node_records::WriterRecord;
-use node_records::clear_writer_records;
 use node_records::differs;
 use pending_text::Sent;
 use pending_text::WAITING_LIMIT;
@@ -39,6 +38,7 @@ use pending_text::push_number;
 use pending_text::push_tilde;
 use pending_text::send;
 use pending_text::wait;
+use record_tables::clear_writer_records;
 
 // ---- The walk over a truth table
 

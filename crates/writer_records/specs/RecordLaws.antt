@@ -8,7 +8,8 @@ use native.Mathlib.Omega.{arith}
 use lib.ListN.{length, getD, set, drop, replicate, length-set, drop-of-length-le}
 use lib.Seq.{getD-set-same, getD-set-other, set-out, set-set, set-comm}
 use Rattle.theory_lists.specs.Lists.{decide-eq, decide-le}
-use Rattle.node_records.specs.Records.{noWriterRecord, entryAt, putEntry, clearTo, entry-put-here}
+use Rattle.node_records.specs.Records.{noWriterRecord}
+use Rattle.record_tables.specs.Entries.{entryAt, putEntry, clearTo, entry-put-here}
 use Rattle.node_records.specs.declared.WriterRecord.{WriterRecord}
 use Rattle.theory_engine.specs.Cells.{fieldsOf, recordWith, withField, fields-with, cell, putCell, cell-at, put-at}
 use Rattle.theory_engine.specs.Cells.{levelField, firstField, secondField, complementField, stampField, parentsField, headField, tailField}

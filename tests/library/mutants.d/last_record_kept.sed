@@ -1,2 +1,2 @@
-# crates/node_records/src/lib.rt
+# crates/record_tables/src/lib.rt
 s/^    let e = least(m, t.len());/    let e = least(m, 1024);/

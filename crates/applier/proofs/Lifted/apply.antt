@@ -1,5 +1,5 @@
 -- Generated: what callers cite of apply.
--- From 9203b805cc4f9cdf, as e7dbfbc1f9553c25.
+-- From b778e47394334ed5, as e7dbfbc1f9553c25.
 use Rattle.edges.proofs.TableEdge
 use Rattle.edges.proofs.TableEdge.Laws
 use Rattle.meeting.proofs.Progress

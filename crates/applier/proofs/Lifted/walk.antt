@@ -1,5 +1,5 @@
 -- Generated: what callers cite of walk.
--- From 9203b805cc4f9cdf, as 5cb55521d7734125.
+-- From b778e47394334ed5, as 5cb55521d7734125.
 use Rattle.edges.proofs.TableEdge
 use Rattle.edges.proofs.TableEdge.Laws
 use Rattle.meeting.proofs.Progress

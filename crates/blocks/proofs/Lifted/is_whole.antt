@@ -1,5 +1,5 @@
 -- Generated: what callers cite of is_whole.
--- From 5e5c35470254db71, as e051fe97bc5c6c08.
+-- From 28e99fe23ec52091, as e051fe97bc5c6c08.
 use Rattle.node_records.proofs.Tables.NodeRecord as NodeRecordT
 use Rattle.reader.proofs.Reached
 use Rattle.reader.proofs.Reached.Laws

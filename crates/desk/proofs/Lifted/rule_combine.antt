@@ -1,5 +1,5 @@
 -- Generated: what callers cite of rule_combine.
--- From dcd7969e1e9253aa, as e9e1dde5d0e8443b.
+-- From 7e6fa9dda67f8e0f, as e9e1dde5d0e8443b.
 use Rattle.desk.proofs.RuleWritten
 use Rattle.desk.proofs.RuleWritten.Laws
 use Rattle.node_records.proofs.Tables.NodeRecord as NodeRecordT

@@ -1,5 +1,5 @@
 -- Generated: what callers cite of rule_check.
--- From e5edeefd1c5dbd86, as 2b72a07aa0939061.
+-- From 557c1247835c3c62, as 2b72a07aa0939061.
 use Rattle.firmware.proofs.RuleChecked
 use Rattle.firmware.proofs.RuleChecked.Laws
 use Rattle.node_records.proofs.Tables.NodeRecord as NodeRecordT

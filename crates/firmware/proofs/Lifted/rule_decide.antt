@@ -1,5 +1,5 @@
 -- Generated: what callers cite of rule_decide.
--- From e5edeefd1c5dbd86, as 9c8a28817546c223.
+-- From 557c1247835c3c62, as 9c8a28817546c223.
 use Rattle.firmware.proofs.RuleDecided
 use Rattle.firmware.proofs.RuleDecided.Laws
 use Rattle.node_records.proofs.Tables.NodeRecord as NodeRecordT

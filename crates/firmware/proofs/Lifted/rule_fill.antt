@@ -1,5 +1,5 @@
 -- Generated: what callers cite of rule_fill.
--- From e5edeefd1c5dbd86, as 2616fe2aea72a162.
+-- From 557c1247835c3c62, as 2616fe2aea72a162.
 use Rattle.firmware.proofs.RuleFilled
 use Rattle.firmware.proofs.RuleFilled.Laws
 use Rattle.node_records.proofs.Tables.NodeRecord as NodeRecordT

@@ -1,5 +1,5 @@
 -- Generated: what callers cite of call.
--- From d4aa04a553774818, as 7d86284afbef109e.
+-- From 30f8799abca49456, as 7d86284afbef109e.
 use Rattle.meeting.proofs.Writing
 use Rattle.meeting.proofs.Writing.Laws
 use borrow.Fn.Kinds

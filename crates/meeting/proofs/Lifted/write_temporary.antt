@@ -1,5 +1,5 @@
 -- Generated: what callers cite of write_temporary.
--- From f5bfa6c251835430, as dbfa784d970802e6.
+-- From 4395b808c19df7da, as dbfa784d970802e6.
 use Rattle.meeting.proofs.Half
 use Rattle.meeting.proofs.Half.Laws
 use Rattle.meeting.proofs.Progress

@@ -1,5 +1,5 @@
 -- Generated: the record NodeRecord as the element of a lent slice.
--- From 8c6efd7188953bd1, as 36f73f76f6278228.
+-- From 406e085bb27e047f, as 36f73f76f6278228.
 use borrow.Fn.Kinds
 use borrow.Kind.Value
 use borrow.Rule.Local

@@ -1,5 +1,5 @@
 -- Generated: what callers cite of begin.
--- From 8dd8a30be1a5ae38, as fc9fa353c2dc850a.
+-- From c96b3483c86718f2, as fc9fa353c2dc850a.
 use Rattle.node_records.proofs.Tables.NodeRecord as NodeRecordT
 use Rattle.operands.proofs.Begun
 use Rattle.operands.proofs.Begun.Laws

@@ -1,5 +1,5 @@
 -- Generated: what callers cite of first_half.
--- From 8dd8a30be1a5ae38, as 9f2d24c9e9fe47e3.
+-- From c96b3483c86718f2, as 9f2d24c9e9fe47e3.
 use Rattle.blocks.proofs.Block
 use Rattle.blocks.proofs.Block.Laws
 use Rattle.node_records.proofs.Tables.NodeRecord as NodeRecordT

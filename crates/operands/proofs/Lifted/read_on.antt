@@ -1,5 +1,5 @@
 -- Generated: what callers cite of read_on.
--- From 8dd8a30be1a5ae38, as ab06fa62ef1bb76b.
+-- From c96b3483c86718f2, as ab06fa62ef1bb76b.
 use Rattle.blocks.proofs.Block
 use Rattle.blocks.proofs.Block.Laws
 use Rattle.node_records.proofs.Tables.NodeRecord as NodeRecordT

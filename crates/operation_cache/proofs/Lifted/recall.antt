@@ -1,5 +1,5 @@
 -- Generated: what callers cite of recall.
--- From c77c03aa26ce29de, as 89bfd0f41454fda1.
+-- From 58a5476d575b409e, as 89bfd0f41454fda1.
 use Rattle.node_records.proofs.Tables.WriterRecord as WriterRecordT
 use Rattle.operation_cache.proofs.Key
 use Rattle.operation_cache.proofs.Key.Laws

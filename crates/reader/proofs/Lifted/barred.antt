@@ -1,5 +1,5 @@
 -- Generated: what callers cite of barred.
--- From 2592314248d7ca38, as 0501abe326293ee4.
+-- From 8a511ed7e7f2e43d, as 0501abe326293ee4.
 use Rattle.node_records.proofs.Tables.NodeRecord as NodeRecordT
 use Rattle.reader.proofs.Run
 use Rattle.reader.proofs.Run.Laws

@@ -1,5 +1,5 @@
 -- Generated: what callers cite of run_on.
--- From 2592314248d7ca38, as 0e528a21febe38bc.
+-- From 8a511ed7e7f2e43d, as 0e528a21febe38bc.
 use Rattle.node_records.proofs.Tables.NodeRecord as NodeRecordT
 use Rattle.reader.proofs.Reached
 use Rattle.reader.proofs.Reached.Laws

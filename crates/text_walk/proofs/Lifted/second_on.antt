@@ -1,5 +1,5 @@
 -- Generated: what callers cite of second_on.
--- From c0fd6c9a316d640b, as 49c7ed2bcd9253bd.
+-- From 9b75fd49edaab245, as 49c7ed2bcd9253bd.
 use Rattle.node_records.proofs.Tables.NodeRecord as NodeRecordT
 use Rattle.operands.proofs.Begun
 use Rattle.operands.proofs.Begun.Laws

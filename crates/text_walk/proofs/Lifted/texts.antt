@@ -1,5 +1,5 @@
 -- Generated: what callers cite of texts.
--- From c0fd6c9a316d640b, as 26257b2abaf436a4.
+-- From 9b75fd49edaab245, as 26257b2abaf436a4.
 use Rattle.blocks.proofs.Block
 use Rattle.blocks.proofs.Block.Laws
 use Rattle.meeting.proofs.Progress

@@ -1,5 +1,5 @@
 -- Generated: what callers cite of bucket_remove.
--- From 2a7436110a0a6637, as b631ded418f580bc.
+-- From 47d771535d58e2a3, as b631ded418f580bc.
 use Rattle.node_records.proofs.Tables.WriterRecord as WriterRecordT
 use borrow.Fn.Kinds
 use borrow.Kind.MutSlice

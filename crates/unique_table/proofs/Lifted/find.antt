@@ -1,5 +1,5 @@
 -- Generated: what callers cite of find.
--- From 2a7436110a0a6637, as 325cc5d669d475d0.
+-- From 47d771535d58e2a3, as 325cc5d669d475d0.
 use Rattle.node_records.proofs.Tables.WriterRecord as WriterRecordT
 use borrow.Fn.Kinds
 use borrow.Kind.ShrSlice

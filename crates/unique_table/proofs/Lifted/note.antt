@@ -1,5 +1,5 @@
 -- Generated: what callers cite of note.
--- From 2a7436110a0a6637, as 2aa884957cfc1f10.
+-- From 47d771535d58e2a3, as 2aa884957cfc1f10.
 use Rattle.node_records.proofs.Tables.WriterRecord as WriterRecordT
 use borrow.Fn.Kinds
 use borrow.Kind.MutSlice

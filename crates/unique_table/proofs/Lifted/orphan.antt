@@ -1,5 +1,5 @@
 -- Generated: what callers cite of orphan.
--- From 2a7436110a0a6637, as e8adee7592c1ed60.
+-- From 47d771535d58e2a3, as e8adee7592c1ed60.
 use Rattle.node_records.proofs.Tables.WriterRecord as WriterRecordT
 use Rattle.unique_table.proofs.Ends
 use Rattle.unique_table.proofs.Ends.Laws

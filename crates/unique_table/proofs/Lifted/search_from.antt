@@ -1,5 +1,5 @@
 -- Generated: what callers cite of search_from.
--- From 2a7436110a0a6637, as b5e22100e49442bf.
+-- From 47d771535d58e2a3, as b5e22100e49442bf.
 use Rattle.node_records.proofs.Tables.WriterRecord as WriterRecordT
 use borrow.Fn.Kinds
 use borrow.Kind.ShrSlice

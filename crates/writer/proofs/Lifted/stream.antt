@@ -1,5 +1,5 @@
 -- Generated: what callers cite of stream.
--- From 890f16ded88694c9, as e64eafc8aeda1dce.
+-- From 96e9cd744a7ff944, as e64eafc8aeda1dce.
 use Rattle.node_records.proofs.Tables.WriterRecord as WriterRecordT
 use Rattle.pending_text.proofs.Sent
 use Rattle.pending_text.proofs.Sent.Laws

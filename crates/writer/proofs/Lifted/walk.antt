@@ -1,5 +1,5 @@
 -- Generated: what callers cite of walk.
--- From 890f16ded88694c9, as 8c2ee719e8b5d002.
+-- From 96e9cd744a7ff944, as 8c2ee719e8b5d002.
 use Rattle.meeting.proofs.Progress
 use Rattle.meeting.proofs.Progress.Laws
 use Rattle.meeting.proofs.Walked

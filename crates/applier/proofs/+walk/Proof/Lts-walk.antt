@@ -1,5 +1,5 @@
 -- Generated: the derivation of a body.
--- From 9203b805cc4f9cdf, as 999583dc7237fdae.
+-- From b778e47394334ed5, as 999583dc7237fdae.
 use Prim.Native.Nat
 use Rattle.edges.proofs.TableEdge
 use Rattle.edges.proofs.TableEdge.Laws

@@ -1,5 +1,5 @@
 -- Generated: the derivation of a body.
--- From 5e5c35470254db71, as 894d9a09381f4bde.
+-- From 28e99fe23ec52091, as 894d9a09381f4bde.
 use Prim.Native.Nat
 use Rattle.elements.proofs.Context
 use Rattle.elements.proofs.Context.Laws

@@ -1,5 +1,5 @@
 -- Generated: the needs of is_whole at its contract, and how its theorem closes.
--- From 5e5c35470254db71, as 29617e4edd7fc3e7.
+-- From 28e99fe23ec52091, as 29617e4edd7fc3e7.
 use borrow.Fn.Run
 use borrow.Fn.Written
 use contract.Running.{givenOf, tablesOf}

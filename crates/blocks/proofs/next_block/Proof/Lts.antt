@@ -1,5 +1,5 @@
 -- Generated: the derivation of a body.
--- From 5e5c35470254db71, as 776715b6423805ad.
+-- From 28e99fe23ec52091, as 776715b6423805ad.
 use Prim.Native.Nat
 use Rattle.blocks.proofs.Block
 use Rattle.blocks.proofs.Block.Laws

@@ -1,5 +1,5 @@
 -- Generated: the derivation of a body.
--- From fdccef63fca5e03f, as bd1dd993bb011e6f.
+-- From 63d72f6f0770cf76, as 3cf0db9d37652b7e.
 use Prim.Native.Nat
 use Rattle.checker.proofs.Checking
 use Rattle.checker.proofs.Checking.Laws
@@ -349,7 +349,7 @@ b29 = Syntax.assign (Syntax.place 19 []) (Syntax.addrOf (Syntax.place 3 ((Syntax
 abbrev b30 : Syntax.Body
 b30 = Syntax.assign (Syntax.place 20 []) (Syntax.aggregate ((Syntax.copy (Syntax.place 19 [])) ∷ (Syntax.copy (Syntax.place 3 ((Syntax.field 1) ∷ []))) ∷ []))
 abbrev b31 : Syntax.Body
-b31 = Syntax.call "node_records::clear_records" ((Syntax.copy (Syntax.place 20 [])) ∷ (Syntax.copy (Syntax.place 6 [])) ∷ []) (Syntax.place 18 [])
+b31 = Syntax.call "record_tables::clear_records" ((Syntax.copy (Syntax.place 20 [])) ∷ (Syntax.copy (Syntax.place 6 [])) ∷ []) (Syntax.place 18 [])
 abbrev b32 : Syntax.Body
 b32 = Syntax.call "checker::checked_at" ((Syntax.copy (Syntax.place 5 [])) ∷ []) (Syntax.place 0 [])
 abbrev b33 : Syntax.Body
@@ -585,7 +585,7 @@ module _ (claims· : Claims) where
       Closed = (𝓤 : URA.URA M) (H : Wp.Heap 𝓤) (A : Atoms.Atoms 𝓤) (W : Kit.Given 𝓤 H A) (𝓣 : Wp.Tables 𝓤 H) (known0 : Plain.Known 𝓤 H A W 𝓣 0 ps·0 r·0
           (claims· .0) (claims· .1) "checker::early") (known1 : Plain.Known 𝓤 H A W 𝓣 0 ps·1 r·1 (claims· .2) (claims· .3) "reader::first_cursor") (known2 :
           Plain.Known 𝓤 H A W 𝓣 3 ps·2 r·2 (claims· .4) (claims· .5) "reader::read_on") (known3 : Plain.Known 𝓤 H A W 𝓣 1 ps·3 r·3 (claims· .6) (claims· .7)
-          "node_records::clear_records") (known4 : Plain.Known 𝓤 H A W 𝓣 0 ps·4 r·4 (claims· .8) (claims· .9) "checker::checked_at") → Statement.Triple 𝓤
+          "record_tables::clear_records") (known4 : Plain.Known 𝓤 H A W 𝓣 0 ps·4 r·4 (claims· .8) (claims· .9) "checker::checked_at") → Statement.Triple 𝓤
           (Wp.WpFn 𝓤 H (𝓣 .C) (𝓣 .Λ) (Function.fnOf 2 ps r xs m hs body)) (Function.plainOf 𝓤 H A 2 ps r Pre· Post·)
     module _ where
       abbrev at0 : Typed.TF (cx t2 t1) O1
@@ -720,7 +720,7 @@ module _ (claims· : Claims) where
         abbrev Knowns : Type 1
         Knowns = Plain.Known 𝓤 H A W 𝓣 0 ps·0 r·0 (claims· .0) (claims· .1) "checker::early" × Plain.Known 𝓤 H A W 𝓣 0 ps·1 r·1 (claims· .2) (claims· .3)
             "reader::first_cursor" × Plain.Known 𝓤 H A W 𝓣 3 ps·2 r·2 (claims· .4) (claims· .5) "reader::read_on" × Plain.Known 𝓤 H A W 𝓣 1 ps·3 r·3 (claims·
-            .6) (claims· .7) "node_records::clear_records" × Plain.Known 𝓤 H A W 𝓣 0 ps·4 r·4 (claims· .8) (claims· .9) "checker::checked_at"
+            .6) (claims· .7) "record_tables::clear_records" × Plain.Known 𝓤 H A W 𝓣 0 ps·4 r·4 (claims· .8) (claims· .9) "checker::checked_at"
       module _ (κs : Lifetimes.Lfts 2) (qs : Lifetimes.Shares 2) where
         abbrev K0 : Row.Life
         K0 = Row.lease (κs .1 .0) (qs .1 .0)
@@ -900,7 +900,7 @@ module _ (claims· : Claims) where
               g32 t35 l9) 18 Syntax.tyUnit (Scalar.room-sc 𝓤 H A W Row.sUnit)) d30
           d32 : Typed.Typed 𝓤 H A 𝓣 E (gx g32 t34 l9) b35 Δ0 at32
           d32 = Typed.s-seq 𝓤 H A W 𝓣 E (gx g32 t34 l9) (gx g32 t35 l9) b31 b34 Δ0 (Typed.both s45) at31 (Plain.t-call-plain 𝓤 H A W 𝓣 1 ps·3 r·3 (claims· .6)
-              (claims· .7) "node_records::clear_records" (known .3) E (λ pos β. β) (gx g32 t34 l9) (record { pos = 20; ty = y11; ref = λ x. x }, (Num.vAt 6 λ
+              (claims· .7) "record_tables::clear_records" (known .3) E (λ pos β. β) (gx g32 t34 l9) (record { pos = 20; ty = y11; ref = λ x. x }, (Num.vAt 6 λ
               x. x, tt)) 18 (4 ∷ []) (Call.sub-id 𝓤 H A W ((gx g32 t34 l9) .slots)) (Reads'.as-is 𝓤 H A (Mut.mslice NodeRecordT.row y11 4), Mut.reads-mslice 𝓤
               H A W NodeRecordT.row y11 4, Path'.refl, ((Scalar.reads-sc 𝓤 H A W (Row.sInt Syntax.w64), Path'.refl), tt)) (Reads'.room-gone 𝓤 H A
               Syntax.tyUnit) (tt, tt) Path'.refl) d31
@@ -1377,7 +1377,7 @@ module _ (claims· : Claims) where
         module _ {M : Type 1} (𝓤 : URA.URA M) (H : Wp.Heap 𝓤) (A : Atoms.Atoms 𝓤) (W : Kit.Given 𝓤 H A) (𝓣 : Wp.Tables 𝓤 H) (known0 : Plain.Known 𝓤 H A W 𝓣 0
             ps·0 r·0 (claims· .0) (claims· .1) "checker::early") (known1 : Plain.Known 𝓤 H A W 𝓣 0 ps·1 r·1 (claims· .2) (claims· .3) "reader::first_cursor")
             (known2 : Plain.Known 𝓤 H A W 𝓣 3 ps·2 r·2 (claims· .4) (claims· .5) "reader::read_on") (known3 : Plain.Known 𝓤 H A W 𝓣 1 ps·3 r·3 (claims· .6)
-            (claims· .7) "node_records::clear_records") (known4 : Plain.Known 𝓤 H A W 𝓣 0 ps·4 r·4 (claims· .8) (claims· .9) "checker::checked_at") where
+            (claims· .7) "record_tables::clear_records") (known4 : Plain.Known 𝓤 H A W 𝓣 0 ps·4 r·4 (claims· .8) (claims· .9) "checker::checked_at") where
           pub spec : Statement.Triple 𝓤 (Wp.WpFn 𝓤 H (𝓣 .C) (𝓣 .Λ) (Function.fnOf 2 ps r xs m hs body)) (Function.plainOf 𝓤 H A 2 ps r Pre· Post·)
           spec = Plain.t-fn-plain 𝓤 H A W 𝓣 2 ps r xs m hs body (λ κs qs bs. Φ) (λ κs qs bs bd. typed κs qs 𝓤 H A W 𝓣 (known0, known1, known2, known3, known4)
               bs bd) Pre· Post· asked

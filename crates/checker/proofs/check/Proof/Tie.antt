@@ -1,5 +1,5 @@
 -- Generated: the needs of check at its contract, and how its theorem closes.
--- From fdccef63fca5e03f, as 8b9017116ab6ddb6.
+-- From 63d72f6f0770cf76, as 40e8c590c6fefda5.
 use borrow.Fn.Run
 use borrow.Fn.Written
 use contract.Running.{givenOf, tablesOf}
@@ -12,9 +12,9 @@ use Rattle.reader.proofs.first_cursor.Symbol as first-cursor-symbol
 use Rattle.reader.proofs.Lifted.read_on as read-on-reads
 use Rattle.reader.proofs.read_on.Met as read-on-met
 use Rattle.reader.proofs.read_on.Symbol as read-on-symbol
-use Rattle.node_records.proofs.Lifted.clear_records as clear-records-reads
-use Rattle.node_records.proofs.clear_records.Met as clear-records-met
-use Rattle.node_records.proofs.clear_records.Symbol as clear-records-symbol
+use Rattle.record_tables.proofs.Lifted.clear_records as clear-records-reads
+use Rattle.record_tables.proofs.clear_records.Met as clear-records-met
+use Rattle.record_tables.proofs.clear_records.Symbol as clear-records-symbol
 use Rattle.checker.proofs.checked_at.Reads as checked-at-reads
 use Rattle.checker.proofs.checked_at.Met as checked-at-met
 use Rattle.checker.proofs.checked_at.Symbol as checked-at-symbol
@@ -69,5 +69,5 @@ module _ {M : Type 1} where
       (early-reads.known record { M = M; 𝓤 = 𝓤; H = H; 𝓜 = 𝓜; 𝓖 = 𝓖; 𝓡 = 𝓡 } code.env early-symbol.name early-symbol.routine code.calls-checker·early (early-met.met 𝓤 H 𝓜 𝓖 𝓡))
       (first-cursor-reads.known record { M = M; 𝓤 = 𝓤; H = H; 𝓜 = 𝓜; 𝓖 = 𝓖; 𝓡 = 𝓡 } code.env first-cursor-symbol.name first-cursor-symbol.routine code.calls-reader·first-cursor (first-cursor-met.met 𝓤 H 𝓜 𝓖 𝓡))
       (read-on-reads.known record { M = M; 𝓤 = 𝓤; H = H; 𝓜 = 𝓜; 𝓖 = 𝓖; 𝓡 = 𝓡 } code.env read-on-symbol.name read-on-symbol.routine code.calls-reader·read-on (read-on-met.met 𝓤 H 𝓜 𝓖 𝓡))
-      (clear-records-reads.known record { M = M; 𝓤 = 𝓤; H = H; 𝓜 = 𝓜; 𝓖 = 𝓖; 𝓡 = 𝓡 } code.env clear-records-symbol.name clear-records-symbol.routine code.calls-node-records·clear-records (clear-records-met.met 𝓤 H 𝓜 𝓖 𝓡))
+      (clear-records-reads.known record { M = M; 𝓤 = 𝓤; H = H; 𝓜 = 𝓜; 𝓖 = 𝓖; 𝓡 = 𝓡 } code.env clear-records-symbol.name clear-records-symbol.routine code.calls-record-tables·clear-records (clear-records-met.met 𝓤 H 𝓜 𝓖 𝓡))
       (checked-at-reads.known record { M = M; 𝓤 = 𝓤; H = H; 𝓜 = 𝓜; 𝓖 = 𝓖; 𝓡 = 𝓡 } code.env checked-at-symbol.name checked-at-symbol.routine code.calls-checker·checked-at (checked-at-met.met 𝓤 H 𝓜 𝓖 𝓡))

@@ -1,5 +1,5 @@
 -- Generated: the derivation of a body.
--- From c6cf98906740585a, as 64c2e1c45acabeb5.
+-- From e46e83bf8f03a1af, as dd2347f865cfbfc3.
 use Prim.Native.Nat
 use Rattle.node_records.proofs.Tables.NodeRecord as NodeRecordT
 use borrow.Author.Called
@@ -95,7 +95,7 @@ b1 = Syntax.assign (Syntax.place 4 []) (Syntax.addrOf (Syntax.place 1 ((Syntax.f
 abbrev b2 : Syntax.Body
 b2 = Syntax.assign (Syntax.place 5 []) (Syntax.aggregate ((Syntax.copy (Syntax.place 4 [])) ∷ (Syntax.copy (Syntax.place 1 ((Syntax.field 1) ∷ []))) ∷ []))
 abbrev b3 : Syntax.Body
-b3 = Syntax.call "node_records::clear_records" ((Syntax.copy (Syntax.place 5 [])) ∷ (Syntax.copy (Syntax.place 2 [])) ∷ []) (Syntax.place 3 [])
+b3 = Syntax.call "record_tables::clear_records" ((Syntax.copy (Syntax.place 5 [])) ∷ (Syntax.copy (Syntax.place 2 [])) ∷ []) (Syntax.place 3 [])
 abbrev b4 : Syntax.Body
 b4 = Syntax.assign (Syntax.place 0 []) (Syntax.rvOpd Syntax.opdUnit)
 abbrev b5 : Syntax.Body
@@ -175,7 +175,7 @@ module _ (claims· : Claims) where
     module _ (M : Type 1) where
       abbrev pub Closed : Type 2
       Closed = (𝓤 : URA.URA M) (H : Wp.Heap 𝓤) (A : Atoms.Atoms 𝓤) (W : Kit.Given 𝓤 H A) (𝓣 : Wp.Tables 𝓤 H) (known0 : Plain.Known 𝓤 H A W 𝓣 1 ps·0 r·0
-          (claims· .0) (claims· .1) "node_records::clear_records") → Statement.Triple 𝓤 (Wp.WpFn 𝓤 H (𝓣 .C) (𝓣 .Λ) (Function.fnOf 1 ps r xs m hs body))
+          (claims· .0) (claims· .1) "record_tables::clear_records") → Statement.Triple 𝓤 (Wp.WpFn 𝓤 H (𝓣 .C) (𝓣 .Λ) (Function.fnOf 1 ps r xs m hs body))
           (Function.plainOf 𝓤 H A 1 ps r Pre· Post·)
     module _ where
       abbrev at0 : Typed.TF T12 O0
@@ -206,7 +206,7 @@ module _ (claims· : Claims) where
       Φ = at11
       module _ {M : Type 1} (𝓤 : URA.URA M) (H : Wp.Heap 𝓤) (A : Atoms.Atoms 𝓤) (W : Kit.Given 𝓤 H A) (𝓣 : Wp.Tables 𝓤 H) where
         abbrev Knowns : Type 1
-        Knowns = Plain.Known 𝓤 H A W 𝓣 1 ps·0 r·0 (claims· .0) (claims· .1) "node_records::clear_records"
+        Knowns = Plain.Known 𝓤 H A W 𝓣 1 ps·0 r·0 (claims· .0) (claims· .1) "record_tables::clear_records"
       module _ (κs : Lifetimes.Lfts 1) (qs : Lifetimes.Shares 1) where
         abbrev K0 : Row.Life
         K0 = Row.lease (κs .0) (qs .0)
@@ -283,7 +283,7 @@ module _ (claims· : Claims) where
               d5
           d7 : Typed.Typed 𝓤 H A 𝓣 E G5 b7 Δ0 at7
           d7 = Typed.s-seq 𝓤 H A W 𝓣 E G5 G6 b3 b6 Δ0 (Typed.both s4) at6 (Plain.t-call-plain 𝓤 H A W 𝓣 1 ps·0 r·0 (claims· .0) (claims· .1)
-              "node_records::clear_records" known E (λ pos β. β) G5 (record { pos = 5; ty = y1; ref = λ x. x }, (Num.vAt 2 λ x. x, tt)) 3 (1 ∷ [])
+              "record_tables::clear_records" known E (λ pos β. β) G5 (record { pos = 5; ty = y1; ref = λ x. x }, (Num.vAt 2 λ x. x, tt)) 3 (1 ∷ [])
               (Call.sub-id 𝓤 H A W (G5 .slots)) (Reads.as-is 𝓤 H A (Mut.mslice NodeRecordT.row y1 1), Mut.reads-mslice 𝓤 H A W NodeRecordT.row y1 1,
               Path'.refl, ((Scalar.reads-sc 𝓤 H A W (Row.sInt Syntax.w64), Path'.refl), tt)) (Reads.room-gone 𝓤 H A Syntax.tyUnit) (tt, tt) Path'.refl) d6
           d8 : Typed.Typed 𝓤 H A 𝓣 E G4 b8 Δ0 at8
@@ -382,6 +382,6 @@ module _ (claims· : Claims) where
               κs a)) (Function.init 1 ps r xs m κs qs a)
           asked = λ a good pre bs. laid record { κs = κs; args = record { t = a .0 }; good = good; pre = pre }
         module _ {M : Type 1} (𝓤 : URA.URA M) (H : Wp.Heap 𝓤) (A : Atoms.Atoms 𝓤) (W : Kit.Given 𝓤 H A) (𝓣 : Wp.Tables 𝓤 H) (known0 : Plain.Known 𝓤 H A W 𝓣 1
-            ps·0 r·0 (claims· .0) (claims· .1) "node_records::clear_records") where
+            ps·0 r·0 (claims· .0) (claims· .1) "record_tables::clear_records") where
           pub spec : Statement.Triple 𝓤 (Wp.WpFn 𝓤 H (𝓣 .C) (𝓣 .Λ) (Function.fnOf 1 ps r xs m hs body)) (Function.plainOf 𝓤 H A 1 ps r Pre· Post·)
           spec = Plain.t-fn-plain 𝓤 H A W 𝓣 1 ps r xs m hs body (λ κs qs bs. Φ) (λ κs qs bs bd. typed κs qs 𝓤 H A W 𝓣 known0 bs bd) Pre· Post· asked

@@ -1,11 +1,11 @@
 -- Generated: the needs of clear_all at its contract, and how its theorem closes.
--- From c6cf98906740585a, as ee60fc5eebb629d8.
+-- From e46e83bf8f03a1af, as 1fcb7f39b74a879b.
 use borrow.Fn.Run
 use borrow.Fn.Written
 use contract.Running.{givenOf, tablesOf}
-use Rattle.node_records.proofs.Lifted.clear_records as clear-records-reads
-use Rattle.node_records.proofs.clear_records.Met as clear-records-met
-use Rattle.node_records.proofs.clear_records.Symbol as clear-records-symbol
+use Rattle.record_tables.proofs.Lifted.clear_records as clear-records-reads
+use Rattle.record_tables.proofs.clear_records.Met as clear-records-met
+use Rattle.record_tables.proofs.clear_records.Symbol as clear-records-symbol
 use Rattle.combiner.proofs.clear_all.Key
 use Rattle.combiner.proofs.clear_all.Code as code
 use Rattle.combiner.proofs.clear_all.Statement.{statement}
@@ -33,4 +33,4 @@ module _ {M : Type 1} where
   close closed 𝓤 H 𝓜 𝓖 𝓡 =
       Written.close 1 self.ps self.r self.Ghost self.requires self.ensures self.pre-read self.Pinned self.Owned self.post-read record { M = M; 𝓤 = 𝓤; H = H; 𝓜 = 𝓜; 𝓖 = 𝓖; 𝓡 = 𝓡 } code.env Key.name code.function (code.unfolded 𝓤 H 𝓜 𝓡)
       (λ κs a g. tt) (λ κs. self.owns κs record { M = M; 𝓤 = 𝓤; H = H; 𝓜 = 𝓜; 𝓖 = 𝓖; 𝓡 = 𝓡 }) (self.passes record { M = M; 𝓤 = 𝓤; H = H; 𝓜 = 𝓜; 𝓖 = 𝓖; 𝓡 = 𝓡 }) λ g. closed 𝓤 H (𝓖 .A) (givenOf 𝓤 H 𝓜 𝓖) (Run.Over 𝓤 H 𝓜 𝓖 𝓡 code.env)
-      (clear-records-reads.known record { M = M; 𝓤 = 𝓤; H = H; 𝓜 = 𝓜; 𝓖 = 𝓖; 𝓡 = 𝓡 } code.env clear-records-symbol.name clear-records-symbol.routine code.calls-node-records·clear-records (clear-records-met.met 𝓤 H 𝓜 𝓖 𝓡))
+      (clear-records-reads.known record { M = M; 𝓤 = 𝓤; H = H; 𝓜 = 𝓜; 𝓖 = 𝓖; 𝓡 = 𝓡 } code.env clear-records-symbol.name clear-records-symbol.routine code.calls-record-tables·clear-records (clear-records-met.met 𝓤 H 𝓜 𝓖 𝓡))

@@ -1,5 +1,5 @@
 -- Generated: the derivation of a body.
--- From c6cf98906740585a, as 5fa179c83808bb05.
+-- From e46e83bf8f03a1af, as 490ad490e083beef.
 use Prim.Native.Nat
 use Rattle.blocks.proofs.Loaded
 use Rattle.blocks.proofs.Loaded.Laws
@@ -783,7 +783,7 @@ b70 = Syntax.assign (Syntax.place 42 []) (Syntax.addrOf (Syntax.place 9 ((Syntax
 abbrev b71 : Syntax.Body
 b71 = Syntax.assign (Syntax.place 43 []) (Syntax.aggregate ((Syntax.copy (Syntax.place 42 [])) ∷ (Syntax.copy (Syntax.place 9 ((Syntax.field 1) ∷ []))) ∷ []))
 abbrev b72 : Syntax.Body
-b72 = Syntax.call "node_records::clear_writer_records" ((Syntax.copy (Syntax.place 43 [])) ∷ []) (Syntax.place 41 [])
+b72 = Syntax.call "record_tables::clear_writer_records" ((Syntax.copy (Syntax.place 43 [])) ∷ []) (Syntax.place 41 [])
 abbrev b73 : Syntax.Body
 b73 = Syntax.call "combiner::both_loaded" ((Syntax.copy (Syntax.place 10 [])) ∷ (Syntax.copy (Syntax.place 11 [])) ∷ []) (Syntax.place 12 [])
 abbrev b74 : Syntax.Body
@@ -928,7 +928,7 @@ abbrev b136 : Syntax.Body
 b136 = Syntax.assign (Syntax.place 77 []) (Syntax.aggregate ((Syntax.copy (Syntax.place 76 [])) ∷ (Syntax.copy (Syntax.place 9 ((Syntax.field 1) ∷ []))) ∷
     []))
 abbrev b137 : Syntax.Body
-b137 = Syntax.call "node_records::clear_writer_records" ((Syntax.copy (Syntax.place 77 [])) ∷ []) (Syntax.place 41 [])
+b137 = Syntax.call "record_tables::clear_writer_records" ((Syntax.copy (Syntax.place 77 [])) ∷ []) (Syntax.place 41 [])
 abbrev b138 : Syntax.Body
 b138 = Syntax.call "combiner::answer" ((Syntax.copy (Syntax.place 1 [])) ∷ (Syntax.copy (Syntax.place 14 [])) ∷ (Syntax.copy (Syntax.place 22 [])) ∷ [])
     (Syntax.place 78 [])
@@ -2380,10 +2380,10 @@ module _ (claims· : Claims) where
       abbrev pub Closed : Type 2
       Closed = (𝓤 : URA.URA M) (H : Wp.Heap 𝓤) (A : Atoms.Atoms 𝓤) (W : Kit.Given 𝓤 H A) (𝓣 : Wp.Tables 𝓤 H) (known0 : Plain.Known 𝓤 H A W 𝓣 0 ps·0 r·0
           (claims· .0) (claims· .1) "checker::early") (known1 : Plain.Known 𝓤 H A W 𝓣 2 ps·1 r·1 (claims· .2) (claims· .3) "blocks::load") (known2 :
-          Plain.Known 𝓤 H A W 𝓣 1 ps·2 r·2 (claims· .4) (claims· .5) "node_records::clear_writer_records") (known3 : Plain.Known 𝓤 H A W 𝓣 0 ps·3 r·3 (claims·
-          .6) (claims· .7) "combiner::both_loaded") (known4 : Plain.Known 𝓤 H A W 𝓣 1 ps·4 r·4 (claims· .8) (claims· .9) "combiner::clear_all") (known5 :
-          Plain.Known 𝓤 H A W 𝓣 0 ps·5 r·5 (claims· .10) (claims· .11) "combiner::refusal_of") (known6 : Plain.Known 𝓤 H A W 𝓣 0 ps·6 r·6 (claims· .12)
-          (claims· .13) "combiner::ignores_first") (known7 : Plain.Known 𝓤 H A W 𝓣 3 ps·7 r·7 (claims· .14) (claims· .15) "combiner::enter") (known8 :
+          Plain.Known 𝓤 H A W 𝓣 1 ps·2 r·2 (claims· .4) (claims· .5) "record_tables::clear_writer_records") (known3 : Plain.Known 𝓤 H A W 𝓣 0 ps·3 r·3
+          (claims· .6) (claims· .7) "combiner::both_loaded") (known4 : Plain.Known 𝓤 H A W 𝓣 1 ps·4 r·4 (claims· .8) (claims· .9) "combiner::clear_all")
+          (known5 : Plain.Known 𝓤 H A W 𝓣 0 ps·5 r·5 (claims· .10) (claims· .11) "combiner::refusal_of") (known6 : Plain.Known 𝓤 H A W 𝓣 0 ps·6 r·6 (claims·
+          .12) (claims· .13) "combiner::ignores_first") (known7 : Plain.Known 𝓤 H A W 𝓣 3 ps·7 r·7 (claims· .14) (claims· .15) "combiner::enter") (known8 :
           Plain.Known 𝓤 H A W 𝓣 0 ps·8 r·8 (claims· .16) (claims· .17) "combiner::ignores_second") (known9 : Plain.Known 𝓤 H A W 𝓣 10 ps·9 r·9 (claims· .18)
           (claims· .19) "text_walk::stream") (known10 : Plain.Known 𝓤 H A W 𝓣 0 ps·10 r·10 (claims· .20) (claims· .21) "combiner::answer") → Statement.Triple
           𝓤 (Wp.WpFn 𝓤 H (𝓣 .C) (𝓣 .Λ) (Function.fnOf 6 ps r xs m hs body)) (Function.plainOf 𝓤 H A 6 ps r Pre· Post·)
@@ -2989,7 +2989,7 @@ module _ (claims· : Claims) where
       module _ {M : Type 1} (𝓤 : URA.URA M) (H : Wp.Heap 𝓤) (A : Atoms.Atoms 𝓤) (W : Kit.Given 𝓤 H A) (𝓣 : Wp.Tables 𝓤 H) where
         abbrev Knowns : Type 1
         Knowns = Plain.Known 𝓤 H A W 𝓣 0 ps·0 r·0 (claims· .0) (claims· .1) "checker::early" × Plain.Known 𝓤 H A W 𝓣 2 ps·1 r·1 (claims· .2) (claims· .3)
-            "blocks::load" × Plain.Known 𝓤 H A W 𝓣 1 ps·2 r·2 (claims· .4) (claims· .5) "node_records::clear_writer_records" × Plain.Known 𝓤 H A W 𝓣 0 ps·3
+            "blocks::load" × Plain.Known 𝓤 H A W 𝓣 1 ps·2 r·2 (claims· .4) (claims· .5) "record_tables::clear_writer_records" × Plain.Known 𝓤 H A W 𝓣 0 ps·3
             r·3 (claims· .6) (claims· .7) "combiner::both_loaded" × Plain.Known 𝓤 H A W 𝓣 1 ps·4 r·4 (claims· .8) (claims· .9) "combiner::clear_all" ×
             Plain.Known 𝓤 H A W 𝓣 0 ps·5 r·5 (claims· .10) (claims· .11) "combiner::refusal_of" × Plain.Known 𝓤 H A W 𝓣 0 ps·6 r·6 (claims· .12) (claims· .13)
             "combiner::ignores_first" × Plain.Known 𝓤 H A W 𝓣 3 ps·7 r·7 (claims· .14) (claims· .15) "combiner::enter" × Plain.Known 𝓤 H A W 𝓣 0 ps·8 r·8
@@ -4331,7 +4331,7 @@ module _ (claims· : Claims) where
               (Scalar.room-sc 𝓤 H A W Row.sUnit)) d125
           d127 : Typed.Typed 𝓤 H A 𝓣 E G263 b143 Δ0 (at127 bs)
           d127 = Typed.s-seq 𝓤 H A W 𝓣 E G263 G264 b137 b142 Δ0 (Typed.both (s255 bs)) (at126 bs) (Plain.t-call-plain 𝓤 H A W 𝓣 1 ps·2 r·2 (claims· .4)
-              (claims· .5) "node_records::clear_writer_records" (known .2) E (λ pos β. β) G263 (record { pos = 77; ty = y26; ref = λ x. x }, tt) 41 (25 ∷ [])
+              (claims· .5) "record_tables::clear_writer_records" (known .2) E (λ pos β. β) G263 (record { pos = 77; ty = y26; ref = λ x. x }, tt) 41 (25 ∷ [])
               (Call.sub-id 𝓤 H A W (G263 .slots)) (Reads'.as-is 𝓤 H A (Mut.mslice WriterRecordT.row y26 25), Mut.reads-mslice 𝓤 H A W WriterRecordT.row y26
               25, Path'.refl, tt) (Reads'.room-gone 𝓤 H A Syntax.tyUnit) (tt, tt) Path'.refl) d126
           d128 : Typed.Typed 𝓤 H A 𝓣 E G262 b144 Δ0 (at128 bs)
@@ -4930,7 +4930,7 @@ module _ (claims· : Claims) where
               (Scalar.room-sc 𝓤 H A W Row.sUnit)) d259
           d261 : Typed.Typed 𝓤 H A 𝓣 E G101 b190 Δ0 (at261 bs)
           d261 = Typed.s-seq 𝓤 H A W 𝓣 E G101 G102 b72 b189 Δ0 (Typed.both (s94 bs)) (at260 bs) (Plain.t-call-plain 𝓤 H A W 𝓣 1 ps·2 r·2 (claims· .4) (claims·
-              .5) "node_records::clear_writer_records" (known .2) E (λ pos β. β) G101 (record { pos = 43; ty = y26; ref = λ x. x }, tt) 41 (8 ∷ [])
+              .5) "record_tables::clear_writer_records" (known .2) E (λ pos β. β) G101 (record { pos = 43; ty = y26; ref = λ x. x }, tt) 41 (8 ∷ [])
               (Call.sub-id 𝓤 H A W (G101 .slots)) (Reads'.as-is 𝓤 H A (Mut.mslice WriterRecordT.row y26 8), Mut.reads-mslice 𝓤 H A W WriterRecordT.row y26 8,
               Path'.refl, tt) (Reads'.room-gone 𝓤 H A Syntax.tyUnit) (tt, tt) Path'.refl) d260
           d262 : Typed.Typed 𝓤 H A 𝓣 E G100 b191 Δ0 (at262 bs)
@@ -7369,7 +7369,7 @@ module _ (claims· : Claims) where
               pre }
         module _ {M : Type 1} (𝓤 : URA.URA M) (H : Wp.Heap 𝓤) (A : Atoms.Atoms 𝓤) (W : Kit.Given 𝓤 H A) (𝓣 : Wp.Tables 𝓤 H) (known0 : Plain.Known 𝓤 H A W 𝓣 0
             ps·0 r·0 (claims· .0) (claims· .1) "checker::early") (known1 : Plain.Known 𝓤 H A W 𝓣 2 ps·1 r·1 (claims· .2) (claims· .3) "blocks::load") (known2
-            : Plain.Known 𝓤 H A W 𝓣 1 ps·2 r·2 (claims· .4) (claims· .5) "node_records::clear_writer_records") (known3 : Plain.Known 𝓤 H A W 𝓣 0 ps·3 r·3
+            : Plain.Known 𝓤 H A W 𝓣 1 ps·2 r·2 (claims· .4) (claims· .5) "record_tables::clear_writer_records") (known3 : Plain.Known 𝓤 H A W 𝓣 0 ps·3 r·3
             (claims· .6) (claims· .7) "combiner::both_loaded") (known4 : Plain.Known 𝓤 H A W 𝓣 1 ps·4 r·4 (claims· .8) (claims· .9) "combiner::clear_all")
             (known5 : Plain.Known 𝓤 H A W 𝓣 0 ps·5 r·5 (claims· .10) (claims· .11) "combiner::refusal_of") (known6 : Plain.Known 𝓤 H A W 𝓣 0 ps·6 r·6 (claims·
             .12) (claims· .13) "combiner::ignores_first") (known7 : Plain.Known 𝓤 H A W 𝓣 3 ps·7 r·7 (claims· .14) (claims· .15) "combiner::enter") (known8 :

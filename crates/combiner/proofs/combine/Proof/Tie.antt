@@ -1,5 +1,5 @@
 -- Generated: the needs of combine at its contract, and how its theorem closes.
--- From c6cf98906740585a, as e5acc84b34aaaeff.
+-- From e46e83bf8f03a1af, as 48a6d7fe7779f0ac.
 use borrow.Fn.Run
 use borrow.Fn.Written
 use contract.Running.{givenOf, tablesOf}
@@ -9,9 +9,9 @@ use Rattle.checker.proofs.early.Symbol as early-symbol
 use Rattle.blocks.proofs.Lifted.load as load-reads
 use Rattle.blocks.proofs.load.Met as load-met
 use Rattle.blocks.proofs.load.Symbol as load-symbol
-use Rattle.node_records.proofs.Lifted.clear_writer_records as clear-writer-records-reads
-use Rattle.node_records.proofs.clear_writer_records.Met as clear-writer-records-met
-use Rattle.node_records.proofs.clear_writer_records.Symbol as clear-writer-records-symbol
+use Rattle.record_tables.proofs.Lifted.clear_writer_records as clear-writer-records-reads
+use Rattle.record_tables.proofs.clear_writer_records.Met as clear-writer-records-met
+use Rattle.record_tables.proofs.clear_writer_records.Symbol as clear-writer-records-symbol
 use Rattle.combiner.proofs.both_loaded.Reads as both-loaded-reads
 use Rattle.combiner.proofs.both_loaded.Met as both-loaded-met
 use Rattle.combiner.proofs.both_loaded.Symbol as both-loaded-symbol
@@ -173,7 +173,7 @@ module _ {M : Type 1} where
       (λ κs a g. tt) (λ κs. self.owns κs record { M = M; 𝓤 = 𝓤; H = H; 𝓜 = 𝓜; 𝓖 = 𝓖; 𝓡 = 𝓡 }) (self.passes record { M = M; 𝓤 = 𝓤; H = H; 𝓜 = 𝓜; 𝓖 = 𝓖; 𝓡 = 𝓡 }) λ g. closed 𝓤 H (𝓖 .A) (givenOf 𝓤 H 𝓜 𝓖) (Run.Over 𝓤 H 𝓜 𝓖 𝓡 code.env)
       (early-reads.known record { M = M; 𝓤 = 𝓤; H = H; 𝓜 = 𝓜; 𝓖 = 𝓖; 𝓡 = 𝓡 } code.env early-symbol.name early-symbol.routine code.calls-checker·early (early-met.met 𝓤 H 𝓜 𝓖 𝓡))
       (load-reads.known record { M = M; 𝓤 = 𝓤; H = H; 𝓜 = 𝓜; 𝓖 = 𝓖; 𝓡 = 𝓡 } code.env load-symbol.name load-symbol.routine code.calls-blocks·load (load-met.met 𝓤 H 𝓜 𝓖 𝓡))
-      (clear-writer-records-reads.known record { M = M; 𝓤 = 𝓤; H = H; 𝓜 = 𝓜; 𝓖 = 𝓖; 𝓡 = 𝓡 } code.env clear-writer-records-symbol.name clear-writer-records-symbol.routine code.calls-node-records·clear-writer-records (clear-writer-records-met.met 𝓤 H 𝓜 𝓖 𝓡))
+      (clear-writer-records-reads.known record { M = M; 𝓤 = 𝓤; H = H; 𝓜 = 𝓜; 𝓖 = 𝓖; 𝓡 = 𝓡 } code.env clear-writer-records-symbol.name clear-writer-records-symbol.routine code.calls-record-tables·clear-writer-records (clear-writer-records-met.met 𝓤 H 𝓜 𝓖 𝓡))
       (both-loaded-reads.known record { M = M; 𝓤 = 𝓤; H = H; 𝓜 = 𝓜; 𝓖 = 𝓖; 𝓡 = 𝓡 } code.env both-loaded-symbol.name both-loaded-symbol.routine code.calls-combiner·both-loaded (both-loaded-met.met 𝓤 H 𝓜 𝓖 𝓡))
       (clear-all-reads.known record { M = M; 𝓤 = 𝓤; H = H; 𝓜 = 𝓜; 𝓖 = 𝓖; 𝓡 = 𝓡 } code.env clear-all-symbol.name clear-all-symbol.routine code.calls-combiner·clear-all (clear-all-met.met 𝓤 H 𝓜 𝓖 𝓡))
       (refusal-of-reads.known record { M = M; 𝓤 = 𝓤; H = H; 𝓜 = 𝓜; 𝓖 = 𝓖; 𝓡 = 𝓡 } code.env refusal-of-symbol.name refusal-of-symbol.routine code.calls-combiner·refusal-of (refusal-of-met.met 𝓤 H 𝓜 𝓖 𝓡))

@@ -1,5 +1,5 @@
 -- Generated: the derivation of a body.
--- From 305a4f76520b09e6, as 71d8a598b472b915.
+-- From 1ebb1372e730ab7b, as 71d8a598b472b915.
 use Prim.Native.Nat
 use Rattle.decider.proofs.Verdict
 use Rattle.decider.proofs.Verdict.Laws

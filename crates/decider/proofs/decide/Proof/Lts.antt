@@ -1,5 +1,5 @@
 -- Generated: the derivation of a body.
--- From 305a4f76520b09e6, as b3e6061e4ef782ad.
+-- From 1ebb1372e730ab7b, as 60238eb4be7eaeb7.
 use Prim.Native.Nat
 use Rattle.checker.proofs.Refusal
 use Rattle.checker.proofs.Refusal.Laws
@@ -503,7 +503,7 @@ b43 = Syntax.assign (Syntax.place 30 []) (Syntax.addrOf (Syntax.place 4 ((Syntax
 abbrev b44 : Syntax.Body
 b44 = Syntax.assign (Syntax.place 31 []) (Syntax.aggregate ((Syntax.copy (Syntax.place 30 [])) ∷ (Syntax.copy (Syntax.place 4 ((Syntax.field 1) ∷ []))) ∷ []))
 abbrev b45 : Syntax.Body
-b45 = Syntax.call "node_records::clear_records" ((Syntax.copy (Syntax.place 31 [])) ∷ (Syntax.copy (Syntax.place 8 [])) ∷ []) (Syntax.place 29 [])
+b45 = Syntax.call "record_tables::clear_records" ((Syntax.copy (Syntax.place 31 [])) ∷ (Syntax.copy (Syntax.place 8 [])) ∷ []) (Syntax.place 29 [])
 abbrev b46 : Syntax.Body
 b46 = Syntax.assign (Syntax.place 32 []) (Syntax.aggregate ((Syntax.int Syntax.w8 2) ∷ []))
 abbrev b47 : Syntax.Body
@@ -555,7 +555,7 @@ b68 = Syntax.assign (Syntax.place 40 []) (Syntax.addrOf (Syntax.place 4 ((Syntax
 abbrev b69 : Syntax.Body
 b69 = Syntax.assign (Syntax.place 41 []) (Syntax.aggregate ((Syntax.copy (Syntax.place 40 [])) ∷ (Syntax.copy (Syntax.place 4 ((Syntax.field 1) ∷ []))) ∷ []))
 abbrev b70 : Syntax.Body
-b70 = Syntax.call "node_records::clear_records" ((Syntax.copy (Syntax.place 41 [])) ∷ (Syntax.copy (Syntax.place 13 [])) ∷ []) (Syntax.place 39 [])
+b70 = Syntax.call "record_tables::clear_records" ((Syntax.copy (Syntax.place 41 [])) ∷ (Syntax.copy (Syntax.place 13 [])) ∷ []) (Syntax.place 39 [])
 abbrev b71 : Syntax.Body
 b71 = Syntax.call "decider::decided_at" ((Syntax.copy (Syntax.place 12 [])) ∷ (Syntax.copy (Syntax.place 9 [])) ∷ []) (Syntax.place 0 [])
 abbrev b72 : Syntax.Body
@@ -1283,8 +1283,8 @@ module _ (claims· : Claims) where
       Closed = (𝓤 : URA.URA M) (H : Wp.Heap 𝓤) (A : Atoms.Atoms 𝓤) (W : Kit.Given 𝓤 H A) (𝓣 : Wp.Tables 𝓤 H) (known0 : Plain.Known 𝓤 H A W 𝓣 0 ps·0 r·0
           (claims· .0) (claims· .1) "checker::early") (known1 : Plain.Known 𝓤 H A W 𝓣 0 ps·1 r·1 (claims· .2) (claims· .3) "reader::first_cursor") (known2 :
           Plain.Known 𝓤 H A W 𝓣 3 ps·2 r·2 (claims· .4) (claims· .5) "reader::read_on") (known3 : Plain.Known 𝓤 H A W 𝓣 1 ps·3 r·3 (claims· .6) (claims· .7)
-          "node_records::clear_records") (known4 : Plain.Known 𝓤 H A W 𝓣 0 ps·4 r·4 (claims· .8) (claims· .9) "decider::decided_at") (known5 : Plain.Known 𝓤 H
-          A W 𝓣 2 ps·5 r·5 (claims· .10) (claims· .11) "decider::word_at") → Statement.Triple 𝓤 (Wp.WpFn 𝓤 H (𝓣 .C) (𝓣 .Λ) (Function.fnOf 2 ps r xs m hs
+          "record_tables::clear_records") (known4 : Plain.Known 𝓤 H A W 𝓣 0 ps·4 r·4 (claims· .8) (claims· .9) "decider::decided_at") (known5 : Plain.Known 𝓤
+          H A W 𝓣 2 ps·5 r·5 (claims· .10) (claims· .11) "decider::word_at") → Statement.Triple 𝓤 (Wp.WpFn 𝓤 H (𝓣 .C) (𝓣 .Λ) (Function.fnOf 2 ps r xs m hs
           body)) (Function.plainOf 𝓤 H A 2 ps r Pre· Post·)
     module _ where
       abbrev at0 : (bs : List Nat.ℕ) → Typed.TF T12 O1
@@ -1581,7 +1581,7 @@ module _ (claims· : Claims) where
         abbrev Knowns : Type 1
         Knowns = Plain.Known 𝓤 H A W 𝓣 0 ps·0 r·0 (claims· .0) (claims· .1) "checker::early" × Plain.Known 𝓤 H A W 𝓣 0 ps·1 r·1 (claims· .2) (claims· .3)
             "reader::first_cursor" × Plain.Known 𝓤 H A W 𝓣 3 ps·2 r·2 (claims· .4) (claims· .5) "reader::read_on" × Plain.Known 𝓤 H A W 𝓣 1 ps·3 r·3 (claims·
-            .6) (claims· .7) "node_records::clear_records" × Plain.Known 𝓤 H A W 𝓣 0 ps·4 r·4 (claims· .8) (claims· .9) "decider::decided_at" × Plain.Known 𝓤
+            .6) (claims· .7) "record_tables::clear_records" × Plain.Known 𝓤 H A W 𝓣 0 ps·4 r·4 (claims· .8) (claims· .9) "decider::decided_at" × Plain.Known 𝓤
             H A W 𝓣 2 ps·5 r·5 (claims· .10) (claims· .11) "decider::word_at"
       module _ (κs : Lifetimes.Lfts 2) (qs : Lifetimes.Shares 2) where
         abbrev K0 : Row.Life
@@ -2165,7 +2165,7 @@ module _ (claims· : Claims) where
               H A W Row.sUnit)) d49
           d51 : Typed.Typed 𝓤 H A 𝓣 E G69 b51 Δ4 (at51 bs)
           d51 = Typed.s-seq 𝓤 H A W 𝓣 E G69 G70 b45 b50 Δ4 (Typed.both (s64 bs)) (at50 bs) (Plain.t-call-plain 𝓤 H A W 𝓣 1 ps·3 r·3 (claims· .6) (claims· .7)
-              "node_records::clear_records" (known .3) E (λ pos β. β) G69 (record { pos = 31; ty = y13; ref = λ x. x }, (Num.vAt 8 λ x. x, tt)) 29 (4 ∷ [])
+              "record_tables::clear_records" (known .3) E (λ pos β. β) G69 (record { pos = 31; ty = y13; ref = λ x. x }, (Num.vAt 8 λ x. x, tt)) 29 (4 ∷ [])
               (Call.sub-id 𝓤 H A W (G69 .slots)) (Reads'.as-is 𝓤 H A (Mut.mslice NodeRecordT.row y13 4), Mut.reads-mslice 𝓤 H A W NodeRecordT.row y13 4,
               Path'.refl, ((Scalar.reads-sc 𝓤 H A W (Row.sInt Syntax.w64), Path'.refl), tt)) (Reads'.room-gone 𝓤 H A Syntax.tyUnit) (tt, tt) Path'.refl) d50
           d52 : Typed.Typed 𝓤 H A 𝓣 E G68 b52 Δ4 (at52 bs)
@@ -2242,7 +2242,7 @@ module _ (claims· : Claims) where
               (Scalar.room-sc 𝓤 H A W Row.sUnit)) d71
           d73 : Typed.Typed 𝓤 H A 𝓣 E G120 b74 Δ0 (at73 bs)
           d73 = Typed.s-seq 𝓤 H A W 𝓣 E G120 G121 b70 b73 Δ0 (Typed.both (s115 bs)) (at72 bs) (Plain.t-call-plain 𝓤 H A W 𝓣 1 ps·3 r·3 (claims· .6) (claims·
-              .7) "node_records::clear_records" (known .3) E (λ pos β. β) G120 (record { pos = 41; ty = y13; ref = λ x. x }, (Num.vAt 13 λ x. x, tt)) 39 (9 ∷
+              .7) "record_tables::clear_records" (known .3) E (λ pos β. β) G120 (record { pos = 41; ty = y13; ref = λ x. x }, (Num.vAt 13 λ x. x, tt)) 39 (9 ∷
               []) (Call.sub-id 𝓤 H A W (G120 .slots)) (Reads'.as-is 𝓤 H A (Mut.mslice NodeRecordT.row y13 9), Mut.reads-mslice 𝓤 H A W NodeRecordT.row y13 9,
               Path'.refl, ((Scalar.reads-sc 𝓤 H A W (Row.sInt Syntax.w64), Path'.refl), tt)) (Reads'.room-gone 𝓤 H A Syntax.tyUnit) (tt, tt) Path'.refl) d72
           d74 : Typed.Typed 𝓤 H A 𝓣 E G119 b75 Δ0 (at74 bs)
@@ -3410,7 +3410,7 @@ module _ (claims· : Claims) where
         module _ {M : Type 1} (𝓤 : URA.URA M) (H : Wp.Heap 𝓤) (A : Atoms.Atoms 𝓤) (W : Kit.Given 𝓤 H A) (𝓣 : Wp.Tables 𝓤 H) (known0 : Plain.Known 𝓤 H A W 𝓣 0
             ps·0 r·0 (claims· .0) (claims· .1) "checker::early") (known1 : Plain.Known 𝓤 H A W 𝓣 0 ps·1 r·1 (claims· .2) (claims· .3) "reader::first_cursor")
             (known2 : Plain.Known 𝓤 H A W 𝓣 3 ps·2 r·2 (claims· .4) (claims· .5) "reader::read_on") (known3 : Plain.Known 𝓤 H A W 𝓣 1 ps·3 r·3 (claims· .6)
-            (claims· .7) "node_records::clear_records") (known4 : Plain.Known 𝓤 H A W 𝓣 0 ps·4 r·4 (claims· .8) (claims· .9) "decider::decided_at") (known5 :
+            (claims· .7) "record_tables::clear_records") (known4 : Plain.Known 𝓤 H A W 𝓣 0 ps·4 r·4 (claims· .8) (claims· .9) "decider::decided_at") (known5 :
             Plain.Known 𝓤 H A W 𝓣 2 ps·5 r·5 (claims· .10) (claims· .11) "decider::word_at") where
           pub spec : Statement.Triple 𝓤 (Wp.WpFn 𝓤 H (𝓣 .C) (𝓣 .Λ) (Function.fnOf 2 ps r xs m hs body)) (Function.plainOf 𝓤 H A 2 ps r Pre· Post·)
           spec = Plain.t-fn-plain 𝓤 H A W 𝓣 2 ps r xs m hs body (λ κs qs bs. Φ bs) (λ κs qs bs bd. typed κs qs 𝓤 H A W 𝓣 (known0, known1, known2, known3,

@@ -1,5 +1,5 @@
 -- Generated: the needs of decide at its contract, and how its theorem closes.
--- From 305a4f76520b09e6, as 8302836f923bb9ff.
+-- From 1ebb1372e730ab7b, as 5110386adc0870a9.
 use borrow.Fn.Run
 use borrow.Fn.Written
 use contract.Running.{givenOf, tablesOf}
@@ -12,9 +12,9 @@ use Rattle.reader.proofs.first_cursor.Symbol as first-cursor-symbol
 use Rattle.reader.proofs.Lifted.read_on as read-on-reads
 use Rattle.reader.proofs.read_on.Met as read-on-met
 use Rattle.reader.proofs.read_on.Symbol as read-on-symbol
-use Rattle.node_records.proofs.Lifted.clear_records as clear-records-reads
-use Rattle.node_records.proofs.clear_records.Met as clear-records-met
-use Rattle.node_records.proofs.clear_records.Symbol as clear-records-symbol
+use Rattle.record_tables.proofs.Lifted.clear_records as clear-records-reads
+use Rattle.record_tables.proofs.clear_records.Met as clear-records-met
+use Rattle.record_tables.proofs.clear_records.Symbol as clear-records-symbol
 use Rattle.decider.proofs.decided_at.Reads as decided-at-reads
 use Rattle.decider.proofs.decided_at.Met as decided-at-met
 use Rattle.decider.proofs.decided_at.Symbol as decided-at-symbol
@@ -99,6 +99,6 @@ module _ {M : Type 1} where
       (early-reads.known record { M = M; 𝓤 = 𝓤; H = H; 𝓜 = 𝓜; 𝓖 = 𝓖; 𝓡 = 𝓡 } code.env early-symbol.name early-symbol.routine code.calls-checker·early (early-met.met 𝓤 H 𝓜 𝓖 𝓡))
       (first-cursor-reads.known record { M = M; 𝓤 = 𝓤; H = H; 𝓜 = 𝓜; 𝓖 = 𝓖; 𝓡 = 𝓡 } code.env first-cursor-symbol.name first-cursor-symbol.routine code.calls-reader·first-cursor (first-cursor-met.met 𝓤 H 𝓜 𝓖 𝓡))
       (read-on-reads.known record { M = M; 𝓤 = 𝓤; H = H; 𝓜 = 𝓜; 𝓖 = 𝓖; 𝓡 = 𝓡 } code.env read-on-symbol.name read-on-symbol.routine code.calls-reader·read-on (read-on-met.met 𝓤 H 𝓜 𝓖 𝓡))
-      (clear-records-reads.known record { M = M; 𝓤 = 𝓤; H = H; 𝓜 = 𝓜; 𝓖 = 𝓖; 𝓡 = 𝓡 } code.env clear-records-symbol.name clear-records-symbol.routine code.calls-node-records·clear-records (clear-records-met.met 𝓤 H 𝓜 𝓖 𝓡))
+      (clear-records-reads.known record { M = M; 𝓤 = 𝓤; H = H; 𝓜 = 𝓜; 𝓖 = 𝓖; 𝓡 = 𝓡 } code.env clear-records-symbol.name clear-records-symbol.routine code.calls-record-tables·clear-records (clear-records-met.met 𝓤 H 𝓜 𝓖 𝓡))
       (decided-at-reads.known record { M = M; 𝓤 = 𝓤; H = H; 𝓜 = 𝓜; 𝓖 = 𝓖; 𝓡 = 𝓡 } code.env decided-at-symbol.name decided-at-symbol.routine code.calls-decider·decided-at (decided-at-met.met 𝓤 H 𝓜 𝓖 𝓡))
       (word-at-reads.known record { M = M; 𝓤 = 𝓤; H = H; 𝓜 = 𝓜; 𝓖 = 𝓖; 𝓡 = 𝓡 } code.env word-at-symbol.name word-at-symbol.routine code.calls-decider·word-at (word-at-met.met 𝓤 H 𝓜 𝓖 𝓡))

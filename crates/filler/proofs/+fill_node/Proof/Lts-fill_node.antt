@@ -1,5 +1,5 @@
 -- Generated: the derivation of a body.
--- From dbdcfa45678f14fc, as 3835a7b14d2cb85a.
+-- From 5323325ea17b17bb, as 3835a7b14d2cb85a.
 use Prim.Native.Nat
 use Rattle.node_records.proofs.Edge
 use Rattle.node_records.proofs.Edge.Laws

@@ -1,5 +1,5 @@
 -- Generated: the derivation of a body.
--- From dbdcfa45678f14fc, as 1b82ea3a6a8efabe.
+-- From 5323325ea17b17bb, as d43e030a8eaa6fe1.
 use Prim.Native.Nat
 use Rattle.checker.proofs.Refusal
 use Rattle.checker.proofs.Refusal.Laws
@@ -502,7 +502,7 @@ b55 = Syntax.assign (Syntax.place 30 []) (Syntax.addrOf (Syntax.place 4 ((Syntax
 abbrev b56 : Syntax.Body
 b56 = Syntax.assign (Syntax.place 31 []) (Syntax.aggregate ((Syntax.copy (Syntax.place 30 [])) ∷ (Syntax.copy (Syntax.place 4 ((Syntax.field 1) ∷ []))) ∷ []))
 abbrev b57 : Syntax.Body
-b57 = Syntax.call "node_records::clear_records" ((Syntax.copy (Syntax.place 31 [])) ∷ (Syntax.copy (Syntax.place 8 [])) ∷ []) (Syntax.place 29 [])
+b57 = Syntax.call "record_tables::clear_records" ((Syntax.copy (Syntax.place 31 [])) ∷ (Syntax.copy (Syntax.place 8 [])) ∷ []) (Syntax.place 29 [])
 abbrev b58 : Syntax.Body
 b58 = Syntax.call "checker::late" ((Syntax.copy (Syntax.place 6 [])) ∷ []) (Syntax.place 32 [])
 abbrev b59 : Syntax.Body
@@ -549,7 +549,7 @@ b78 = Syntax.assign (Syntax.place 40 []) (Syntax.addrOf (Syntax.place 4 ((Syntax
 abbrev b79 : Syntax.Body
 b79 = Syntax.assign (Syntax.place 41 []) (Syntax.aggregate ((Syntax.copy (Syntax.place 40 [])) ∷ (Syntax.copy (Syntax.place 4 ((Syntax.field 1) ∷ []))) ∷ []))
 abbrev b80 : Syntax.Body
-b80 = Syntax.call "node_records::clear_records" ((Syntax.copy (Syntax.place 41 [])) ∷ (Syntax.copy (Syntax.place 9 [])) ∷ []) (Syntax.place 33 [])
+b80 = Syntax.call "record_tables::clear_records" ((Syntax.copy (Syntax.place 41 [])) ∷ (Syntax.copy (Syntax.place 9 [])) ∷ []) (Syntax.place 33 [])
 abbrev b81 : Syntax.Body
 b81 = Syntax.assign (Syntax.place 10 []) (Syntax.rvOpd (Syntax.copy (Syntax.place 6 ((Syntax.field 0) ∷ []))))
 abbrev b82 : Syntax.Body
@@ -1294,9 +1294,10 @@ module _ (claims· : Claims) where
       Closed = (𝓤 : URA.URA M) (H : Wp.Heap 𝓤) (A : Atoms.Atoms 𝓤) (W : Kit.Given 𝓤 H A) (𝓣 : Wp.Tables 𝓤 H) (known0 : Plain.Known 𝓤 H A W 𝓣 0 ps·0 r·0
           (claims· .0) (claims· .1) "checker::early") (known1 : Plain.Known 𝓤 H A W 𝓣 0 ps·1 r·1 (claims· .2) (claims· .3) "reader::first_cursor") (known2 :
           Plain.Known 𝓤 H A W 𝓣 3 ps·2 r·2 (claims· .4) (claims· .5) "reader::read_on") (known3 : Plain.Known 𝓤 H A W 𝓣 1 ps·3 r·3 (claims· .6) (claims· .7)
-          "node_records::clear_records") (known4 : Plain.Known 𝓤 H A W 𝓣 0 ps·4 r·4 (claims· .8) (claims· .9) "checker::late") (known5 : Plain.Known 𝓤 H A W 𝓣
-          1 ps·5 r·5 (claims· .10) (claims· .11) "filler::wipe") (known6 : Plain.Known 𝓤 H A W 𝓣 3 ps·6 r·6 (claims· .12) (claims· .13) "filler::fill_words")
-          → Statement.Triple 𝓤 (Wp.WpFn 𝓤 H (𝓣 .C) (𝓣 .Λ) (Function.fnOf 3 ps r xs m hs body)) (Function.plainOf 𝓤 H A 3 ps r Pre· Post·)
+          "record_tables::clear_records") (known4 : Plain.Known 𝓤 H A W 𝓣 0 ps·4 r·4 (claims· .8) (claims· .9) "checker::late") (known5 : Plain.Known 𝓤 H A W
+          𝓣 1 ps·5 r·5 (claims· .10) (claims· .11) "filler::wipe") (known6 : Plain.Known 𝓤 H A W 𝓣 3 ps·6 r·6 (claims· .12) (claims· .13)
+          "filler::fill_words") → Statement.Triple 𝓤 (Wp.WpFn 𝓤 H (𝓣 .C) (𝓣 .Λ) (Function.fnOf 3 ps r xs m hs body)) (Function.plainOf 𝓤 H A 3 ps r Pre·
+          Post·)
     module _ where
       abbrev at0 : (bs : List Nat.ℕ) → Typed.TF T12 O1
       at0 = λ bs. Typed.atRet O1
@@ -1602,7 +1603,7 @@ module _ (claims· : Claims) where
         abbrev Knowns : Type 1
         Knowns = Plain.Known 𝓤 H A W 𝓣 0 ps·0 r·0 (claims· .0) (claims· .1) "checker::early" × Plain.Known 𝓤 H A W 𝓣 0 ps·1 r·1 (claims· .2) (claims· .3)
             "reader::first_cursor" × Plain.Known 𝓤 H A W 𝓣 3 ps·2 r·2 (claims· .4) (claims· .5) "reader::read_on" × Plain.Known 𝓤 H A W 𝓣 1 ps·3 r·3 (claims·
-            .6) (claims· .7) "node_records::clear_records" × Plain.Known 𝓤 H A W 𝓣 0 ps·4 r·4 (claims· .8) (claims· .9) "checker::late" × Plain.Known 𝓤 H A W
+            .6) (claims· .7) "record_tables::clear_records" × Plain.Known 𝓤 H A W 𝓣 0 ps·4 r·4 (claims· .8) (claims· .9) "checker::late" × Plain.Known 𝓤 H A W
             𝓣 1 ps·5 r·5 (claims· .10) (claims· .11) "filler::wipe" × Plain.Known 𝓤 H A W 𝓣 3 ps·6 r·6 (claims· .12) (claims· .13) "filler::fill_words"
       module _ (κs : Lifetimes.Lfts 3) (qs : Lifetimes.Shares 3) where
         abbrev K0 : Row.Life
@@ -2227,7 +2228,7 @@ module _ (claims· : Claims) where
               H A W Row.sUnit)) d57
           d59 : Typed.Typed 𝓤 H A 𝓣 E G81 b63 Δ5 (at59 bs)
           d59 = Typed.s-seq 𝓤 H A W 𝓣 E G81 G82 b57 b62 Δ5 (Typed.both (s75 bs)) (at58 bs) (Plain.t-call-plain 𝓤 H A W 𝓣 1 ps·3 r·3 (claims· .6) (claims· .7)
-              "node_records::clear_records" (known .3) E (λ pos β. β) G81 (record { pos = 31; ty = y11; ref = λ x. x }, (Num.vAt 8 λ x. x, tt)) 29 (5 ∷ [])
+              "record_tables::clear_records" (known .3) E (λ pos β. β) G81 (record { pos = 31; ty = y11; ref = λ x. x }, (Num.vAt 8 λ x. x, tt)) 29 (5 ∷ [])
               (Call.sub-id 𝓤 H A W (G81 .slots)) (Reads'.as-is 𝓤 H A (Mut.mslice NodeRecordT.row y11 5), Mut.reads-mslice 𝓤 H A W NodeRecordT.row y11 5,
               Path'.refl, ((Scalar.reads-sc 𝓤 H A W (Row.sInt Syntax.w64), Path'.refl), tt)) (Reads'.room-gone 𝓤 H A Syntax.tyUnit) (tt, tt) Path'.refl) d58
           d60 : Typed.Typed 𝓤 H A 𝓣 E G80 b64 Δ5 (at60 bs)
@@ -2320,7 +2321,7 @@ module _ (claims· : Claims) where
               (Scalar.room-sc 𝓤 H A W Row.sUnit)) d78
           d80 : Typed.Typed 𝓤 H A 𝓣 E G122 b86 Δ0 (at80 bs)
           d80 = Typed.s-seq 𝓤 H A W 𝓣 E G122 G123 b80 b85 Δ0 (Typed.both (s116 bs)) (at79 bs) (Plain.t-call-plain 𝓤 H A W 𝓣 1 ps·3 r·3 (claims· .6) (claims·
-              .7) "node_records::clear_records" (known .3) E (λ pos β. β) G122 (record { pos = 41; ty = y11; ref = λ x. x }, (Num.vAt 9 λ x. x, tt)) 33 (9 ∷
+              .7) "record_tables::clear_records" (known .3) E (λ pos β. β) G122 (record { pos = 41; ty = y11; ref = λ x. x }, (Num.vAt 9 λ x. x, tt)) 33 (9 ∷
               []) (Call.sub-id 𝓤 H A W (G122 .slots)) (Reads'.as-is 𝓤 H A (Mut.mslice NodeRecordT.row y11 9), Mut.reads-mslice 𝓤 H A W NodeRecordT.row y11 9,
               Path'.refl, ((Scalar.reads-sc 𝓤 H A W (Row.sInt Syntax.w64), Path'.refl), tt)) (Reads'.room-gone 𝓤 H A Syntax.tyUnit) (tt, tt) Path'.refl) d79
           d81 : Typed.Typed 𝓤 H A 𝓣 E G121 b87 Δ0 (at81 bs)
@@ -3555,7 +3556,7 @@ module _ (claims· : Claims) where
         module _ {M : Type 1} (𝓤 : URA.URA M) (H : Wp.Heap 𝓤) (A : Atoms.Atoms 𝓤) (W : Kit.Given 𝓤 H A) (𝓣 : Wp.Tables 𝓤 H) (known0 : Plain.Known 𝓤 H A W 𝓣 0
             ps·0 r·0 (claims· .0) (claims· .1) "checker::early") (known1 : Plain.Known 𝓤 H A W 𝓣 0 ps·1 r·1 (claims· .2) (claims· .3) "reader::first_cursor")
             (known2 : Plain.Known 𝓤 H A W 𝓣 3 ps·2 r·2 (claims· .4) (claims· .5) "reader::read_on") (known3 : Plain.Known 𝓤 H A W 𝓣 1 ps·3 r·3 (claims· .6)
-            (claims· .7) "node_records::clear_records") (known4 : Plain.Known 𝓤 H A W 𝓣 0 ps·4 r·4 (claims· .8) (claims· .9) "checker::late") (known5 :
+            (claims· .7) "record_tables::clear_records") (known4 : Plain.Known 𝓤 H A W 𝓣 0 ps·4 r·4 (claims· .8) (claims· .9) "checker::late") (known5 :
             Plain.Known 𝓤 H A W 𝓣 1 ps·5 r·5 (claims· .10) (claims· .11) "filler::wipe") (known6 : Plain.Known 𝓤 H A W 𝓣 3 ps·6 r·6 (claims· .12) (claims·
             .13) "filler::fill_words") where
           pub spec : Statement.Triple 𝓤 (Wp.WpFn 𝓤 H (𝓣 .C) (𝓣 .Λ) (Function.fnOf 3 ps r xs m hs body)) (Function.plainOf 𝓤 H A 3 ps r Pre· Post·)

@@ -1,5 +1,5 @@
 -- Generated: the needs of fill at its contract, and how its theorem closes.
--- From dbdcfa45678f14fc, as 3aa8984086fd0473.
+-- From 5323325ea17b17bb, as 667c35cce546ed1f.
 use borrow.Fn.Run
 use borrow.Fn.Written
 use contract.Running.{givenOf, tablesOf}
@@ -12,9 +12,9 @@ use Rattle.reader.proofs.first_cursor.Symbol as first-cursor-symbol
 use Rattle.reader.proofs.Lifted.read_on as read-on-reads
 use Rattle.reader.proofs.read_on.Met as read-on-met
 use Rattle.reader.proofs.read_on.Symbol as read-on-symbol
-use Rattle.node_records.proofs.Lifted.clear_records as clear-records-reads
-use Rattle.node_records.proofs.clear_records.Met as clear-records-met
-use Rattle.node_records.proofs.clear_records.Symbol as clear-records-symbol
+use Rattle.record_tables.proofs.Lifted.clear_records as clear-records-reads
+use Rattle.record_tables.proofs.clear_records.Met as clear-records-met
+use Rattle.record_tables.proofs.clear_records.Symbol as clear-records-symbol
 use Rattle.checker.proofs.late.Reads as late-reads
 use Rattle.checker.proofs.late.Met as late-met
 use Rattle.checker.proofs.late.Symbol as late-symbol
@@ -108,7 +108,7 @@ module _ {M : Type 1} where
       (early-reads.known record { M = M; 𝓤 = 𝓤; H = H; 𝓜 = 𝓜; 𝓖 = 𝓖; 𝓡 = 𝓡 } code.env early-symbol.name early-symbol.routine code.calls-checker·early (early-met.met 𝓤 H 𝓜 𝓖 𝓡))
       (first-cursor-reads.known record { M = M; 𝓤 = 𝓤; H = H; 𝓜 = 𝓜; 𝓖 = 𝓖; 𝓡 = 𝓡 } code.env first-cursor-symbol.name first-cursor-symbol.routine code.calls-reader·first-cursor (first-cursor-met.met 𝓤 H 𝓜 𝓖 𝓡))
       (read-on-reads.known record { M = M; 𝓤 = 𝓤; H = H; 𝓜 = 𝓜; 𝓖 = 𝓖; 𝓡 = 𝓡 } code.env read-on-symbol.name read-on-symbol.routine code.calls-reader·read-on (read-on-met.met 𝓤 H 𝓜 𝓖 𝓡))
-      (clear-records-reads.known record { M = M; 𝓤 = 𝓤; H = H; 𝓜 = 𝓜; 𝓖 = 𝓖; 𝓡 = 𝓡 } code.env clear-records-symbol.name clear-records-symbol.routine code.calls-node-records·clear-records (clear-records-met.met 𝓤 H 𝓜 𝓖 𝓡))
+      (clear-records-reads.known record { M = M; 𝓤 = 𝓤; H = H; 𝓜 = 𝓜; 𝓖 = 𝓖; 𝓡 = 𝓡 } code.env clear-records-symbol.name clear-records-symbol.routine code.calls-record-tables·clear-records (clear-records-met.met 𝓤 H 𝓜 𝓖 𝓡))
       (late-reads.known record { M = M; 𝓤 = 𝓤; H = H; 𝓜 = 𝓜; 𝓖 = 𝓖; 𝓡 = 𝓡 } code.env late-symbol.name late-symbol.routine code.calls-checker·late (late-met.met 𝓤 H 𝓜 𝓖 𝓡))
       (wipe-reads.known record { M = M; 𝓤 = 𝓤; H = H; 𝓜 = 𝓜; 𝓖 = 𝓖; 𝓡 = 𝓡 } code.env wipe-symbol.name wipe-symbol.routine code.calls-filler·wipe (wipe-met.met 𝓤 H 𝓜 𝓖 𝓡))
       (fill-words-reads.known record { M = M; 𝓤 = 𝓤; H = H; 𝓜 = 𝓜; 𝓖 = 𝓖; 𝓡 = 𝓡 } code.env fill-words-symbol.name fill-words-symbol.routine code.calls-filler·fill-words (fill-words-met.met 𝓤 H 𝓜 𝓖 𝓡))

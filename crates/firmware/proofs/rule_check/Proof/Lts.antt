@@ -1,5 +1,5 @@
 -- Generated: the derivation of a body.
--- From e5edeefd1c5dbd86, as 950aa65f04f49f4d.
+-- From 557c1247835c3c62, as 950aa65f04f49f4d.
 use Prim.Native.Nat
 use Rattle.checker.proofs.Checking
 use Rattle.checker.proofs.Checking.Laws

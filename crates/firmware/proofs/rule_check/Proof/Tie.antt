@@ -1,5 +1,5 @@
 -- Generated: the needs of rule_check at its contract, and how its theorem closes.
--- From e5edeefd1c5dbd86, as 10b706c672ccdd25.
+-- From 557c1247835c3c62, as 10b706c672ccdd25.
 use borrow.Fn.Run
 use borrow.Fn.Written
 use contract.Running.{givenOf, tablesOf}

@@ -1,5 +1,5 @@
 -- Generated: the derivation of a body.
--- From e5edeefd1c5dbd86, as bb88c0dea07f346b.
+-- From 557c1247835c3c62, as bb88c0dea07f346b.
 use Prim.Native.Nat
 use Rattle.decider.proofs.Deciding
 use Rattle.decider.proofs.Deciding.Laws

@@ -1,5 +1,5 @@
 -- Generated: the needs of rule_decide at its contract, and how its theorem closes.
--- From e5edeefd1c5dbd86, as 7d7cf7a94f739019.
+-- From 557c1247835c3c62, as 7d7cf7a94f739019.
 use borrow.Fn.Run
 use borrow.Fn.Written
 use contract.Running.{givenOf, tablesOf}

@@ -1,5 +1,5 @@
 -- Generated: the derivation of a body.
--- From e5edeefd1c5dbd86, as 0e5947841da6329f.
+-- From 557c1247835c3c62, as 0e5947841da6329f.
 use Prim.Native.Nat
 use Rattle.filler.proofs.Filling
 use Rattle.filler.proofs.Filling.Laws

@@ -1,5 +1,5 @@
 -- Generated: the needs of rule_fill at its contract, and how its theorem closes.
--- From e5edeefd1c5dbd86, as d45cd1dda6ee056e.
+-- From 557c1247835c3c62, as d45cd1dda6ee056e.
 use borrow.Fn.Run
 use borrow.Fn.Written
 use contract.Running.{givenOf, tablesOf}

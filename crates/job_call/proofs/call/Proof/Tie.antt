@@ -1,5 +1,5 @@
 -- Generated: the needs of call at its contract, and how its theorem closes.
--- From d4aa04a553774818, as aa70cfabb3e33cf4.
+-- From 30f8799abca49456, as aa70cfabb3e33cf4.
 use borrow.Fn.Run
 use borrow.Fn.Written
 use contract.Running.{givenOf, tablesOf}

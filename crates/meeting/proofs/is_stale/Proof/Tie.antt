@@ -1,5 +1,5 @@
 -- Generated: the needs of is_stale at its contract, and how its theorem closes.
--- From f5bfa6c251835430, as fbba422657e37d3b.
+-- From 4395b808c19df7da, as fbba422657e37d3b.
 use borrow.Fn.Run
 use borrow.Fn.Written
 use contract.Running.{givenOf, tablesOf}

@@ -1,5 +1,5 @@
 -- Generated: the needs of known at its contract, and how its theorem closes.
--- From f5bfa6c251835430, as a469ec20be7dd233.
+-- From 4395b808c19df7da, as a469ec20be7dd233.
 use borrow.Fn.Run
 use borrow.Fn.Written
 use contract.Running.{givenOf, tablesOf}

@@ -1,5 +1,5 @@
 -- Generated: the needs of meet at its contract, and how its theorem closes.
--- From f5bfa6c251835430, as dd7ac5e3c882aca1.
+-- From 4395b808c19df7da, as dd7ac5e3c882aca1.
 use borrow.Fn.Run
 use borrow.Fn.Written
 use contract.Running.{givenOf, tablesOf}

@@ -1,5 +1,5 @@
 -- Generated: the needs of second at its contract, and how its theorem closes.
--- From f5bfa6c251835430, as bddb3a71f56e5500.
+-- From 4395b808c19df7da, as bddb3a71f56e5500.
 use borrow.Fn.Run
 use borrow.Fn.Written
 use contract.Running.{givenOf, tablesOf}

@@ -1,5 +1,5 @@
 -- Generated: the needs of recall at its contract, and how its theorem closes.
--- From c77c03aa26ce29de, as dd13a2fea73ad626.
+-- From 58a5476d575b409e, as dd13a2fea73ad626.
 use borrow.Fn.Run
 use borrow.Fn.Written
 use contract.Running.{givenOf, tablesOf}

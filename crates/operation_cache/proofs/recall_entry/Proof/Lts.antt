@@ -1,5 +1,5 @@
 -- Generated: the derivation of a body.
--- From c77c03aa26ce29de, as 002013efa22205dc.
+-- From 58a5476d575b409e, as 002013efa22205dc.
 use Prim.Native.Nat
 use Rattle.meeting.proofs.Half
 use Rattle.meeting.proofs.Half.Laws

@@ -1,5 +1,5 @@
 -- Generated: the derivation of a body.
--- From 2592314248d7ca38, as 23c504759f17bea3.
+-- From 8a511ed7e7f2e43d, as 23c504759f17bea3.
 use Prim.Native.Nat
 use Rattle.elements.proofs.Context
 use Rattle.elements.proofs.Context.Laws

@@ -1,5 +1,5 @@
 -- Generated: the derivation of a body.
--- From 2592314248d7ca38, as 08fbdda3f58286dc.
+-- From 8a511ed7e7f2e43d, as 8a5f5c49855fbafa.
 use Prim.Native.Nat
 use Rattle.node_records.proofs.NodeRecord
 use Rattle.node_records.proofs.NodeRecord.Laws
@@ -267,7 +267,7 @@ b18 = Syntax.assign (Syntax.place 16 []) (Syntax.aggregate ((Syntax.copy (Syntax
 abbrev b19 : Syntax.Body
 b19 = Syntax.assign (Syntax.place 17 []) (Syntax.op1 (Syntax.cast Syntax.unsigned Syntax.unsigned Syntax.w64) (Syntax.copy (Syntax.place 4 [])))
 abbrev b20 : Syntax.Body
-b20 = Syntax.call "node_records::clear_records" ((Syntax.copy (Syntax.place 16 [])) ∷ (Syntax.copy (Syntax.place 17 [])) ∷ []) (Syntax.place 14 [])
+b20 = Syntax.call "record_tables::clear_records" ((Syntax.copy (Syntax.place 16 [])) ∷ (Syntax.copy (Syntax.place 17 [])) ∷ []) (Syntax.place 14 [])
 abbrev b21 : Syntax.Body
 b21 = Syntax.seq b19 b20
 abbrev b22 : Syntax.Body
@@ -467,7 +467,7 @@ module _ (claims· : Claims) where
       abbrev pub Closed : Type 2
       Closed = (𝓤 : URA.URA M) (H : Wp.Heap 𝓤) (A : Atoms.Atoms 𝓤) (W : Kit.Given 𝓤 H A) (𝓣 : Wp.Tables 𝓤 H) (known0 : Plain.Known 𝓤 H A W 𝓣 0 ps·0 r·0
           (claims· .0) (claims· .1) "reader::record_of") (known1 : Plain.Known 𝓤 H A W 𝓣 1 ps·1 r·1 (claims· .2) (claims· .3) "work_table::store") (known2 :
-          Plain.Known 𝓤 H A W 𝓣 1 ps·2 r·2 (claims· .4) (claims· .5) "node_records::clear_records") → Statement.Triple 𝓤 (Wp.WpFn 𝓤 H (𝓣 .C) (𝓣 .Λ)
+          Plain.Known 𝓤 H A W 𝓣 1 ps·2 r·2 (claims· .4) (claims· .5) "record_tables::clear_records") → Statement.Triple 𝓤 (Wp.WpFn 𝓤 H (𝓣 .C) (𝓣 .Λ)
           (Function.fnOf 1 ps r xs m hs body)) (Function.plainOf 𝓤 H A 1 ps r Pre· Post·)
     module _ where
       abbrev at0 : Typed.TF (cx t2 t1) O1
@@ -567,7 +567,7 @@ module _ (claims· : Claims) where
       module _ {M : Type 1} (𝓤 : URA.URA M) (H : Wp.Heap 𝓤) (A : Atoms.Atoms 𝓤) (W : Kit.Given 𝓤 H A) (𝓣 : Wp.Tables 𝓤 H) where
         abbrev Knowns : Type 1
         Knowns = Plain.Known 𝓤 H A W 𝓣 0 ps·0 r·0 (claims· .0) (claims· .1) "reader::record_of" × Plain.Known 𝓤 H A W 𝓣 1 ps·1 r·1 (claims· .2) (claims· .3)
-            "work_table::store" × Plain.Known 𝓤 H A W 𝓣 1 ps·2 r·2 (claims· .4) (claims· .5) "node_records::clear_records"
+            "work_table::store" × Plain.Known 𝓤 H A W 𝓣 1 ps·2 r·2 (claims· .4) (claims· .5) "record_tables::clear_records"
       module _ (κs : Lifetimes.Lfts 1) (qs : Lifetimes.Shares 1) where
         abbrev K0 : Row.Life
         K0 = Row.lease (κs .0) (qs .0)
@@ -720,7 +720,7 @@ module _ (claims· : Claims) where
               (cx t29 t30) (cx t26 t30) s32 (Typed.pass (cx t26 t30) (cx t26 t31) s33 Ψ))) (λ Ψ. Ψ) (Typed.g-post 𝓤 H A W 𝓣 E (gx g26 t28 l6) (gx g26 t30 l6)
               (gx g26 t31 l6) b20 (λ Ψ. Typed.both s31 (Typed.pass (cx t29 t30) (cx t26 t30) s32 Ψ)) (Typed.pass (cx t26 t30) (cx t26 t31) s33) (Typed.g-post
               𝓤 H A W 𝓣 E (gx g26 t28 l6) (gx g29 t30 l6) (gx g26 t30 l6) b20 (Typed.both s31) (Typed.pass (cx t29 t30) (cx t26 t30) s32) (Plain.t-call-plain
-              𝓤 H A W 𝓣 1 ps·2 r·2 (claims· .4) (claims· .5) "node_records::clear_records" (known .2) E (λ pos β. β) (gx g26 t28 l6) (record { pos = 16; ty =
+              𝓤 H A W 𝓣 1 ps·2 r·2 (claims· .4) (claims· .5) "record_tables::clear_records" (known .2) E (λ pos β. β) (gx g26 t28 l6) (record { pos = 16; ty =
               y0; ref = λ x. x }, (Num.vAt 17 λ x. x, tt)) 14 (2 ∷ []) (Call.sub-id 𝓤 H A W ((gx g26 t28 l6) .slots)) (Reads'.as-is 𝓤 H A (Mut.mslice
               NodeRecordT.row y0 2), Mut.reads-mslice 𝓤 H A W NodeRecordT.row y0 2, Path'.refl, ((Scalar.reads-sc 𝓤 H A W (Row.sInt Syntax.w64), Path'.refl),
               tt)) (Reads'.room-gone 𝓤 H A Syntax.tyUnit) (tt, tt) Path'.refl) (Scalar.g-room 𝓤 H A W E (gx g29 t30 l6) 14 Syntax.tyUnit (Scalar.room-sc 𝓤 H A
@@ -1084,7 +1084,7 @@ module _ (claims· : Claims) where
               pre }
         module _ {M : Type 1} (𝓤 : URA.URA M) (H : Wp.Heap 𝓤) (A : Atoms.Atoms 𝓤) (W : Kit.Given 𝓤 H A) (𝓣 : Wp.Tables 𝓤 H) (known0 : Plain.Known 𝓤 H A W 𝓣 0
             ps·0 r·0 (claims· .0) (claims· .1) "reader::record_of") (known1 : Plain.Known 𝓤 H A W 𝓣 1 ps·1 r·1 (claims· .2) (claims· .3) "work_table::store")
-            (known2 : Plain.Known 𝓤 H A W 𝓣 1 ps·2 r·2 (claims· .4) (claims· .5) "node_records::clear_records") where
+            (known2 : Plain.Known 𝓤 H A W 𝓣 1 ps·2 r·2 (claims· .4) (claims· .5) "record_tables::clear_records") where
           pub spec : Statement.Triple 𝓤 (Wp.WpFn 𝓤 H (𝓣 .C) (𝓣 .Λ) (Function.fnOf 1 ps r xs m hs body)) (Function.plainOf 𝓤 H A 1 ps r Pre· Post·)
           spec = Plain.t-fn-plain 𝓤 H A W 𝓣 1 ps r xs m hs body (λ κs qs bs. Φ) (λ κs qs bs bd. typed κs qs 𝓤 H A W 𝓣 (known0, known1, known2) bs bd) Pre·
               Post· asked

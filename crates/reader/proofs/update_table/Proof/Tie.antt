@@ -1,5 +1,5 @@
 -- Generated: the needs of update_table at its contract, and how its theorem closes.
--- From 2592314248d7ca38, as bd97440289f1b182.
+-- From 8a511ed7e7f2e43d, as 0a7c55da6beaaac8.
 use borrow.Fn.Run
 use borrow.Fn.Written
 use contract.Running.{givenOf, tablesOf}
@@ -9,9 +9,9 @@ use Rattle.reader.proofs.record_of.Symbol as record-of-symbol
 use Rattle.work_table.proofs.Lifted.store as store-reads
 use Rattle.work_table.proofs.store.Met as store-met
 use Rattle.work_table.proofs.store.Symbol as store-symbol
-use Rattle.node_records.proofs.Lifted.clear_records as clear-records-reads
-use Rattle.node_records.proofs.clear_records.Met as clear-records-met
-use Rattle.node_records.proofs.clear_records.Symbol as clear-records-symbol
+use Rattle.record_tables.proofs.Lifted.clear_records as clear-records-reads
+use Rattle.record_tables.proofs.clear_records.Met as clear-records-met
+use Rattle.record_tables.proofs.clear_records.Symbol as clear-records-symbol
 use Rattle.reader.proofs.update_table.Key
 use Rattle.reader.proofs.update_table.Code as code
 use Rattle.reader.proofs.update_table.Statement.{statement}
@@ -56,4 +56,4 @@ module _ {M : Type 1} where
       (λ κs a g. tt) (λ κs. self.owns κs record { M = M; 𝓤 = 𝓤; H = H; 𝓜 = 𝓜; 𝓖 = 𝓖; 𝓡 = 𝓡 }) (self.passes record { M = M; 𝓤 = 𝓤; H = H; 𝓜 = 𝓜; 𝓖 = 𝓖; 𝓡 = 𝓡 }) λ g. closed 𝓤 H (𝓖 .A) (givenOf 𝓤 H 𝓜 𝓖) (Run.Over 𝓤 H 𝓜 𝓖 𝓡 code.env)
       (record-of-reads.known record { M = M; 𝓤 = 𝓤; H = H; 𝓜 = 𝓜; 𝓖 = 𝓖; 𝓡 = 𝓡 } code.env record-of-symbol.name record-of-symbol.routine code.calls-reader·record-of (record-of-met.met 𝓤 H 𝓜 𝓖 𝓡))
       (store-reads.known record { M = M; 𝓤 = 𝓤; H = H; 𝓜 = 𝓜; 𝓖 = 𝓖; 𝓡 = 𝓡 } code.env store-symbol.name store-symbol.routine code.calls-work-table·store (store-met.met 𝓤 H 𝓜 𝓖 𝓡))
-      (clear-records-reads.known record { M = M; 𝓤 = 𝓤; H = H; 𝓜 = 𝓜; 𝓖 = 𝓖; 𝓡 = 𝓡 } code.env clear-records-symbol.name clear-records-symbol.routine code.calls-node-records·clear-records (clear-records-met.met 𝓤 H 𝓜 𝓖 𝓡))
+      (clear-records-reads.known record { M = M; 𝓤 = 𝓤; H = H; 𝓜 = 𝓜; 𝓖 = 𝓖; 𝓡 = 𝓡 } code.env clear-records-symbol.name clear-records-symbol.routine code.calls-record-tables·clear-records (clear-records-met.met 𝓤 H 𝓜 𝓖 𝓡))

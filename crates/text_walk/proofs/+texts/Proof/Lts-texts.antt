@@ -1,5 +1,5 @@
 -- Generated: the derivation of a body.
--- From c0fd6c9a316d640b, as 4f801761907874aa.
+-- From 9b75fd49edaab245, as 4f801761907874aa.
 use Prim.Native.Nat
 use Rattle.blocks.proofs.Block
 use Rattle.blocks.proofs.Block.Laws

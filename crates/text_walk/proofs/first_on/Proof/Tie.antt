@@ -1,5 +1,5 @@
 -- Generated: the needs of first_on at its contract, and how its theorem closes.
--- From c0fd6c9a316d640b, as 24cf2d06d52ef20d.
+-- From 9b75fd49edaab245, as 24cf2d06d52ef20d.
 use borrow.Fn.Run
 use borrow.Fn.Written
 use contract.Running.{givenOf, tablesOf}

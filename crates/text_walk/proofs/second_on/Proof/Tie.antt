@@ -1,5 +1,5 @@
 -- Generated: the needs of second_on at its contract, and how its theorem closes.
--- From c0fd6c9a316d640b, as 8340f4a7ed0066cc.
+-- From 9b75fd49edaab245, as 8340f4a7ed0066cc.
 use borrow.Fn.Run
 use borrow.Fn.Written
 use contract.Running.{givenOf, tablesOf}

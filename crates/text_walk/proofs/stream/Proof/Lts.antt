@@ -1,5 +1,5 @@
 -- Generated: the derivation of a body.
--- From c0fd6c9a316d640b, as 62eb5a955d54ed86.
+-- From 9b75fd49edaab245, as 62eb5a955d54ed86.
 use Prim.Native.Nat
 use Rattle.node_records.proofs.Tables.NodeRecord as NodeRecordT
 use Rattle.node_records.proofs.Tables.WriterRecord as WriterRecordT

@@ -1,5 +1,5 @@
 -- Generated: the needs of stream at its contract, and how its theorem closes.
--- From c0fd6c9a316d640b, as 14b9e15496dc210a.
+-- From 9b75fd49edaab245, as 14b9e15496dc210a.
 use borrow.Fn.Run
 use borrow.Fn.Written
 use contract.Running.{givenOf, tablesOf}

@@ -1,5 +1,5 @@
 -- Generated: the derivation of a body.
--- From 2a7436110a0a6637, as 96b7ee8bc24a3966.
+-- From 47d771535d58e2a3, as a6dea0de5adc8242.
 use Prim.Native.Nat
 use Rattle.node_records.proofs.Tables.WriterRecord as WriterRecordT
 use Rattle.node_records.proofs.WriterRecord
@@ -159,7 +159,7 @@ b10 = Syntax.skip
 abbrev b11 : Syntax.Body
 b11 = Syntax.cond (Syntax.copy (Syntax.place 9 [])) b9 b10
 abbrev b12 : Syntax.Body
-b12 = Syntax.call "node_records::get_writer_record" ((Syntax.copy (Syntax.place 1 [])) ∷ (Syntax.copy (Syntax.place 3 [])) ∷ []) (Syntax.place 8 [])
+b12 = Syntax.call "record_tables::get_writer_record" ((Syntax.copy (Syntax.place 1 [])) ∷ (Syntax.copy (Syntax.place 3 [])) ∷ []) (Syntax.place 8 [])
 abbrev b13 : Syntax.Body
 b13 = Syntax.call "writer_records::is_node" ((Syntax.copy (Syntax.place 8 [])) ∷ (Syntax.copy (Syntax.place 4 [])) ∷ (Syntax.copy (Syntax.place 5 [])) ∷
     (Syntax.copy (Syntax.place 6 [])) ∷ (Syntax.copy (Syntax.place 7 [])) ∷ []) (Syntax.place 10 [])
@@ -429,7 +429,7 @@ module _ (claims· : Claims) where
     module _ (M : Type 1) where
       abbrev pub Closed : Type 2
       Closed = (𝓤 : URA.URA M) (H : Wp.Heap 𝓤) (A : Atoms.Atoms 𝓤) (W : Kit.Given 𝓤 H A) (𝓣 : Wp.Tables 𝓤 H) (known0 : Plain.Known 𝓤 H A W 𝓣 1 ps·0 r·0
-          (claims· .0) (claims· .1) "node_records::get_writer_record") (known1 : Plain.Known 𝓤 H A W 𝓣 0 ps·1 r·1 (claims· .2) (claims· .3)
+          (claims· .0) (claims· .1) "record_tables::get_writer_record") (known1 : Plain.Known 𝓤 H A W 𝓣 0 ps·1 r·1 (claims· .2) (claims· .3)
           "writer_records::is_node") (known2 : Plain.Known 𝓤 H A W 𝓣 1 ps·2 r·2 (claims· .4) (claims· .5) "unique_table::search_from") → Statement.Triple 𝓤
           (Wp.WpFn 𝓤 H (𝓣 .C) (𝓣 .Λ) (Function.fnOf 1 ps r xs m hs body)) (Function.plainOf 𝓤 H A 1 ps r Pre· Post·)
     module _ where
@@ -547,7 +547,7 @@ module _ (claims· : Claims) where
       Φ = at54
       module _ {M : Type 1} (𝓤 : URA.URA M) (H : Wp.Heap 𝓤) (A : Atoms.Atoms 𝓤) (W : Kit.Given 𝓤 H A) (𝓣 : Wp.Tables 𝓤 H) where
         abbrev Knowns : Type 1
-        Knowns = Plain.Known 𝓤 H A W 𝓣 1 ps·0 r·0 (claims· .0) (claims· .1) "node_records::get_writer_record" × Plain.Known 𝓤 H A W 𝓣 0 ps·1 r·1 (claims· .2)
+        Knowns = Plain.Known 𝓤 H A W 𝓣 1 ps·0 r·0 (claims· .0) (claims· .1) "record_tables::get_writer_record" × Plain.Known 𝓤 H A W 𝓣 0 ps·1 r·1 (claims· .2)
             (claims· .3) "writer_records::is_node" × Plain.Known 𝓤 H A W 𝓣 1 ps·2 r·2 (claims· .4) (claims· .5) "unique_table::search_from"
       module _ (κs : Lifetimes.Lfts 1) (qs : Lifetimes.Shares 1) where
         abbrev K0 : Row.Life
@@ -819,7 +819,7 @@ module _ (claims· : Claims) where
               Syntax.w32), Path'.refl), tt))))) (Reads'.room-gone 𝓤 H A Syntax.tyBool) tt Path'.refl) d48
           d50 : Typed.Typed 𝓤 H A 𝓣 E G14 b26 Δ0 at50
           d50 = Typed.s-seq 𝓤 H A W 𝓣 E G14 G24 b12 b25 Δ0 (Typed.both s20) at49 (Plain.t-call-plain 𝓤 H A W 𝓣 1 ps·0 r·0 (claims· .0) (claims· .1)
-              "node_records::get_writer_record" (known .0) E (λ pos β. β) G14 (record { pos = 1; ty = y2; ref = λ x. x }, (Num.vAt 3 λ x. x, tt)) 8 (0 ∷ [])
+              "record_tables::get_writer_record" (known .0) E (λ pos β. β) G14 (record { pos = 1; ty = y2; ref = λ x. x }, (Num.vAt 3 λ x. x, tt)) 8 (0 ∷ [])
               (Call.sub-id 𝓤 H A W (G14 .slots)) (ShrSlice.spares-sslice 𝓤 H A W WriterRecordT.row y2 0, Shared.reads-sslice 𝓤 H A W WriterRecordT.row y2 0,
               Path'.refl, ((Scalar.reads-sc 𝓤 H A W (Row.sInt Syntax.w32), Path'.refl), tt)) (Reads'.room-gone 𝓤 H A y1) (tt, tt) Path'.refl) d49
           d51 : Typed.Typed 𝓤 H A 𝓣 E G13 b27 Δ0 at51
@@ -1105,7 +1105,7 @@ module _ (claims· : Claims) where
               .1 .0 .1 }; i = record { fits = good .1 .1 .1 .0 .1 }; a = record { fits = good .1 .1 .1 .1 .0 .1 }; b = record { fits = good .1 .1 .1 .1 .1 .0
               .1 }; c = record { fits = good .1 .1 .1 .1 .1 .1 .0 .1 } }; pre = pre }
         module _ {M : Type 1} (𝓤 : URA.URA M) (H : Wp.Heap 𝓤) (A : Atoms.Atoms 𝓤) (W : Kit.Given 𝓤 H A) (𝓣 : Wp.Tables 𝓤 H) (known0 : Plain.Known 𝓤 H A W 𝓣 1
-            ps·0 r·0 (claims· .0) (claims· .1) "node_records::get_writer_record") (known1 : Plain.Known 𝓤 H A W 𝓣 0 ps·1 r·1 (claims· .2) (claims· .3)
+            ps·0 r·0 (claims· .0) (claims· .1) "record_tables::get_writer_record") (known1 : Plain.Known 𝓤 H A W 𝓣 0 ps·1 r·1 (claims· .2) (claims· .3)
             "writer_records::is_node") (known2 : Plain.Known 𝓤 H A W 𝓣 1 ps·2 r·2 (claims· .4) (claims· .5) "unique_table::search_from") where
           pub spec : Statement.Triple 𝓤 (Wp.WpFn 𝓤 H (𝓣 .C) (𝓣 .Λ) (Function.fnOf 1 ps r xs m hs body)) (Function.plainOf 𝓤 H A 1 ps r Pre· Post·)
           spec = Plain.t-fn-plain 𝓤 H A W 𝓣 1 ps r xs m hs body (λ κs qs bs. Φ) (λ κs qs bs bd. typed κs qs 𝓤 H A W 𝓣 (known0, known1, known2) bs bd) Pre·

@@ -1,5 +1,5 @@
 -- Generated: how the theorem of search_from, which calls itself, closes.
--- From 2a7436110a0a6637, as f72de8d2d76b602a.
+-- From 47d771535d58e2a3, as e6741dd850b62cb9.
 use Prim.Native.Nat.{ℕ, _<_}
 use borrow.Fn.Kinds.{In}
 use borrow.Fn.PlainCycle
@@ -13,9 +13,9 @@ use lib.Cycle
 use lib.NonEmpty
 use prog.Model
 use prog.Wp
-use Rattle.node_records.proofs.Lifted.get_writer_record as get-writer-record-reads
-use Rattle.node_records.proofs.get_writer_record.Met as get-writer-record-met
-use Rattle.node_records.proofs.get_writer_record.Symbol as get-writer-record-symbol
+use Rattle.record_tables.proofs.Lifted.get_writer_record as get-writer-record-reads
+use Rattle.record_tables.proofs.get_writer_record.Met as get-writer-record-met
+use Rattle.record_tables.proofs.get_writer_record.Symbol as get-writer-record-symbol
 use Rattle.writer_records.proofs.is_node.Reads as is-node-reads
 use Rattle.writer_records.proofs.is_node.Met as is-node-met
 use Rattle.writer_records.proofs.is_node.Symbol as is-node-symbol
@@ -45,7 +45,7 @@ module _ (μ : PlainCycle.Measures 1 self.ps ℕ) where
         PlainCycle.at-measure-plain 𝓤 H (𝓖 .A) 1 self.ps self.r self.Pre self.Post μ (𝓡 .run code.search-from-routine) t
         (PlainRun.plain-entry 𝓤 H 𝓜 𝓖 𝓡 code.env 1 self.ps self.r (here t) self.Post Key.name code.search-from-function (code.search-from-unfolded 𝓤 H 𝓜 𝓡)
         (closed t 𝓤 H (𝓖 .A) (Running.givenOf 𝓤 H 𝓜 𝓖) (Run.Over 𝓤 H 𝓜 𝓖 𝓡 code.env)
-        (get-writer-record-reads.known record { M = M; 𝓤 = 𝓤; H = H; 𝓜 = 𝓜; 𝓖 = 𝓖; 𝓡 = 𝓡 } code.env get-writer-record-symbol.name get-writer-record-symbol.routine code.calls-node-records·get-writer-record (get-writer-record-met.met 𝓤 H 𝓜 𝓖 𝓡))
+        (get-writer-record-reads.known record { M = M; 𝓤 = 𝓤; H = H; 𝓜 = 𝓜; 𝓖 = 𝓖; 𝓡 = 𝓡 } code.env get-writer-record-symbol.name get-writer-record-symbol.routine code.calls-record-tables·get-writer-record (get-writer-record-met.met 𝓤 H 𝓜 𝓖 𝓡))
         (is-node-reads.known record { M = M; 𝓤 = 𝓤; H = H; 𝓜 = 𝓜; 𝓖 = 𝓖; 𝓡 = 𝓡 } code.env is-node-symbol.name is-node-symbol.routine code.calls-writer-records·is-node (is-node-met.met 𝓤 H 𝓜 𝓖 𝓡))
         (PlainRun.plain-known 𝓤 H 𝓜 𝓖 𝓡 code.env 1 self.ps self.r (below t) self.Post Key.name code.search-from-routine code.calls-unique-table·search-from (PlainCycle.below-plain 𝓤 H (𝓖 .A) 1 self.ps self.r self.Pre self.Post μ (𝓡 .run code.search-from-routine) _<_ t smaller))))
 

@@ -1,5 +1,5 @@
 -- Generated: the derivation of a body.
--- From 2a7436110a0a6637, as 91b97bb89ceb7e79.
+-- From 47d771535d58e2a3, as 4b61b1e531cb30a4.
 use Prim.Native.Nat
 use Rattle.node_records.proofs.Tables.WriterRecord as WriterRecordT
 use Rattle.node_records.proofs.WriterRecord
@@ -219,7 +219,7 @@ b0 = Syntax.assign (Syntax.place 5 []) (Syntax.addrOf (Syntax.place 1 ((Syntax.f
 abbrev b1 : Syntax.Body
 b1 = Syntax.assign (Syntax.place 6 []) (Syntax.aggregate ((Syntax.copy (Syntax.place 5 [])) ∷ (Syntax.copy (Syntax.place 1 ((Syntax.field 1) ∷ []))) ∷ []))
 abbrev b2 : Syntax.Body
-b2 = Syntax.call "node_records::get_writer_record" ((Syntax.copy (Syntax.place 6 [])) ∷ (Syntax.copy (Syntax.place 3 [])) ∷ []) (Syntax.place 4 [])
+b2 = Syntax.call "record_tables::get_writer_record" ((Syntax.copy (Syntax.place 6 [])) ∷ (Syntax.copy (Syntax.place 3 [])) ∷ []) (Syntax.place 4 [])
 abbrev b3 : Syntax.Body
 b3 = Syntax.assign (Syntax.place 8 []) (Syntax.addrOf (Syntax.place 1 ((Syntax.field 0) ∷ (Syntax.deref WriterRecordT.value) ∷ [])))
 abbrev b4 : Syntax.Body
@@ -229,8 +229,8 @@ b5 = Syntax.call "writer_records::one_more" ((Syntax.copy (Syntax.place 4 ((Synt
 abbrev b6 : Syntax.Body
 b6 = Syntax.call "writer_records::with_parents" ((Syntax.copy (Syntax.place 4 [])) ∷ (Syntax.copy (Syntax.place 11 [])) ∷ []) (Syntax.place 10 [])
 abbrev b7 : Syntax.Body
-b7 = Syntax.call "node_records::put_writer_record" ((Syntax.copy (Syntax.place 9 [])) ∷ (Syntax.copy (Syntax.place 3 [])) ∷ (Syntax.copy (Syntax.place 10 []))
-    ∷ []) (Syntax.place 7 [])
+b7 = Syntax.call "record_tables::put_writer_record" ((Syntax.copy (Syntax.place 9 [])) ∷ (Syntax.copy (Syntax.place 3 [])) ∷ (Syntax.copy (Syntax.place 10
+    [])) ∷ []) (Syntax.place 7 [])
 abbrev b8 : Syntax.Body
 b8 = Syntax.assign (Syntax.place 12 []) (Syntax.op2 Syntax.eq (Syntax.copy (Syntax.place 3 [])) (Syntax.int Syntax.w32 0))
 abbrev b9 : Syntax.Body
@@ -514,9 +514,9 @@ module _ (claims· : Claims) where
     module _ (M : Type 1) where
       abbrev pub Closed : Type 2
       Closed = (𝓤 : URA.URA M) (H : Wp.Heap 𝓤) (A : Atoms.Atoms 𝓤) (W : Kit.Given 𝓤 H A) (𝓣 : Wp.Tables 𝓤 H) (known0 : Plain.Known 𝓤 H A W 𝓣 1 ps·0 r·0
-          (claims· .0) (claims· .1) "node_records::get_writer_record") (known1 : Plain.Known 𝓤 H A W 𝓣 0 ps·1 r·1 (claims· .2) (claims· .3)
+          (claims· .0) (claims· .1) "record_tables::get_writer_record") (known1 : Plain.Known 𝓤 H A W 𝓣 0 ps·1 r·1 (claims· .2) (claims· .3)
           "writer_records::one_more") (known2 : Plain.Known 𝓤 H A W 𝓣 0 ps·2 r·2 (claims· .4) (claims· .5) "writer_records::with_parents") (known3 :
-          Plain.Known 𝓤 H A W 𝓣 1 ps·3 r·3 (claims· .6) (claims· .7) "node_records::put_writer_record") (known4 : Plain.Known 𝓤 H A W 𝓣 1 ps·4 r·4 (claims·
+          Plain.Known 𝓤 H A W 𝓣 1 ps·3 r·3 (claims· .6) (claims· .7) "record_tables::put_writer_record") (known4 : Plain.Known 𝓤 H A W 𝓣 1 ps·4 r·4 (claims·
           .8) (claims· .9) "unique_table::unlink") → Statement.Triple 𝓤 (Wp.WpFn 𝓤 H (𝓣 .C) (𝓣 .Λ) (Function.fnOf 1 ps r xs m hs body)) (Function.plainOf 𝓤 H
           A 1 ps r Pre· Post·)
     module _ where
@@ -630,9 +630,9 @@ module _ (claims· : Claims) where
       Φ = at52
       module _ {M : Type 1} (𝓤 : URA.URA M) (H : Wp.Heap 𝓤) (A : Atoms.Atoms 𝓤) (W : Kit.Given 𝓤 H A) (𝓣 : Wp.Tables 𝓤 H) where
         abbrev Knowns : Type 1
-        Knowns = Plain.Known 𝓤 H A W 𝓣 1 ps·0 r·0 (claims· .0) (claims· .1) "node_records::get_writer_record" × Plain.Known 𝓤 H A W 𝓣 0 ps·1 r·1 (claims· .2)
+        Knowns = Plain.Known 𝓤 H A W 𝓣 1 ps·0 r·0 (claims· .0) (claims· .1) "record_tables::get_writer_record" × Plain.Known 𝓤 H A W 𝓣 0 ps·1 r·1 (claims· .2)
             (claims· .3) "writer_records::one_more" × Plain.Known 𝓤 H A W 𝓣 0 ps·2 r·2 (claims· .4) (claims· .5) "writer_records::with_parents" × Plain.Known
-            𝓤 H A W 𝓣 1 ps·3 r·3 (claims· .6) (claims· .7) "node_records::put_writer_record" × Plain.Known 𝓤 H A W 𝓣 1 ps·4 r·4 (claims· .8) (claims· .9)
+            𝓤 H A W 𝓣 1 ps·3 r·3 (claims· .6) (claims· .7) "record_tables::put_writer_record" × Plain.Known 𝓤 H A W 𝓣 1 ps·4 r·4 (claims· .8) (claims· .9)
             "unique_table::unlink"
       module _ (κs : Lifetimes.Lfts 1) (qs : Lifetimes.Shares 1) where
         abbrev K0 : Row.Life
@@ -935,7 +935,7 @@ module _ (claims· : Claims) where
               Row.sUnit)) d36
           d38 : Typed.Typed 𝓤 H A 𝓣 E G15 b31 Δ0 at38
           d38 = Typed.s-seq 𝓤 H A W 𝓣 E G15 G16 b7 b30 Δ0 (Typed.both s14) at37 (Plain.t-call-plain 𝓤 H A W 𝓣 1 ps·3 r·3 (claims· .6) (claims· .7)
-              "node_records::put_writer_record" (known .3) E (λ pos β. β) G15 (record { pos = 9; ty = y5; ref = λ x. x }, (Num.vAt 3 λ x. x, (record { pos =
+              "record_tables::put_writer_record" (known .3) E (λ pos β. β) G15 (record { pos = 9; ty = y5; ref = λ x. x }, (Num.vAt 3 λ x. x, (record { pos =
               10; st = []; d = 0; at = λ x. x }, tt))) 7 (2 ∷ []) (Call.sub-id 𝓤 H A W (G15 .slots)) (Reads'.as-is 𝓤 H A (Mut.mslice WriterRecordT.row y5 2),
               Mut.reads-mslice 𝓤 H A W WriterRecordT.row y5 2, Path'.refl, ((Scalar.reads-sc 𝓤 H A W (Row.sInt Syntax.w32), Path'.refl), ((Yields.yields-copy
               𝓤 H A W (λ ρ. Unit) (Declared.row WriterRecord.the-type) Path'.refl (Copies.cStruct WriterRecord.the-type Laws.the-laws Laws.the-copy .copy 𝓤 H
@@ -981,7 +981,7 @@ module _ (claims· : Claims) where
               y2 1)) d47
           d49 : Typed.Typed 𝓤 H A 𝓣 E G4 b36 Δ0 at49
           d49 = Typed.s-seq 𝓤 H A W 𝓣 E G4 G5 b2 b35 Δ0 (Typed.both s3) at48 (Plain.t-call-plain 𝓤 H A W 𝓣 1 ps·0 r·0 (claims· .0) (claims· .1)
-              "node_records::get_writer_record" (known .0) E (λ pos β. β) G4 (record { pos = 6; ty = y2; ref = λ x. x }, (Num.vAt 3 λ x. x, tt)) 4 (1 ∷ [])
+              "record_tables::get_writer_record" (known .0) E (λ pos β. β) G4 (record { pos = 6; ty = y2; ref = λ x. x }, (Num.vAt 3 λ x. x, tt)) 4 (1 ∷ [])
               (Call.sub-id 𝓤 H A W (G4 .slots)) (ShrSlice.spares-sslice 𝓤 H A W WriterRecordT.row y2 1, Shared.reads-sslice 𝓤 H A W WriterRecordT.row y2 1,
               Path'.refl, ((Scalar.reads-sc 𝓤 H A W (Row.sInt Syntax.w32), Path'.refl), tt)) (Reads'.room-gone 𝓤 H A y1) (tt, tt) Path'.refl) d48
           d50 : Typed.Typed 𝓤 H A 𝓣 E G3 b37 Δ0 at50
@@ -1336,9 +1336,9 @@ module _ (claims· : Claims) where
           asked = λ a good pre bs. laid record { κs = κs; args = record { t = a .0; e = a .1 .0; c = a .1 .1 .0 }; good = good; fits = record { c = record {
               fits = good .1 .1 .0 .1 } }; pre = pre }
         module _ {M : Type 1} (𝓤 : URA.URA M) (H : Wp.Heap 𝓤) (A : Atoms.Atoms 𝓤) (W : Kit.Given 𝓤 H A) (𝓣 : Wp.Tables 𝓤 H) (known0 : Plain.Known 𝓤 H A W 𝓣 1
-            ps·0 r·0 (claims· .0) (claims· .1) "node_records::get_writer_record") (known1 : Plain.Known 𝓤 H A W 𝓣 0 ps·1 r·1 (claims· .2) (claims· .3)
+            ps·0 r·0 (claims· .0) (claims· .1) "record_tables::get_writer_record") (known1 : Plain.Known 𝓤 H A W 𝓣 0 ps·1 r·1 (claims· .2) (claims· .3)
             "writer_records::one_more") (known2 : Plain.Known 𝓤 H A W 𝓣 0 ps·2 r·2 (claims· .4) (claims· .5) "writer_records::with_parents") (known3 :
-            Plain.Known 𝓤 H A W 𝓣 1 ps·3 r·3 (claims· .6) (claims· .7) "node_records::put_writer_record") (known4 : Plain.Known 𝓤 H A W 𝓣 1 ps·4 r·4 (claims·
+            Plain.Known 𝓤 H A W 𝓣 1 ps·3 r·3 (claims· .6) (claims· .7) "record_tables::put_writer_record") (known4 : Plain.Known 𝓤 H A W 𝓣 1 ps·4 r·4 (claims·
             .8) (claims· .9) "unique_table::unlink") where
           pub spec : Statement.Triple 𝓤 (Wp.WpFn 𝓤 H (𝓣 .C) (𝓣 .Λ) (Function.fnOf 1 ps r xs m hs body)) (Function.plainOf 𝓤 H A 1 ps r Pre· Post·)
           spec = Plain.t-fn-plain 𝓤 H A W 𝓣 1 ps r xs m hs body (λ κs qs bs. Φ) (λ κs qs bs bd. typed κs qs 𝓤 H A W 𝓣 (known0, known1, known2, known3, known4)

@@ -1,5 +1,5 @@
 -- Generated: the derivation of a body.
--- From 2a7436110a0a6637, as 535e8a9537d5f07f.
+-- From 47d771535d58e2a3, as 25883c7bef8a2d5a.
 use Prim.Native.Nat
 use Rattle.node_records.proofs.Tables.WriterRecord as WriterRecordT
 use Rattle.node_records.proofs.WriterRecord
@@ -118,7 +118,7 @@ abbrev b0 : Syntax.Body
 b0 = Syntax.call "writer_records::bucket" ((Syntax.copy (Syntax.place 3 [])) ∷ (Syntax.copy (Syntax.place 4 [])) ∷ (Syntax.copy (Syntax.place 5 [])) ∷
     (Syntax.copy (Syntax.place 6 [])) ∷ []) (Syntax.place 8 [])
 abbrev b1 : Syntax.Body
-b1 = Syntax.call "node_records::get_writer_record" ((Syntax.copy (Syntax.place 1 [])) ∷ (Syntax.copy (Syntax.place 8 [])) ∷ []) (Syntax.place 7 [])
+b1 = Syntax.call "record_tables::get_writer_record" ((Syntax.copy (Syntax.place 1 [])) ∷ (Syntax.copy (Syntax.place 8 [])) ∷ []) (Syntax.place 7 [])
 abbrev b2 : Syntax.Body
 b2 = Syntax.call "unique_table::search_from" ((Syntax.copy (Syntax.place 1 [])) ∷ (Syntax.copy (Syntax.place 2 [])) ∷ (Syntax.copy (Syntax.place 7
     ((Syntax.field 10) ∷ []))) ∷ (Syntax.copy (Syntax.place 3 [])) ∷ (Syntax.copy (Syntax.place 4 [])) ∷ (Syntax.copy (Syntax.place 5 [])) ∷ (Syntax.copy
@@ -212,7 +212,7 @@ module _ (claims· : Claims) where
       abbrev pub Closed : Type 2
       Closed = (𝓤 : URA.URA M) (H : Wp.Heap 𝓤) (A : Atoms.Atoms 𝓤) (W : Kit.Given 𝓤 H A) (𝓣 : Wp.Tables 𝓤 H) (known0 : Plain.Known 𝓤 H A W 𝓣 0 ps·0 r·0
           (claims· .0) (claims· .1) "writer_records::bucket") (known1 : Plain.Known 𝓤 H A W 𝓣 1 ps·1 r·1 (claims· .2) (claims· .3)
-          "node_records::get_writer_record") (known2 : Plain.Known 𝓤 H A W 𝓣 1 ps·2 r·2 (claims· .4) (claims· .5) "unique_table::search_from") →
+          "record_tables::get_writer_record") (known2 : Plain.Known 𝓤 H A W 𝓣 1 ps·2 r·2 (claims· .4) (claims· .5) "unique_table::search_from") →
           Statement.Triple 𝓤 (Wp.WpFn 𝓤 H (𝓣 .C) (𝓣 .Λ) (Function.fnOf 1 ps r xs m hs body)) (Function.plainOf 𝓤 H A 1 ps r Pre· Post·)
     module _ where
       abbrev at0 : Typed.TF T11 O0
@@ -242,7 +242,7 @@ module _ (claims· : Claims) where
       module _ {M : Type 1} (𝓤 : URA.URA M) (H : Wp.Heap 𝓤) (A : Atoms.Atoms 𝓤) (W : Kit.Given 𝓤 H A) (𝓣 : Wp.Tables 𝓤 H) where
         abbrev Knowns : Type 1
         Knowns = Plain.Known 𝓤 H A W 𝓣 0 ps·0 r·0 (claims· .0) (claims· .1) "writer_records::bucket" × Plain.Known 𝓤 H A W 𝓣 1 ps·1 r·1 (claims· .2) (claims·
-            .3) "node_records::get_writer_record" × Plain.Known 𝓤 H A W 𝓣 1 ps·2 r·2 (claims· .4) (claims· .5) "unique_table::search_from"
+            .3) "record_tables::get_writer_record" × Plain.Known 𝓤 H A W 𝓣 1 ps·2 r·2 (claims· .4) (claims· .5) "unique_table::search_from"
       module _ (κs : Lifetimes.Lfts 1) (qs : Lifetimes.Shares 1) where
         abbrev K0 : Row.Life
         K0 = Row.lease (κs .0) (qs .0)
@@ -312,7 +312,7 @@ module _ (claims· : Claims) where
               d7
           d9 : Typed.Typed 𝓤 H A 𝓣 E G2 b5 Δ0 at9
           d9 = Typed.s-seq 𝓤 H A W 𝓣 E G2 G3 b1 b4 Δ0 (Typed.both s1) at8 (Plain.t-call-plain 𝓤 H A W 𝓣 1 ps·1 r·1 (claims· .2) (claims· .3)
-              "node_records::get_writer_record" (known .1) E (λ pos β. β) G2 (record { pos = 1; ty = y2; ref = λ x. x }, (Num.vAt 8 λ x. x, tt)) 7 (0 ∷ [])
+              "record_tables::get_writer_record" (known .1) E (λ pos β. β) G2 (record { pos = 1; ty = y2; ref = λ x. x }, (Num.vAt 8 λ x. x, tt)) 7 (0 ∷ [])
               (Call.sub-id 𝓤 H A W (G2 .slots)) (ShrSlice.spares-sslice 𝓤 H A W WriterRecordT.row y2 0, Shared.reads-sslice 𝓤 H A W WriterRecordT.row y2 0,
               Path'.refl, ((Scalar.reads-sc 𝓤 H A W (Row.sInt Syntax.w32), Path'.refl), tt)) (Reads'.room-gone 𝓤 H A y1) (tt, tt) Path'.refl) d8
           d10 : Typed.Typed 𝓤 H A 𝓣 E G0 b6 Δ0 at10
@@ -439,7 +439,7 @@ module _ (claims· : Claims) where
               fits = good .1 .1 .1 .0 .1 }; b = record { fits = good .1 .1 .1 .1 .0 .1 }; c = record { fits = good .1 .1 .1 .1 .1 .0 .1 } }; pre = pre }
         module _ {M : Type 1} (𝓤 : URA.URA M) (H : Wp.Heap 𝓤) (A : Atoms.Atoms 𝓤) (W : Kit.Given 𝓤 H A) (𝓣 : Wp.Tables 𝓤 H) (known0 : Plain.Known 𝓤 H A W 𝓣 0
             ps·0 r·0 (claims· .0) (claims· .1) "writer_records::bucket") (known1 : Plain.Known 𝓤 H A W 𝓣 1 ps·1 r·1 (claims· .2) (claims· .3)
-            "node_records::get_writer_record") (known2 : Plain.Known 𝓤 H A W 𝓣 1 ps·2 r·2 (claims· .4) (claims· .5) "unique_table::search_from") where
+            "record_tables::get_writer_record") (known2 : Plain.Known 𝓤 H A W 𝓣 1 ps·2 r·2 (claims· .4) (claims· .5) "unique_table::search_from") where
           pub spec : Statement.Triple 𝓤 (Wp.WpFn 𝓤 H (𝓣 .C) (𝓣 .Λ) (Function.fnOf 1 ps r xs m hs body)) (Function.plainOf 𝓤 H A 1 ps r Pre· Post·)
           spec = Plain.t-fn-plain 𝓤 H A W 𝓣 1 ps r xs m hs body (λ κs qs bs. Φ) (λ κs qs bs bd. typed κs qs 𝓤 H A W 𝓣 (known0, known1, known2) bs bd) Pre·
               Post· asked

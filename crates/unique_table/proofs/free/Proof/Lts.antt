@@ -1,5 +1,5 @@
 -- Generated: the derivation of a body.
--- From 2a7436110a0a6637, as b74efa55c63e7164.
+-- From 47d771535d58e2a3, as d1804a28619444bc.
 use Prim.Native.Nat
 use Rattle.node_records.proofs.Tables.WriterRecord as WriterRecordT
 use Rattle.node_records.proofs.WriterRecord
@@ -131,7 +131,7 @@ b4 = Syntax.skip
 abbrev b5 : Syntax.Body
 b5 = Syntax.cond (Syntax.copy (Syntax.place 6 [])) b3 b4
 abbrev b6 : Syntax.Body
-b6 = Syntax.call "node_records::get_writer_record" ((Syntax.copy (Syntax.place 1 [])) ∷ (Syntax.copy (Syntax.place 2 [])) ∷ []) (Syntax.place 7 [])
+b6 = Syntax.call "record_tables::get_writer_record" ((Syntax.copy (Syntax.place 1 [])) ∷ (Syntax.copy (Syntax.place 2 [])) ∷ []) (Syntax.place 7 [])
 abbrev b7 : Syntax.Body
 b7 = Syntax.call "writer_records::after_of" (Syntax.opdTrue ∷ (Syntax.copy (Syntax.place 7 [])) ∷ []) (Syntax.place 5 [])
 abbrev b8 : Syntax.Body
@@ -148,7 +148,7 @@ b12 = Syntax.skip
 abbrev b13 : Syntax.Body
 b13 = Syntax.cond (Syntax.copy (Syntax.place 8 [])) b11 b12
 abbrev b14 : Syntax.Body
-b14 = Syntax.call "node_records::get_writer_record" ((Syntax.copy (Syntax.place 1 [])) ∷ (Syntax.copy (Syntax.place 5 [])) ∷ []) (Syntax.place 7 [])
+b14 = Syntax.call "record_tables::get_writer_record" ((Syntax.copy (Syntax.place 1 [])) ∷ (Syntax.copy (Syntax.place 5 [])) ∷ []) (Syntax.place 7 [])
 abbrev b15 : Syntax.Body
 b15 = Syntax.call "writer_records::after_of" (Syntax.opdTrue ∷ (Syntax.copy (Syntax.place 7 [])) ∷ []) (Syntax.place 0 [])
 abbrev b16 : Syntax.Body
@@ -326,7 +326,7 @@ module _ (claims· : Claims) where
       abbrev pub Closed : Type 2
       Closed = (𝓤 : URA.URA M) (H : Wp.Heap 𝓤) (A : Atoms.Atoms 𝓤) (W : Kit.Given 𝓤 H A) (𝓣 : Wp.Tables 𝓤 H) (known0 : Plain.Known 𝓤 H A W 𝓣 0 ps·0 r·0
           (claims· .0) (claims· .1) "writer_records::is_free") (known1 : Plain.Known 𝓤 H A W 𝓣 1 ps·1 r·1 (claims· .2) (claims· .3)
-          "node_records::get_writer_record") (known2 : Plain.Known 𝓤 H A W 𝓣 0 ps·2 r·2 (claims· .4) (claims· .5) "writer_records::after_of") →
+          "record_tables::get_writer_record") (known2 : Plain.Known 𝓤 H A W 𝓣 0 ps·2 r·2 (claims· .4) (claims· .5) "writer_records::after_of") →
           Statement.Triple 𝓤 (Wp.WpFn 𝓤 H (𝓣 .C) (𝓣 .Λ) (Function.fnOf 1 ps r xs m hs body)) (Function.plainOf 𝓤 H A 1 ps r Pre· Post·)
     module _ where
       abbrev at0 : Typed.TF T8 O1
@@ -402,7 +402,7 @@ module _ (claims· : Claims) where
       module _ {M : Type 1} (𝓤 : URA.URA M) (H : Wp.Heap 𝓤) (A : Atoms.Atoms 𝓤) (W : Kit.Given 𝓤 H A) (𝓣 : Wp.Tables 𝓤 H) where
         abbrev Knowns : Type 1
         Knowns = Plain.Known 𝓤 H A W 𝓣 0 ps·0 r·0 (claims· .0) (claims· .1) "writer_records::is_free" × Plain.Known 𝓤 H A W 𝓣 1 ps·1 r·1 (claims· .2) (claims·
-            .3) "node_records::get_writer_record" × Plain.Known 𝓤 H A W 𝓣 0 ps·2 r·2 (claims· .4) (claims· .5) "writer_records::after_of"
+            .3) "record_tables::get_writer_record" × Plain.Known 𝓤 H A W 𝓣 0 ps·2 r·2 (claims· .4) (claims· .5) "writer_records::after_of"
       module _ (κs : Lifetimes.Lfts 1) (qs : Lifetimes.Shares 1) where
         abbrev K0 : Row.Life
         K0 = Row.lease (κs .0) (qs .0)
@@ -557,7 +557,7 @@ module _ (claims· : Claims) where
               Path'.refl), tt)) (Reads.room-gone 𝓤 H A y0) tt Path'.refl) d24
           d26 : Typed.Typed 𝓤 H A 𝓣 E G14 b18 Δ0 at26
           d26 = Typed.s-seq 𝓤 H A W 𝓣 E G14 G22 b14 b17 Δ0 (Typed.both s18) at25 (Plain.t-call-plain 𝓤 H A W 𝓣 1 ps·1 r·1 (claims· .2) (claims· .3)
-              "node_records::get_writer_record" (known .1) E (λ pos β. β) G14 (record { pos = 1; ty = y2; ref = λ x. x }, (Num.vAt 5 λ x. x, tt)) 7 (0 ∷ [])
+              "record_tables::get_writer_record" (known .1) E (λ pos β. β) G14 (record { pos = 1; ty = y2; ref = λ x. x }, (Num.vAt 5 λ x. x, tt)) 7 (0 ∷ [])
               (Call.sub-id 𝓤 H A W (G14 .slots)) (ShrSlice.spares-sslice 𝓤 H A W WriterRecordT.row y2 0, Shared.reads-sslice 𝓤 H A W WriterRecordT.row y2 0,
               Path'.refl, ((Scalar.reads-sc 𝓤 H A W (Row.sInt Syntax.w32), Path'.refl), tt)) (Reads.room-gone 𝓤 H A y1) (tt, tt) Path'.refl) d25
           d27 : Typed.Typed 𝓤 H A 𝓣 E G13 b19 Δ0 at27
@@ -579,7 +579,7 @@ module _ (claims· : Claims) where
               Path'.refl), tt)) (Reads.room-gone 𝓤 H A y0) tt Path'.refl) d29
           d31 : Typed.Typed 𝓤 H A 𝓣 E G3 b22 Δ0 at31
           d31 = Typed.s-seq 𝓤 H A W 𝓣 E G3 G10 b6 b21 Δ0 (Typed.both s7) at30 (Plain.t-call-plain 𝓤 H A W 𝓣 1 ps·1 r·1 (claims· .2) (claims· .3)
-              "node_records::get_writer_record" (known .1) E (λ pos β. β) G3 (record { pos = 1; ty = y2; ref = λ x. x }, (Num.vAt 2 λ x. x, tt)) 7 (0 ∷ [])
+              "record_tables::get_writer_record" (known .1) E (λ pos β. β) G3 (record { pos = 1; ty = y2; ref = λ x. x }, (Num.vAt 2 λ x. x, tt)) 7 (0 ∷ [])
               (Call.sub-id 𝓤 H A W (G3 .slots)) (ShrSlice.spares-sslice 𝓤 H A W WriterRecordT.row y2 0, Shared.reads-sslice 𝓤 H A W WriterRecordT.row y2 0,
               Path'.refl, ((Scalar.reads-sc 𝓤 H A W (Row.sInt Syntax.w32), Path'.refl), tt)) (Reads.room-gone 𝓤 H A y1) (tt, tt) Path'.refl) d30
           d32 : Typed.Typed 𝓤 H A 𝓣 E G2 b23 Δ0 at32
@@ -833,7 +833,7 @@ module _ (claims· : Claims) where
               record { x = record { fits = good .1 .0 .1 }; a = record { fits = good .1 .1 .0 .1 }; b = record { fits = good .1 .1 .1 .0 .1 } }; pre = pre }
         module _ {M : Type 1} (𝓤 : URA.URA M) (H : Wp.Heap 𝓤) (A : Atoms.Atoms 𝓤) (W : Kit.Given 𝓤 H A) (𝓣 : Wp.Tables 𝓤 H) (known0 : Plain.Known 𝓤 H A W 𝓣 0
             ps·0 r·0 (claims· .0) (claims· .1) "writer_records::is_free") (known1 : Plain.Known 𝓤 H A W 𝓣 1 ps·1 r·1 (claims· .2) (claims· .3)
-            "node_records::get_writer_record") (known2 : Plain.Known 𝓤 H A W 𝓣 0 ps·2 r·2 (claims· .4) (claims· .5) "writer_records::after_of") where
+            "record_tables::get_writer_record") (known2 : Plain.Known 𝓤 H A W 𝓣 0 ps·2 r·2 (claims· .4) (claims· .5) "writer_records::after_of") where
           pub spec : Statement.Triple 𝓤 (Wp.WpFn 𝓤 H (𝓣 .C) (𝓣 .Λ) (Function.fnOf 1 ps r xs m hs body)) (Function.plainOf 𝓤 H A 1 ps r Pre· Post·)
           spec = Plain.t-fn-plain 𝓤 H A W 𝓣 1 ps r xs m hs body (λ κs qs bs. Φ) (λ κs qs bs bd. typed κs qs 𝓤 H A W 𝓣 (known0, known1, known2) bs bd) Pre·
               Post· asked

@@ -1,5 +1,5 @@
 -- Generated: the derivation of a body.
--- From 2a7436110a0a6637, as 41c8b900700834a1.
+-- From 47d771535d58e2a3, as 72d78739fc80480d.
 use Prim.Native.Nat
 use Rattle.node_records.proofs.Tables.WriterRecord as WriterRecordT
 use Rattle.node_records.proofs.WriterRecord
@@ -249,7 +249,7 @@ b3 = Syntax.assign (Syntax.place 12 []) (Syntax.addrOf (Syntax.place 1 ((Syntax.
 abbrev b4 : Syntax.Body
 b4 = Syntax.assign (Syntax.place 13 []) (Syntax.aggregate ((Syntax.copy (Syntax.place 12 [])) ∷ (Syntax.copy (Syntax.place 1 ((Syntax.field 1) ∷ []))) ∷ []))
 abbrev b5 : Syntax.Body
-b5 = Syntax.call "node_records::get_writer_record" ((Syntax.copy (Syntax.place 13 [])) ∷ (Syntax.copy (Syntax.place 4 [])) ∷ []) (Syntax.place 11 [])
+b5 = Syntax.call "record_tables::get_writer_record" ((Syntax.copy (Syntax.place 13 [])) ∷ (Syntax.copy (Syntax.place 4 [])) ∷ []) (Syntax.place 11 [])
 abbrev b6 : Syntax.Body
 b6 = Syntax.call "writer_records::with_after" ((Syntax.copy (Syntax.place 2 [])) ∷ (Syntax.copy (Syntax.place 11 [])) ∷ (Syntax.int Syntax.w32 0) ∷ [])
     (Syntax.place 10 [])
@@ -257,7 +257,7 @@ abbrev b7 : Syntax.Body
 b7 = Syntax.call "writer_records::with_before" ((Syntax.copy (Syntax.place 2 [])) ∷ (Syntax.copy (Syntax.place 10 [])) ∷ (Syntax.copy (Syntax.place 5 [])) ∷
     []) (Syntax.place 9 [])
 abbrev b8 : Syntax.Body
-b8 = Syntax.call "node_records::put_writer_record" ((Syntax.copy (Syntax.place 8 [])) ∷ (Syntax.copy (Syntax.place 4 [])) ∷ (Syntax.copy (Syntax.place 9 []))
+b8 = Syntax.call "record_tables::put_writer_record" ((Syntax.copy (Syntax.place 8 [])) ∷ (Syntax.copy (Syntax.place 4 [])) ∷ (Syntax.copy (Syntax.place 9 []))
     ∷ []) (Syntax.place 6 [])
 abbrev b9 : Syntax.Body
 b9 = Syntax.assign (Syntax.place 14 []) (Syntax.addrOf (Syntax.place 1 ((Syntax.field 0) ∷ (Syntax.deref WriterRecordT.value) ∷ [])))
@@ -268,12 +268,12 @@ b11 = Syntax.assign (Syntax.place 16 []) (Syntax.addrOf (Syntax.place 1 ((Syntax
 abbrev b12 : Syntax.Body
 b12 = Syntax.assign (Syntax.place 17 []) (Syntax.aggregate ((Syntax.copy (Syntax.place 16 [])) ∷ (Syntax.copy (Syntax.place 1 ((Syntax.field 1) ∷ []))) ∷ []))
 abbrev b13 : Syntax.Body
-b13 = Syntax.call "node_records::get_writer_record" ((Syntax.copy (Syntax.place 17 [])) ∷ (Syntax.copy (Syntax.place 5 [])) ∷ []) (Syntax.place 10 [])
+b13 = Syntax.call "record_tables::get_writer_record" ((Syntax.copy (Syntax.place 17 [])) ∷ (Syntax.copy (Syntax.place 5 [])) ∷ []) (Syntax.place 10 [])
 abbrev b14 : Syntax.Body
 b14 = Syntax.call "writer_records::with_after" ((Syntax.copy (Syntax.place 2 [])) ∷ (Syntax.copy (Syntax.place 10 [])) ∷ (Syntax.copy (Syntax.place 4 [])) ∷
     []) (Syntax.place 11 [])
 abbrev b15 : Syntax.Body
-b15 = Syntax.call "node_records::put_writer_record" ((Syntax.copy (Syntax.place 15 [])) ∷ (Syntax.copy (Syntax.place 5 [])) ∷ (Syntax.copy (Syntax.place 11
+b15 = Syntax.call "record_tables::put_writer_record" ((Syntax.copy (Syntax.place 15 [])) ∷ (Syntax.copy (Syntax.place 5 [])) ∷ (Syntax.copy (Syntax.place 11
     [])) ∷ []) (Syntax.place 6 [])
 abbrev b16 : Syntax.Body
 b16 = Syntax.assign (Syntax.place 19 []) (Syntax.op2 Syntax.eq (Syntax.copy (Syntax.place 5 [])) (Syntax.int Syntax.w32 0))
@@ -502,9 +502,9 @@ module _ (claims· : Claims) where
     module _ (M : Type 1) where
       abbrev pub Closed : Type 2
       Closed = (𝓤 : URA.URA M) (H : Wp.Heap 𝓤) (A : Atoms.Atoms 𝓤) (W : Kit.Given 𝓤 H A) (𝓣 : Wp.Tables 𝓤 H) (known0 : Plain.Known 𝓤 H A W 𝓣 1 ps·0 r·0
-          (claims· .0) (claims· .1) "node_records::get_writer_record") (known1 : Plain.Known 𝓤 H A W 𝓣 0 ps·1 r·1 (claims· .2) (claims· .3)
+          (claims· .0) (claims· .1) "record_tables::get_writer_record") (known1 : Plain.Known 𝓤 H A W 𝓣 0 ps·1 r·1 (claims· .2) (claims· .3)
           "writer_records::with_after") (known2 : Plain.Known 𝓤 H A W 𝓣 0 ps·2 r·2 (claims· .4) (claims· .5) "writer_records::with_before") (known3 :
-          Plain.Known 𝓤 H A W 𝓣 1 ps·3 r·3 (claims· .6) (claims· .7) "node_records::put_writer_record") (known4 : Plain.Known 𝓤 H A W 𝓣 0 ps·4 r·4 (claims·
+          Plain.Known 𝓤 H A W 𝓣 1 ps·3 r·3 (claims· .6) (claims· .7) "record_tables::put_writer_record") (known4 : Plain.Known 𝓤 H A W 𝓣 0 ps·4 r·4 (claims·
           .8) (claims· .9) "writer_records::either") → Statement.Triple 𝓤 (Wp.WpFn 𝓤 H (𝓣 .C) (𝓣 .Λ) (Function.fnOf 1 ps r xs m hs body)) (Function.plainOf 𝓤
           H A 1 ps r Pre· Post·)
     module _ where
@@ -616,9 +616,9 @@ module _ (claims· : Claims) where
       Φ = at51
       module _ {M : Type 1} (𝓤 : URA.URA M) (H : Wp.Heap 𝓤) (A : Atoms.Atoms 𝓤) (W : Kit.Given 𝓤 H A) (𝓣 : Wp.Tables 𝓤 H) where
         abbrev Knowns : Type 1
-        Knowns = Plain.Known 𝓤 H A W 𝓣 1 ps·0 r·0 (claims· .0) (claims· .1) "node_records::get_writer_record" × Plain.Known 𝓤 H A W 𝓣 0 ps·1 r·1 (claims· .2)
+        Knowns = Plain.Known 𝓤 H A W 𝓣 1 ps·0 r·0 (claims· .0) (claims· .1) "record_tables::get_writer_record" × Plain.Known 𝓤 H A W 𝓣 0 ps·1 r·1 (claims· .2)
             (claims· .3) "writer_records::with_after" × Plain.Known 𝓤 H A W 𝓣 0 ps·2 r·2 (claims· .4) (claims· .5) "writer_records::with_before" × Plain.Known
-            𝓤 H A W 𝓣 1 ps·3 r·3 (claims· .6) (claims· .7) "node_records::put_writer_record" × Plain.Known 𝓤 H A W 𝓣 0 ps·4 r·4 (claims· .8) (claims· .9)
+            𝓤 H A W 𝓣 1 ps·3 r·3 (claims· .6) (claims· .7) "record_tables::put_writer_record" × Plain.Known 𝓤 H A W 𝓣 0 ps·4 r·4 (claims· .8) (claims· .9)
             "writer_records::either"
       module _ (κs : Lifetimes.Lfts 1) (qs : Lifetimes.Shares 1) where
         abbrev K0 : Row.Life
@@ -774,8 +774,8 @@ module _ (claims· : Claims) where
               t1 l10) 6 Syntax.tyUnit (Scalar.room-sc 𝓤 H A W Row.sUnit)) d14
           d16 : Typed.Typed 𝓤 H A 𝓣 E (gx g26 t1 l10) b23 Δ0 at16
           d16 = Typed.s-seq 𝓤 H A W 𝓣 E (gx g26 t1 l10) (gx g27 t1 l10) b15 b22 Δ0 (Typed.both s35) at15 (Plain.t-call-plain 𝓤 H A W 𝓣 1 ps·3 r·3 (claims· .6)
-              (claims· .7) "node_records::put_writer_record" (known .3) E (λ pos β. β) (gx g26 t1 l10) (record { pos = 15; ty = y1; ref = λ x. x }, (Num.vAt 5
-              λ x. x, (record { pos = 11; st = []; d = 0; at = λ x. x }, tt))) 6 (3 ∷ []) (Call.sub-id 𝓤 H A W ((gx g26 t1 l10) .slots)) (Reads'.as-is 𝓤 H A
+              (claims· .7) "record_tables::put_writer_record" (known .3) E (λ pos β. β) (gx g26 t1 l10) (record { pos = 15; ty = y1; ref = λ x. x }, (Num.vAt
+              5 λ x. x, (record { pos = 11; st = []; d = 0; at = λ x. x }, tt))) 6 (3 ∷ []) (Call.sub-id 𝓤 H A W ((gx g26 t1 l10) .slots)) (Reads'.as-is 𝓤 H A
               (Mut.mslice WriterRecordT.row y1 3), Mut.reads-mslice 𝓤 H A W WriterRecordT.row y1 3, Path'.refl, ((Scalar.reads-sc 𝓤 H A W (Row.sInt
               Syntax.w32), Path'.refl), ((Yields.yields-copy 𝓤 H A W (λ ρ. Unit) (Declared.row WriterRecord.the-type) Path'.refl (Copies.cStruct
               WriterRecord.the-type Laws.the-laws Laws.the-copy .copy 𝓤 H A W) (Rows.whole (Declared.row WriterRecord.the-type)) (λ x. x) (λ x. x) (λ ρ told.
@@ -806,7 +806,7 @@ module _ (claims· : Claims) where
               g23 t22 l12) 17 y6 (Shared.room-sslice 𝓤 H A W WriterRecordT.row y5 4)) d21
           d23 : Typed.Typed 𝓤 H A 𝓣 E (gx g20 t22 l12) b25 Δ0 at23
           d23 = Typed.s-seq 𝓤 H A W 𝓣 E (gx g20 t22 l12) (gx g23 t22 l12) b13 b24 Δ0 (Typed.both s28) at22 (Plain.t-call-plain 𝓤 H A W 𝓣 1 ps·0 r·0 (claims·
-              .0) (claims· .1) "node_records::get_writer_record" (known .0) E (λ pos β. β) (gx g20 t22 l12) (record { pos = 17; ty = y5; ref = λ x. x },
+              .0) (claims· .1) "record_tables::get_writer_record" (known .0) E (λ pos β. β) (gx g20 t22 l12) (record { pos = 17; ty = y5; ref = λ x. x },
               (Num.vAt 5 λ x. x, tt)) 10 (4 ∷ []) (Call.sub-id 𝓤 H A W ((gx g20 t22 l12) .slots)) (ShrSlice.spares-sslice 𝓤 H A W WriterRecordT.row y5 4,
               Shared.reads-sslice 𝓤 H A W WriterRecordT.row y5 4, Path'.refl, ((Scalar.reads-sc 𝓤 H A W (Row.sInt Syntax.w32), Path'.refl), tt))
               (Reads'.room-gone 𝓤 H A y4) (tt, tt) Path'.refl) d22
@@ -851,8 +851,8 @@ module _ (claims· : Claims) where
               l2) 6 Syntax.tyUnit (Scalar.room-sc 𝓤 H A W Row.sUnit)) d33
           d35 : Typed.Typed 𝓤 H A 𝓣 E (gx g14 t1 l2) b30 Δ0 at35
           d35 = Typed.s-seq 𝓤 H A W 𝓣 E (gx g14 t1 l2) (gx g15 t1 l2) b8 b29 Δ0 (Typed.both s16) at34 (Plain.t-call-plain 𝓤 H A W 𝓣 1 ps·3 r·3 (claims· .6)
-              (claims· .7) "node_records::put_writer_record" (known .3) E (λ pos β. β) (gx g14 t1 l2) (record { pos = 8; ty = y1; ref = λ x. x }, (Num.vAt 4 λ
-              x. x, (record { pos = 9; st = []; d = 0; at = λ x. x }, tt))) 6 (1 ∷ []) (Call.sub-id 𝓤 H A W ((gx g14 t1 l2) .slots)) (Reads'.as-is 𝓤 H A
+              (claims· .7) "record_tables::put_writer_record" (known .3) E (λ pos β. β) (gx g14 t1 l2) (record { pos = 8; ty = y1; ref = λ x. x }, (Num.vAt 4
+              λ x. x, (record { pos = 9; st = []; d = 0; at = λ x. x }, tt))) 6 (1 ∷ []) (Call.sub-id 𝓤 H A W ((gx g14 t1 l2) .slots)) (Reads'.as-is 𝓤 H A
               (Mut.mslice WriterRecordT.row y1 1), Mut.reads-mslice 𝓤 H A W WriterRecordT.row y1 1, Path'.refl, ((Scalar.reads-sc 𝓤 H A W (Row.sInt
               Syntax.w32), Path'.refl), ((Yields.yields-copy 𝓤 H A W (λ ρ. Unit) (Declared.row WriterRecord.the-type) Path'.refl (Copies.cStruct
               WriterRecord.the-type Laws.the-laws Laws.the-copy .copy 𝓤 H A W) (Rows.whole (Declared.row WriterRecord.the-type)) (λ x. x) (λ x. x) (λ ρ told.
@@ -894,10 +894,10 @@ module _ (claims· : Claims) where
               13 y6 (Shared.room-sslice 𝓤 H A W WriterRecordT.row y5 2)) d42
           d44 : Typed.Typed 𝓤 H A 𝓣 E (gx g7 t1 l4) b33 Δ0 at44
           d44 = Typed.s-seq 𝓤 H A W 𝓣 E (gx g7 t1 l4) (gx g8 t1 l4) b5 b32 Δ0 (Typed.both s7) at43 (Plain.t-call-plain 𝓤 H A W 𝓣 1 ps·0 r·0 (claims· .0)
-              (claims· .1) "node_records::get_writer_record" (known .0) E (λ pos β. β) (gx g7 t1 l4) (record { pos = 13; ty = y5; ref = λ x. x }, (Num.vAt 4 λ
-              x. x, tt)) 11 (2 ∷ []) (Call.sub-id 𝓤 H A W ((gx g7 t1 l4) .slots)) (ShrSlice.spares-sslice 𝓤 H A W WriterRecordT.row y5 2, Shared.reads-sslice
-              𝓤 H A W WriterRecordT.row y5 2, Path'.refl, ((Scalar.reads-sc 𝓤 H A W (Row.sInt Syntax.w32), Path'.refl), tt)) (Reads'.room-gone 𝓤 H A y4) (tt,
-              tt) Path'.refl) d43
+              (claims· .1) "record_tables::get_writer_record" (known .0) E (λ pos β. β) (gx g7 t1 l4) (record { pos = 13; ty = y5; ref = λ x. x }, (Num.vAt 4
+              λ x. x, tt)) 11 (2 ∷ []) (Call.sub-id 𝓤 H A W ((gx g7 t1 l4) .slots)) (ShrSlice.spares-sslice 𝓤 H A W WriterRecordT.row y5 2,
+              Shared.reads-sslice 𝓤 H A W WriterRecordT.row y5 2, Path'.refl, ((Scalar.reads-sc 𝓤 H A W (Row.sInt Syntax.w32), Path'.refl), tt))
+              (Reads'.room-gone 𝓤 H A y4) (tt, tt) Path'.refl) d43
           d45 : Typed.Typed 𝓤 H A 𝓣 E (gx g6 t1 l4) b34 Δ0 at45
           d45 = Typed.s-seq 𝓤 H A W 𝓣 E (gx g6 t1 l4) (gx g7 t1 l4) b4 b33 Δ0 (Typed.ask s6) at44 (Relend.t-sl-aggregate 𝓤 H A W E WriterRecordT.row 𝓣
               (Relend.asShr WriterRecordT.row) (gx g6 t1 l4) 12 13 2 y5 y5 (λ x. x) (Scalar.oFld 1 ((Syntax.field 1) ∷ []) y2 8 λ v. Shared.lenV (v .0))
@@ -1265,9 +1265,9 @@ module _ (claims· : Claims) where
           asked = λ a good pre bs. laid record { κs = κs; args = record { t = a .0; queue = a .1 .0; e = a .1 .1 .0; k = a .1 .1 .1 .0 }; good = good; fits =
               record { k = record { fits = good .1 .1 .1 .0 .1 } }; pre = pre }
         module _ {M : Type 1} (𝓤 : URA.URA M) (H : Wp.Heap 𝓤) (A : Atoms.Atoms 𝓤) (W : Kit.Given 𝓤 H A) (𝓣 : Wp.Tables 𝓤 H) (known0 : Plain.Known 𝓤 H A W 𝓣 1
-            ps·0 r·0 (claims· .0) (claims· .1) "node_records::get_writer_record") (known1 : Plain.Known 𝓤 H A W 𝓣 0 ps·1 r·1 (claims· .2) (claims· .3)
+            ps·0 r·0 (claims· .0) (claims· .1) "record_tables::get_writer_record") (known1 : Plain.Known 𝓤 H A W 𝓣 0 ps·1 r·1 (claims· .2) (claims· .3)
             "writer_records::with_after") (known2 : Plain.Known 𝓤 H A W 𝓣 0 ps·2 r·2 (claims· .4) (claims· .5) "writer_records::with_before") (known3 :
-            Plain.Known 𝓤 H A W 𝓣 1 ps·3 r·3 (claims· .6) (claims· .7) "node_records::put_writer_record") (known4 : Plain.Known 𝓤 H A W 𝓣 0 ps·4 r·4 (claims·
+            Plain.Known 𝓤 H A W 𝓣 1 ps·3 r·3 (claims· .6) (claims· .7) "record_tables::put_writer_record") (known4 : Plain.Known 𝓤 H A W 𝓣 0 ps·4 r·4 (claims·
             .8) (claims· .9) "writer_records::either") where
           pub spec : Statement.Triple 𝓤 (Wp.WpFn 𝓤 H (𝓣 .C) (𝓣 .Λ) (Function.fnOf 1 ps r xs m hs body)) (Function.plainOf 𝓤 H A 1 ps r Pre· Post·)
           spec = Plain.t-fn-plain 𝓤 H A W 𝓣 1 ps r xs m hs body (λ κs qs bs. Φ) (λ κs qs bs bd. typed κs qs 𝓤 H A W 𝓣 (known0, known1, known2, known3, known4)

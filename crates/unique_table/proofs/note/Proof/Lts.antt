@@ -1,5 +1,5 @@
 -- Generated: the derivation of a body.
--- From 2a7436110a0a6637, as f40c12c5d8ff7c93.
+-- From 47d771535d58e2a3, as 0c33b02bdbf0bad5.
 use Prim.Native.Nat
 use Rattle.node_records.proofs.Tables.WriterRecord as WriterRecordT
 use Rattle.node_records.proofs.WriterRecord
@@ -179,13 +179,13 @@ b2 = Syntax.assign (Syntax.place 12 []) (Syntax.addrOf (Syntax.place 1 ((Syntax.
 abbrev b3 : Syntax.Body
 b3 = Syntax.assign (Syntax.place 13 []) (Syntax.aggregate ((Syntax.copy (Syntax.place 12 [])) ∷ (Syntax.copy (Syntax.place 1 ((Syntax.field 1) ∷ []))) ∷ []))
 abbrev b4 : Syntax.Body
-b4 = Syntax.call "node_records::get_writer_record" ((Syntax.copy (Syntax.place 13 [])) ∷ (Syntax.copy (Syntax.place 2 [])) ∷ []) (Syntax.place 11 [])
+b4 = Syntax.call "record_tables::get_writer_record" ((Syntax.copy (Syntax.place 13 [])) ∷ (Syntax.copy (Syntax.place 2 [])) ∷ []) (Syntax.place 11 [])
 abbrev b5 : Syntax.Body
 b5 = Syntax.call "writer_records::with_node" ((Syntax.copy (Syntax.place 11 [])) ∷ (Syntax.copy (Syntax.place 3 [])) ∷ (Syntax.copy (Syntax.place 4 [])) ∷
     (Syntax.copy (Syntax.place 5 [])) ∷ (Syntax.copy (Syntax.place 6 [])) ∷ []) (Syntax.place 10 [])
 abbrev b6 : Syntax.Body
-b6 = Syntax.call "node_records::put_writer_record" ((Syntax.copy (Syntax.place 9 [])) ∷ (Syntax.copy (Syntax.place 2 [])) ∷ (Syntax.copy (Syntax.place 10 []))
-    ∷ []) (Syntax.place 7 [])
+b6 = Syntax.call "record_tables::put_writer_record" ((Syntax.copy (Syntax.place 9 [])) ∷ (Syntax.copy (Syntax.place 2 [])) ∷ (Syntax.copy (Syntax.place 10
+    [])) ∷ []) (Syntax.place 7 [])
 abbrev b7 : Syntax.Body
 b7 = Syntax.assign (Syntax.place 0 []) (Syntax.rvOpd Syntax.opdUnit)
 abbrev b8 : Syntax.Body
@@ -340,8 +340,8 @@ module _ (claims· : Claims) where
     module _ (M : Type 1) where
       abbrev pub Closed : Type 2
       Closed = (𝓤 : URA.URA M) (H : Wp.Heap 𝓤) (A : Atoms.Atoms 𝓤) (W : Kit.Given 𝓤 H A) (𝓣 : Wp.Tables 𝓤 H) (known0 : Plain.Known 𝓤 H A W 𝓣 1 ps·0 r·0
-          (claims· .0) (claims· .1) "node_records::get_writer_record") (known1 : Plain.Known 𝓤 H A W 𝓣 0 ps·1 r·1 (claims· .2) (claims· .3)
-          "writer_records::with_node") (known2 : Plain.Known 𝓤 H A W 𝓣 1 ps·2 r·2 (claims· .4) (claims· .5) "node_records::put_writer_record") →
+          (claims· .0) (claims· .1) "record_tables::get_writer_record") (known1 : Plain.Known 𝓤 H A W 𝓣 0 ps·1 r·1 (claims· .2) (claims· .3)
+          "writer_records::with_node") (known2 : Plain.Known 𝓤 H A W 𝓣 1 ps·2 r·2 (claims· .4) (claims· .5) "record_tables::put_writer_record") →
           Statement.Triple 𝓤 (Wp.WpFn 𝓤 H (𝓣 .C) (𝓣 .Λ) (Function.fnOf 1 ps r xs m hs body)) (Function.plainOf 𝓤 H A 1 ps r Pre· Post·)
     module _ where
       abbrev at0 : Typed.TF T26 O0
@@ -400,8 +400,8 @@ module _ (claims· : Claims) where
       Φ = at25
       module _ {M : Type 1} (𝓤 : URA.URA M) (H : Wp.Heap 𝓤) (A : Atoms.Atoms 𝓤) (W : Kit.Given 𝓤 H A) (𝓣 : Wp.Tables 𝓤 H) where
         abbrev Knowns : Type 1
-        Knowns = Plain.Known 𝓤 H A W 𝓣 1 ps·0 r·0 (claims· .0) (claims· .1) "node_records::get_writer_record" × Plain.Known 𝓤 H A W 𝓣 0 ps·1 r·1 (claims· .2)
-            (claims· .3) "writer_records::with_node" × Plain.Known 𝓤 H A W 𝓣 1 ps·2 r·2 (claims· .4) (claims· .5) "node_records::put_writer_record"
+        Knowns = Plain.Known 𝓤 H A W 𝓣 1 ps·0 r·0 (claims· .0) (claims· .1) "record_tables::get_writer_record" × Plain.Known 𝓤 H A W 𝓣 0 ps·1 r·1 (claims· .2)
+            (claims· .3) "writer_records::with_node" × Plain.Known 𝓤 H A W 𝓣 1 ps·2 r·2 (claims· .4) (claims· .5) "record_tables::put_writer_record"
       module _ (κs : Lifetimes.Lfts 1) (qs : Lifetimes.Shares 1) where
         abbrev K0 : Row.Life
         K0 = Row.lease (κs .0) (qs .0)
@@ -546,7 +546,7 @@ module _ (claims· : Claims) where
               Row.sUnit)) d10
           d12 : Typed.Typed 𝓤 H A 𝓣 E G14 b10 Δ0 at12
           d12 = Typed.s-seq 𝓤 H A W 𝓣 E G14 G15 b6 b9 Δ0 (Typed.both s13) at11 (Plain.t-call-plain 𝓤 H A W 𝓣 1 ps·2 r·2 (claims· .4) (claims· .5)
-              "node_records::put_writer_record" (known .2) E (λ pos β. β) G14 (record { pos = 9; ty = y0; ref = λ x. x }, (Num.vAt 2 λ x. x, (record { pos =
+              "record_tables::put_writer_record" (known .2) E (λ pos β. β) G14 (record { pos = 9; ty = y0; ref = λ x. x }, (Num.vAt 2 λ x. x, (record { pos =
               10; st = []; d = 0; at = λ x. x }, tt))) 7 (1 ∷ []) (Call.sub-id 𝓤 H A W (G14 .slots)) (Reads.as-is 𝓤 H A (Mut.mslice WriterRecordT.row y0 1),
               Mut.reads-mslice 𝓤 H A W WriterRecordT.row y0 1, Path'.refl, ((Scalar.reads-sc 𝓤 H A W (Row.sInt Syntax.w32), Path'.refl), ((Yields.yields-copy
               𝓤 H A W (λ ρ. Unit) (Declared.row WriterRecord.the-type) Path'.refl (Copies.cStruct WriterRecord.the-type Laws.the-laws Laws.the-copy .copy 𝓤 H
@@ -577,7 +577,7 @@ module _ (claims· : Claims) where
               WriterRecordT.row y5 2)) d17
           d19 : Typed.Typed 𝓤 H A 𝓣 E G7 b12 Δ0 at19
           d19 = Typed.s-seq 𝓤 H A W 𝓣 E G7 G8 b4 b11 Δ0 (Typed.both s6) at18 (Plain.t-call-plain 𝓤 H A W 𝓣 1 ps·0 r·0 (claims· .0) (claims· .1)
-              "node_records::get_writer_record" (known .0) E (λ pos β. β) G7 (record { pos = 13; ty = y5; ref = λ x. x }, (Num.vAt 2 λ x. x, tt)) 11 (2 ∷ [])
+              "record_tables::get_writer_record" (known .0) E (λ pos β. β) G7 (record { pos = 13; ty = y5; ref = λ x. x }, (Num.vAt 2 λ x. x, tt)) 11 (2 ∷ [])
               (Call.sub-id 𝓤 H A W (G7 .slots)) (ShrSlice.spares-sslice 𝓤 H A W WriterRecordT.row y5 2, Shared.reads-sslice 𝓤 H A W WriterRecordT.row y5 2,
               Path'.refl, ((Scalar.reads-sc 𝓤 H A W (Row.sInt Syntax.w32), Path'.refl), tt)) (Reads.room-gone 𝓤 H A y4) (tt, tt) Path'.refl) d18
           d20 : Typed.Typed 𝓤 H A 𝓣 E G6 b13 Δ0 at20
@@ -772,8 +772,8 @@ module _ (claims· : Claims) where
               a .1 .1 .1 .1 .1 .0 }; good = good; fits = record { k = record { fits = good .1 .0 .1 }; i = record { fits = good .1 .1 .0 .1 }; a = record {
               fits = good .1 .1 .1 .0 .1 }; b = record { fits = good .1 .1 .1 .1 .0 .1 }; c = record { fits = good .1 .1 .1 .1 .1 .0 .1 } }; pre = pre }
         module _ {M : Type 1} (𝓤 : URA.URA M) (H : Wp.Heap 𝓤) (A : Atoms.Atoms 𝓤) (W : Kit.Given 𝓤 H A) (𝓣 : Wp.Tables 𝓤 H) (known0 : Plain.Known 𝓤 H A W 𝓣 1
-            ps·0 r·0 (claims· .0) (claims· .1) "node_records::get_writer_record") (known1 : Plain.Known 𝓤 H A W 𝓣 0 ps·1 r·1 (claims· .2) (claims· .3)
-            "writer_records::with_node") (known2 : Plain.Known 𝓤 H A W 𝓣 1 ps·2 r·2 (claims· .4) (claims· .5) "node_records::put_writer_record") where
+            ps·0 r·0 (claims· .0) (claims· .1) "record_tables::get_writer_record") (known1 : Plain.Known 𝓤 H A W 𝓣 0 ps·1 r·1 (claims· .2) (claims· .3)
+            "writer_records::with_node") (known2 : Plain.Known 𝓤 H A W 𝓣 1 ps·2 r·2 (claims· .4) (claims· .5) "record_tables::put_writer_record") where
           pub spec : Statement.Triple 𝓤 (Wp.WpFn 𝓤 H (𝓣 .C) (𝓣 .Λ) (Function.fnOf 1 ps r xs m hs body)) (Function.plainOf 𝓤 H A 1 ps r Pre· Post·)
           spec = Plain.t-fn-plain 𝓤 H A W 𝓣 1 ps r xs m hs body (λ κs qs bs. Φ) (λ κs qs bs bd. typed κs qs 𝓤 H A W 𝓣 (known0, known1, known2) bs bd) Pre·
               Post· asked

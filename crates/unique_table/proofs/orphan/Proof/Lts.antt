@@ -1,5 +1,5 @@
 -- Generated: the derivation of a body.
--- From 2a7436110a0a6637, as d2486b787eb51f0b.
+-- From 47d771535d58e2a3, as 7e5e05cd17bef756.
 use Prim.Native.Nat
 use Rattle.node_records.proofs.Tables.WriterRecord as WriterRecordT
 use Rattle.node_records.proofs.WriterRecord
@@ -180,7 +180,7 @@ b6 = Syntax.assign (Syntax.place 6 []) (Syntax.addrOf (Syntax.place 1 ((Syntax.f
 abbrev b7 : Syntax.Body
 b7 = Syntax.assign (Syntax.place 7 []) (Syntax.aggregate ((Syntax.copy (Syntax.place 6 [])) ∷ (Syntax.copy (Syntax.place 1 ((Syntax.field 1) ∷ []))) ∷ []))
 abbrev b8 : Syntax.Body
-b8 = Syntax.call "node_records::get_writer_record" ((Syntax.copy (Syntax.place 7 [])) ∷ (Syntax.copy (Syntax.place 3 [])) ∷ []) (Syntax.place 4 [])
+b8 = Syntax.call "record_tables::get_writer_record" ((Syntax.copy (Syntax.place 7 [])) ∷ (Syntax.copy (Syntax.place 3 [])) ∷ []) (Syntax.place 4 [])
 abbrev b9 : Syntax.Body
 b9 = Syntax.assign (Syntax.place 5 []) (Syntax.op2 Syntax.ne (Syntax.copy (Syntax.place 4 ((Syntax.field 5) ∷ []))) (Syntax.int Syntax.w32 0))
 abbrev b10 : Syntax.Body
@@ -382,7 +382,7 @@ module _ (claims· : Claims) where
     module _ (M : Type 1) where
       abbrev pub Closed : Type 2
       Closed = (𝓤 : URA.URA M) (H : Wp.Heap 𝓤) (A : Atoms.Atoms 𝓤) (W : Kit.Given 𝓤 H A) (𝓣 : Wp.Tables 𝓤 H) (known0 : Plain.Known 𝓤 H A W 𝓣 1 ps·0 r·0
-          (claims· .0) (claims· .1) "node_records::get_writer_record") (known1 : Plain.Known 𝓤 H A W 𝓣 1 ps·1 r·1 (claims· .2) (claims· .3)
+          (claims· .0) (claims· .1) "record_tables::get_writer_record") (known1 : Plain.Known 𝓤 H A W 𝓣 1 ps·1 r·1 (claims· .2) (claims· .3)
           "unique_table::link_last") → Statement.Triple 𝓤 (Wp.WpFn 𝓤 H (𝓣 .C) (𝓣 .Λ) (Function.fnOf 1 ps r xs m hs body)) (Function.plainOf 𝓤 H A 1 ps r Pre·
           Post·)
     module _ where
@@ -470,7 +470,7 @@ module _ (claims· : Claims) where
       Φ = at39
       module _ {M : Type 1} (𝓤 : URA.URA M) (H : Wp.Heap 𝓤) (A : Atoms.Atoms 𝓤) (W : Kit.Given 𝓤 H A) (𝓣 : Wp.Tables 𝓤 H) where
         abbrev Knowns : Type 1
-        Knowns = Plain.Known 𝓤 H A W 𝓣 1 ps·0 r·0 (claims· .0) (claims· .1) "node_records::get_writer_record" × Plain.Known 𝓤 H A W 𝓣 1 ps·1 r·1 (claims· .2)
+        Knowns = Plain.Known 𝓤 H A W 𝓣 1 ps·0 r·0 (claims· .0) (claims· .1) "record_tables::get_writer_record" × Plain.Known 𝓤 H A W 𝓣 1 ps·1 r·1 (claims· .2)
             (claims· .3) "unique_table::link_last"
       module _ (κs : Lifetimes.Lfts 1) (qs : Lifetimes.Shares 1) where
         abbrev K0 : Row.Life
@@ -707,7 +707,7 @@ module _ (claims· : Claims) where
               WriterRecordT.row y2 1)) d32
           d34 : Typed.Typed 𝓤 H A 𝓣 E G11 b24 Δ0 at34
           d34 = Typed.s-seq 𝓤 H A W 𝓣 E G11 G12 b8 b23 Δ0 (Typed.both s9) at33 (Plain.t-call-plain 𝓤 H A W 𝓣 1 ps·0 r·0 (claims· .0) (claims· .1)
-              "node_records::get_writer_record" (known .0) E (λ pos β. β) G11 (record { pos = 7; ty = y2; ref = λ x. x }, (Num.vAt 3 λ x. x, tt)) 4 (1 ∷ [])
+              "record_tables::get_writer_record" (known .0) E (λ pos β. β) G11 (record { pos = 7; ty = y2; ref = λ x. x }, (Num.vAt 3 λ x. x, tt)) 4 (1 ∷ [])
               (Call.sub-id 𝓤 H A W (G11 .slots)) (ShrSlice.spares-sslice 𝓤 H A W WriterRecordT.row y2 1, Shared.reads-sslice 𝓤 H A W WriterRecordT.row y2 1,
               Path'.refl, ((Scalar.reads-sc 𝓤 H A W (Row.sInt Syntax.w32), Path'.refl), tt)) (Reads'.room-gone 𝓤 H A y1) (tt, tt) Path'.refl) d33
           d35 : Typed.Typed 𝓤 H A 𝓣 E G10 b25 Δ0 at35
@@ -960,7 +960,7 @@ module _ (claims· : Claims) where
           asked = λ a good pre bs. laid record { κs = κs; args = record { t = a .0; e = a .1 .0; c = a .1 .1 .0 }; good = good; fits = record { c = record {
               fits = good .1 .1 .0 .1 } }; pre = pre }
         module _ {M : Type 1} (𝓤 : URA.URA M) (H : Wp.Heap 𝓤) (A : Atoms.Atoms 𝓤) (W : Kit.Given 𝓤 H A) (𝓣 : Wp.Tables 𝓤 H) (known0 : Plain.Known 𝓤 H A W 𝓣 1
-            ps·0 r·0 (claims· .0) (claims· .1) "node_records::get_writer_record") (known1 : Plain.Known 𝓤 H A W 𝓣 1 ps·1 r·1 (claims· .2) (claims· .3)
+            ps·0 r·0 (claims· .0) (claims· .1) "record_tables::get_writer_record") (known1 : Plain.Known 𝓤 H A W 𝓣 1 ps·1 r·1 (claims· .2) (claims· .3)
             "unique_table::link_last") where
           pub spec : Statement.Triple 𝓤 (Wp.WpFn 𝓤 H (𝓣 .C) (𝓣 .Λ) (Function.fnOf 1 ps r xs m hs body)) (Function.plainOf 𝓤 H A 1 ps r Pre· Post·)
           spec = Plain.t-fn-plain 𝓤 H A W 𝓣 1 ps r xs m hs body (λ κs qs bs. Φ) (λ κs qs bs bd. typed κs qs 𝓤 H A W 𝓣 (known0, known1) bs bd) Pre· Post· asked

@@ -1,5 +1,5 @@
 -- Generated: the needs of orphans at its contract, and how its theorem closes.
--- From 2a7436110a0a6637, as 4d468a5ae9189ae4.
+-- From 47d771535d58e2a3, as 4d468a5ae9189ae4.
 use borrow.Fn.Run
 use borrow.Fn.Written
 use contract.Running.{givenOf, tablesOf}

@@ -1,5 +1,5 @@
 -- Generated: the derivation of a body.
--- From 2a7436110a0a6637, as 4da4378b81119b30.
+-- From 47d771535d58e2a3, as 5fd33854c07cb9db.
 use Prim.Native.Nat
 use Rattle.node_records.proofs.Tables.WriterRecord as WriterRecordT
 use Rattle.node_records.proofs.WriterRecord
@@ -222,7 +222,7 @@ b6 = Syntax.assign (Syntax.place 11 []) (Syntax.addrOf (Syntax.place 1 ((Syntax.
 abbrev b7 : Syntax.Body
 b7 = Syntax.assign (Syntax.place 12 []) (Syntax.aggregate ((Syntax.copy (Syntax.place 11 [])) ∷ (Syntax.copy (Syntax.place 1 ((Syntax.field 1) ∷ []))) ∷ []))
 abbrev b8 : Syntax.Body
-b8 = Syntax.call "node_records::get_writer_record" ((Syntax.copy (Syntax.place 12 [])) ∷ (Syntax.copy (Syntax.place 3 [])) ∷ []) (Syntax.place 5 [])
+b8 = Syntax.call "record_tables::get_writer_record" ((Syntax.copy (Syntax.place 12 [])) ∷ (Syntax.copy (Syntax.place 3 [])) ∷ []) (Syntax.place 5 [])
 abbrev b9 : Syntax.Body
 b9 = Syntax.assign (Syntax.place 13 []) (Syntax.addrOf (Syntax.place 1 ((Syntax.field 0) ∷ (Syntax.deref WriterRecordT.value) ∷ [])))
 abbrev b10 : Syntax.Body
@@ -413,7 +413,7 @@ module _ (claims· : Claims) where
       abbrev pub Closed : Type 2
       Closed = (𝓤 : URA.URA M) (H : Wp.Heap 𝓤) (A : Atoms.Atoms 𝓤) (W : Kit.Given 𝓤 H A) (𝓣 : Wp.Tables 𝓤 H) (known0 : Plain.Known 𝓤 H A W 𝓣 1 ps·0 r·0
           (claims· .0) (claims· .1) "unique_table::unlink") (known1 : Plain.Known 𝓤 H A W 𝓣 1 ps·1 r·1 (claims· .2) (claims· .3)
-          "unique_table::bucket_remove") (known2 : Plain.Known 𝓤 H A W 𝓣 1 ps·2 r·2 (claims· .4) (claims· .5) "node_records::get_writer_record") (known3 :
+          "unique_table::bucket_remove") (known2 : Plain.Known 𝓤 H A W 𝓣 1 ps·2 r·2 (claims· .4) (claims· .5) "record_tables::get_writer_record") (known3 :
           Plain.Known 𝓤 H A W 𝓣 1 ps·3 r·3 (claims· .6) (claims· .7) "unique_table::orphans") → Statement.Triple 𝓤 (Wp.WpFn 𝓤 H (𝓣 .C) (𝓣 .Λ) (Function.fnOf 1
           ps r xs m hs body)) (Function.plainOf 𝓤 H A 1 ps r Pre· Post·)
     module _ where
@@ -492,8 +492,8 @@ module _ (claims· : Claims) where
       module _ {M : Type 1} (𝓤 : URA.URA M) (H : Wp.Heap 𝓤) (A : Atoms.Atoms 𝓤) (W : Kit.Given 𝓤 H A) (𝓣 : Wp.Tables 𝓤 H) where
         abbrev Knowns : Type 1
         Knowns = Plain.Known 𝓤 H A W 𝓣 1 ps·0 r·0 (claims· .0) (claims· .1) "unique_table::unlink" × Plain.Known 𝓤 H A W 𝓣 1 ps·1 r·1 (claims· .2) (claims·
-            .3) "unique_table::bucket_remove" × Plain.Known 𝓤 H A W 𝓣 1 ps·2 r·2 (claims· .4) (claims· .5) "node_records::get_writer_record" × Plain.Known 𝓤 H
-            A W 𝓣 1 ps·3 r·3 (claims· .6) (claims· .7) "unique_table::orphans"
+            .3) "unique_table::bucket_remove" × Plain.Known 𝓤 H A W 𝓣 1 ps·2 r·2 (claims· .4) (claims· .5) "record_tables::get_writer_record" × Plain.Known 𝓤
+            H A W 𝓣 1 ps·3 r·3 (claims· .6) (claims· .7) "unique_table::orphans"
       module _ (κs : Lifetimes.Lfts 1) (qs : Lifetimes.Shares 1) where
         abbrev K0 : Row.Life
         K0 = Row.lease (κs .0) (qs .0)
@@ -705,7 +705,7 @@ module _ (claims· : Claims) where
               WriterRecordT.row y6 3)) d13
           d15 : Typed.Typed 𝓤 H A 𝓣 E G20 b16 Δ0 at15
           d15 = Typed.s-seq 𝓤 H A W 𝓣 E G20 G21 b8 b15 Δ0 (Typed.both s19) at14 (Plain.t-call-plain 𝓤 H A W 𝓣 1 ps·2 r·2 (claims· .4) (claims· .5)
-              "node_records::get_writer_record" (known .2) E (λ pos β. β) G20 (record { pos = 12; ty = y6; ref = λ x. x }, (Num.vAt 3 λ x. x, tt)) 5 (3 ∷ [])
+              "record_tables::get_writer_record" (known .2) E (λ pos β. β) G20 (record { pos = 12; ty = y6; ref = λ x. x }, (Num.vAt 3 λ x. x, tt)) 5 (3 ∷ [])
               (Call.sub-id 𝓤 H A W (G20 .slots)) (ShrSlice.spares-sslice 𝓤 H A W WriterRecordT.row y6 3, Shared.reads-sslice 𝓤 H A W WriterRecordT.row y6 3,
               Path'.refl, ((Scalar.reads-sc 𝓤 H A W (Row.sInt Syntax.w32), Path'.refl), tt)) (Reads'.room-gone 𝓤 H A y2) (tt, tt) Path'.refl) d14
           d16 : Typed.Typed 𝓤 H A 𝓣 E G19 b17 Δ0 at16
@@ -1003,7 +1003,7 @@ module _ (claims· : Claims) where
               fits = good .1 .1 .0 .1 } }; pre = pre }
         module _ {M : Type 1} (𝓤 : URA.URA M) (H : Wp.Heap 𝓤) (A : Atoms.Atoms 𝓤) (W : Kit.Given 𝓤 H A) (𝓣 : Wp.Tables 𝓤 H) (known0 : Plain.Known 𝓤 H A W 𝓣 1
             ps·0 r·0 (claims· .0) (claims· .1) "unique_table::unlink") (known1 : Plain.Known 𝓤 H A W 𝓣 1 ps·1 r·1 (claims· .2) (claims· .3)
-            "unique_table::bucket_remove") (known2 : Plain.Known 𝓤 H A W 𝓣 1 ps·2 r·2 (claims· .4) (claims· .5) "node_records::get_writer_record") (known3 :
+            "unique_table::bucket_remove") (known2 : Plain.Known 𝓤 H A W 𝓣 1 ps·2 r·2 (claims· .4) (claims· .5) "record_tables::get_writer_record") (known3 :
             Plain.Known 𝓤 H A W 𝓣 1 ps·3 r·3 (claims· .6) (claims· .7) "unique_table::orphans") where
           pub spec : Statement.Triple 𝓤 (Wp.WpFn 𝓤 H (𝓣 .C) (𝓣 .Λ) (Function.fnOf 1 ps r xs m hs body)) (Function.plainOf 𝓤 H A 1 ps r Pre· Post·)
           spec = Plain.t-fn-plain 𝓤 H A W 𝓣 1 ps r xs m hs body (λ κs qs bs. Φ) (λ κs qs bs bd. typed κs qs 𝓤 H A W 𝓣 (known0, known1, known2, known3) bs bd)

@@ -1,5 +1,5 @@
 -- Generated: the needs of release at its contract, and how its theorem closes.
--- From 2a7436110a0a6637, as a5d75d0172958c97.
+-- From 47d771535d58e2a3, as 3e54a7da0319123b.
 use borrow.Fn.Run
 use borrow.Fn.Written
 use contract.Running.{givenOf, tablesOf}
@@ -9,9 +9,9 @@ use Rattle.unique_table.proofs.unlink.Symbol as unlink-symbol
 use Rattle.unique_table.proofs.Lifted.bucket_remove as bucket-remove-reads
 use Rattle.unique_table.proofs.bucket_remove.Met as bucket-remove-met
 use Rattle.unique_table.proofs.bucket_remove.Symbol as bucket-remove-symbol
-use Rattle.node_records.proofs.Lifted.get_writer_record as get-writer-record-reads
-use Rattle.node_records.proofs.get_writer_record.Met as get-writer-record-met
-use Rattle.node_records.proofs.get_writer_record.Symbol as get-writer-record-symbol
+use Rattle.record_tables.proofs.Lifted.get_writer_record as get-writer-record-reads
+use Rattle.record_tables.proofs.get_writer_record.Met as get-writer-record-met
+use Rattle.record_tables.proofs.get_writer_record.Symbol as get-writer-record-symbol
 use Rattle.unique_table.proofs.Lifted.orphans as orphans-reads
 use Rattle.unique_table.proofs.orphans.Met as orphans-met
 use Rattle.unique_table.proofs.orphans.Symbol as orphans-symbol
@@ -53,5 +53,5 @@ module _ {M : Type 1} where
       (λ κs a g. tt) (λ κs. self.owns κs record { M = M; 𝓤 = 𝓤; H = H; 𝓜 = 𝓜; 𝓖 = 𝓖; 𝓡 = 𝓡 }) (self.passes record { M = M; 𝓤 = 𝓤; H = H; 𝓜 = 𝓜; 𝓖 = 𝓖; 𝓡 = 𝓡 }) λ g. closed 𝓤 H (𝓖 .A) (givenOf 𝓤 H 𝓜 𝓖) (Run.Over 𝓤 H 𝓜 𝓖 𝓡 code.env)
       (unlink-reads.known record { M = M; 𝓤 = 𝓤; H = H; 𝓜 = 𝓜; 𝓖 = 𝓖; 𝓡 = 𝓡 } code.env unlink-symbol.name unlink-symbol.routine code.calls-unique-table·unlink (unlink-met.met 𝓤 H 𝓜 𝓖 𝓡))
       (bucket-remove-reads.known record { M = M; 𝓤 = 𝓤; H = H; 𝓜 = 𝓜; 𝓖 = 𝓖; 𝓡 = 𝓡 } code.env bucket-remove-symbol.name bucket-remove-symbol.routine code.calls-unique-table·bucket-remove (bucket-remove-met.met 𝓤 H 𝓜 𝓖 𝓡))
-      (get-writer-record-reads.known record { M = M; 𝓤 = 𝓤; H = H; 𝓜 = 𝓜; 𝓖 = 𝓖; 𝓡 = 𝓡 } code.env get-writer-record-symbol.name get-writer-record-symbol.routine code.calls-node-records·get-writer-record (get-writer-record-met.met 𝓤 H 𝓜 𝓖 𝓡))
+      (get-writer-record-reads.known record { M = M; 𝓤 = 𝓤; H = H; 𝓜 = 𝓜; 𝓖 = 𝓖; 𝓡 = 𝓡 } code.env get-writer-record-symbol.name get-writer-record-symbol.routine code.calls-record-tables·get-writer-record (get-writer-record-met.met 𝓤 H 𝓜 𝓖 𝓡))
       (orphans-reads.known record { M = M; 𝓤 = 𝓤; H = H; 𝓜 = 𝓜; 𝓖 = 𝓖; 𝓡 = 𝓡 } code.env orphans-symbol.name orphans-symbol.routine code.calls-unique-table·orphans (orphans-met.met 𝓤 H 𝓜 𝓖 𝓡))

@@ -1,5 +1,5 @@
 -- Generated: the derivation of a body.
--- From 2a7436110a0a6637, as 3ca1028edf26a818.
+-- From 47d771535d58e2a3, as bb8d9c19cbcfa60f.
 use Prim.Native.Nat
 use Rattle.node_records.proofs.Tables.WriterRecord as WriterRecordT
 use Rattle.node_records.proofs.WriterRecord
@@ -274,7 +274,7 @@ b0 = Syntax.assign (Syntax.place 8 []) (Syntax.addrOf (Syntax.place 1 ((Syntax.f
 abbrev b1 : Syntax.Body
 b1 = Syntax.assign (Syntax.place 9 []) (Syntax.aggregate ((Syntax.copy (Syntax.place 8 [])) ∷ (Syntax.copy (Syntax.place 1 ((Syntax.field 1) ∷ []))) ∷ []))
 abbrev b2 : Syntax.Body
-b2 = Syntax.call "node_records::get_writer_record" ((Syntax.copy (Syntax.place 9 [])) ∷ (Syntax.copy (Syntax.place 4 [])) ∷ []) (Syntax.place 5 [])
+b2 = Syntax.call "record_tables::get_writer_record" ((Syntax.copy (Syntax.place 9 [])) ∷ (Syntax.copy (Syntax.place 4 [])) ∷ []) (Syntax.place 5 [])
 abbrev b3 : Syntax.Body
 b3 = Syntax.call "writer_records::before_of" ((Syntax.copy (Syntax.place 2 [])) ∷ (Syntax.copy (Syntax.place 5 [])) ∷ []) (Syntax.place 6 [])
 abbrev b4 : Syntax.Body
@@ -288,12 +288,12 @@ b7 = Syntax.assign (Syntax.place 15 []) (Syntax.addrOf (Syntax.place 1 ((Syntax.
 abbrev b8 : Syntax.Body
 b8 = Syntax.assign (Syntax.place 16 []) (Syntax.aggregate ((Syntax.copy (Syntax.place 15 [])) ∷ (Syntax.copy (Syntax.place 1 ((Syntax.field 1) ∷ []))) ∷ []))
 abbrev b9 : Syntax.Body
-b9 = Syntax.call "node_records::get_writer_record" ((Syntax.copy (Syntax.place 16 [])) ∷ (Syntax.copy (Syntax.place 6 [])) ∷ []) (Syntax.place 14 [])
+b9 = Syntax.call "record_tables::get_writer_record" ((Syntax.copy (Syntax.place 16 [])) ∷ (Syntax.copy (Syntax.place 6 [])) ∷ []) (Syntax.place 14 [])
 abbrev b10 : Syntax.Body
 b10 = Syntax.call "writer_records::with_after" ((Syntax.copy (Syntax.place 2 [])) ∷ (Syntax.copy (Syntax.place 14 [])) ∷ (Syntax.copy (Syntax.place 7 [])) ∷
     []) (Syntax.place 13 [])
 abbrev b11 : Syntax.Body
-b11 = Syntax.call "node_records::put_writer_record" ((Syntax.copy (Syntax.place 12 [])) ∷ (Syntax.copy (Syntax.place 6 [])) ∷ (Syntax.copy (Syntax.place 13
+b11 = Syntax.call "record_tables::put_writer_record" ((Syntax.copy (Syntax.place 12 [])) ∷ (Syntax.copy (Syntax.place 6 [])) ∷ (Syntax.copy (Syntax.place 13
     [])) ∷ []) (Syntax.place 10 [])
 abbrev b12 : Syntax.Body
 b12 = Syntax.assign (Syntax.place 17 []) (Syntax.addrOf (Syntax.place 1 ((Syntax.field 0) ∷ (Syntax.deref WriterRecordT.value) ∷ [])))
@@ -304,12 +304,12 @@ b14 = Syntax.assign (Syntax.place 19 []) (Syntax.addrOf (Syntax.place 1 ((Syntax
 abbrev b15 : Syntax.Body
 b15 = Syntax.assign (Syntax.place 20 []) (Syntax.aggregate ((Syntax.copy (Syntax.place 19 [])) ∷ (Syntax.copy (Syntax.place 1 ((Syntax.field 1) ∷ []))) ∷ []))
 abbrev b16 : Syntax.Body
-b16 = Syntax.call "node_records::get_writer_record" ((Syntax.copy (Syntax.place 20 [])) ∷ (Syntax.copy (Syntax.place 7 [])) ∷ []) (Syntax.place 13 [])
+b16 = Syntax.call "record_tables::get_writer_record" ((Syntax.copy (Syntax.place 20 [])) ∷ (Syntax.copy (Syntax.place 7 [])) ∷ []) (Syntax.place 13 [])
 abbrev b17 : Syntax.Body
 b17 = Syntax.call "writer_records::with_before" ((Syntax.copy (Syntax.place 2 [])) ∷ (Syntax.copy (Syntax.place 13 [])) ∷ (Syntax.copy (Syntax.place 6 [])) ∷
     []) (Syntax.place 14 [])
 abbrev b18 : Syntax.Body
-b18 = Syntax.call "node_records::put_writer_record" ((Syntax.copy (Syntax.place 18 [])) ∷ (Syntax.copy (Syntax.place 7 [])) ∷ (Syntax.copy (Syntax.place 14
+b18 = Syntax.call "record_tables::put_writer_record" ((Syntax.copy (Syntax.place 18 [])) ∷ (Syntax.copy (Syntax.place 7 [])) ∷ (Syntax.copy (Syntax.place 14
     [])) ∷ []) (Syntax.place 10 [])
 abbrev b19 : Syntax.Body
 b19 = Syntax.assign (Syntax.place 22 []) (Syntax.op2 Syntax.eq (Syntax.copy (Syntax.place 6 [])) (Syntax.int Syntax.w32 0))
@@ -592,10 +592,10 @@ module _ (claims· : Claims) where
     module _ (M : Type 1) where
       abbrev pub Closed : Type 2
       Closed = (𝓤 : URA.URA M) (H : Wp.Heap 𝓤) (A : Atoms.Atoms 𝓤) (W : Kit.Given 𝓤 H A) (𝓣 : Wp.Tables 𝓤 H) (known0 : Plain.Known 𝓤 H A W 𝓣 1 ps·0 r·0
-          (claims· .0) (claims· .1) "node_records::get_writer_record") (known1 : Plain.Known 𝓤 H A W 𝓣 0 ps·1 r·1 (claims· .2) (claims· .3)
+          (claims· .0) (claims· .1) "record_tables::get_writer_record") (known1 : Plain.Known 𝓤 H A W 𝓣 0 ps·1 r·1 (claims· .2) (claims· .3)
           "writer_records::before_of") (known2 : Plain.Known 𝓤 H A W 𝓣 0 ps·2 r·2 (claims· .4) (claims· .5) "writer_records::after_of") (known3 : Plain.Known
           𝓤 H A W 𝓣 0 ps·3 r·3 (claims· .6) (claims· .7) "writer_records::with_after") (known4 : Plain.Known 𝓤 H A W 𝓣 1 ps·4 r·4 (claims· .8) (claims· .9)
-          "node_records::put_writer_record") (known5 : Plain.Known 𝓤 H A W 𝓣 0 ps·5 r·5 (claims· .10) (claims· .11) "writer_records::with_before") (known6 :
+          "record_tables::put_writer_record") (known5 : Plain.Known 𝓤 H A W 𝓣 0 ps·5 r·5 (claims· .10) (claims· .11) "writer_records::with_before") (known6 :
           Plain.Known 𝓤 H A W 𝓣 0 ps·6 r·6 (claims· .12) (claims· .13) "writer_records::either") → Statement.Triple 𝓤 (Wp.WpFn 𝓤 H (𝓣 .C) (𝓣 .Λ)
           (Function.fnOf 1 ps r xs m hs body)) (Function.plainOf 𝓤 H A 1 ps r Pre· Post·)
     module _ where
@@ -733,11 +733,11 @@ module _ (claims· : Claims) where
       Φ = at64
       module _ {M : Type 1} (𝓤 : URA.URA M) (H : Wp.Heap 𝓤) (A : Atoms.Atoms 𝓤) (W : Kit.Given 𝓤 H A) (𝓣 : Wp.Tables 𝓤 H) where
         abbrev Knowns : Type 1
-        Knowns = Plain.Known 𝓤 H A W 𝓣 1 ps·0 r·0 (claims· .0) (claims· .1) "node_records::get_writer_record" × Plain.Known 𝓤 H A W 𝓣 0 ps·1 r·1 (claims· .2)
+        Knowns = Plain.Known 𝓤 H A W 𝓣 1 ps·0 r·0 (claims· .0) (claims· .1) "record_tables::get_writer_record" × Plain.Known 𝓤 H A W 𝓣 0 ps·1 r·1 (claims· .2)
             (claims· .3) "writer_records::before_of" × Plain.Known 𝓤 H A W 𝓣 0 ps·2 r·2 (claims· .4) (claims· .5) "writer_records::after_of" × Plain.Known 𝓤 H
             A W 𝓣 0 ps·3 r·3 (claims· .6) (claims· .7) "writer_records::with_after" × Plain.Known 𝓤 H A W 𝓣 1 ps·4 r·4 (claims· .8) (claims· .9)
-            "node_records::put_writer_record" × Plain.Known 𝓤 H A W 𝓣 0 ps·5 r·5 (claims· .10) (claims· .11) "writer_records::with_before" × Plain.Known 𝓤 H A
-            W 𝓣 0 ps·6 r·6 (claims· .12) (claims· .13) "writer_records::either"
+            "record_tables::put_writer_record" × Plain.Known 𝓤 H A W 𝓣 0 ps·5 r·5 (claims· .10) (claims· .11) "writer_records::with_before" × Plain.Known 𝓤 H
+            A W 𝓣 0 ps·6 r·6 (claims· .12) (claims· .13) "writer_records::either"
       module _ (κs : Lifetimes.Lfts 1) (qs : Lifetimes.Shares 1) where
         abbrev K0 : Row.Life
         K0 = Row.lease (κs .0) (qs .0)
@@ -915,7 +915,7 @@ module _ (claims· : Claims) where
               g32 t33 l14) 10 Syntax.tyUnit (Scalar.room-sc 𝓤 H A W Row.sUnit)) d19
           d21 : Typed.Typed 𝓤 H A 𝓣 E (gx g31 t25 l14) b30 Δ0 at21
           d21 = Typed.s-seq 𝓤 H A W 𝓣 E (gx g31 t25 l14) (gx g32 t33 l14) b18 b29 Δ0 (Typed.both s43) at20 (Plain.t-call-plain 𝓤 H A W 𝓣 1 ps·4 r·4 (claims·
-              .8) (claims· .9) "node_records::put_writer_record" (known .4) E (λ pos β. β) (gx g31 t25 l14) (record { pos = 18; ty = y5; ref = λ x. x },
+              .8) (claims· .9) "record_tables::put_writer_record" (known .4) E (λ pos β. β) (gx g31 t25 l14) (record { pos = 18; ty = y5; ref = λ x. x },
               (Num.vAt 7 λ x. x, (record { pos = 14; st = []; d = 0; at = λ x. x }, tt))) 10 (4 ∷ []) (Call.sub-id 𝓤 H A W ((gx g31 t25 l14) .slots))
               (Reads'.as-is 𝓤 H A (Mut.mslice WriterRecordT.row y5 4), Mut.reads-mslice 𝓤 H A W WriterRecordT.row y5 4, Path'.refl, ((Scalar.reads-sc 𝓤 H A W
               (Row.sInt Syntax.w32), Path'.refl), ((Yields.yields-copy 𝓤 H A W (λ ρ. Unit) (Declared.row WriterRecord.the-type) Path'.refl (Copies.cStruct
@@ -947,7 +947,7 @@ module _ (claims· : Claims) where
               g28 t27 l16) 20 y4 (Shared.room-sslice 𝓤 H A W WriterRecordT.row y2 5)) d26
           d28 : Typed.Typed 𝓤 H A 𝓣 E (gx g23 t27 l16) b32 Δ0 at28
           d28 = Typed.s-seq 𝓤 H A W 𝓣 E (gx g23 t27 l16) (gx g28 t27 l16) b16 b31 Δ0 (Typed.both s36) at27 (Plain.t-call-plain 𝓤 H A W 𝓣 1 ps·0 r·0 (claims·
-              .0) (claims· .1) "node_records::get_writer_record" (known .0) E (λ pos β. β) (gx g23 t27 l16) (record { pos = 20; ty = y2; ref = λ x. x },
+              .0) (claims· .1) "record_tables::get_writer_record" (known .0) E (λ pos β. β) (gx g23 t27 l16) (record { pos = 20; ty = y2; ref = λ x. x },
               (Num.vAt 7 λ x. x, tt)) 13 (5 ∷ []) (Call.sub-id 𝓤 H A W ((gx g23 t27 l16) .slots)) (ShrSlice.spares-sslice 𝓤 H A W WriterRecordT.row y2 5,
               Shared.reads-sslice 𝓤 H A W WriterRecordT.row y2 5, Path'.refl, ((Scalar.reads-sc 𝓤 H A W (Row.sInt Syntax.w32), Path'.refl), tt))
               (Reads'.room-gone 𝓤 H A y1) (tt, tt) Path'.refl) d27
@@ -994,7 +994,7 @@ module _ (claims· : Claims) where
               l6) 10 Syntax.tyUnit (Scalar.room-sc 𝓤 H A W Row.sUnit)) d38
           d40 : Typed.Typed 𝓤 H A 𝓣 E (gx g19 t1 l6) b37 Δ0 at40
           d40 = Typed.s-seq 𝓤 H A W 𝓣 E (gx g19 t1 l6) (gx g20 t1 l6) b11 b36 Δ0 (Typed.both s24) at39 (Plain.t-call-plain 𝓤 H A W 𝓣 1 ps·4 r·4 (claims· .8)
-              (claims· .9) "node_records::put_writer_record" (known .4) E (λ pos β. β) (gx g19 t1 l6) (record { pos = 12; ty = y5; ref = λ x. x }, (Num.vAt 6
+              (claims· .9) "record_tables::put_writer_record" (known .4) E (λ pos β. β) (gx g19 t1 l6) (record { pos = 12; ty = y5; ref = λ x. x }, (Num.vAt 6
               λ x. x, (record { pos = 13; st = []; d = 0; at = λ x. x }, tt))) 10 (2 ∷ []) (Call.sub-id 𝓤 H A W ((gx g19 t1 l6) .slots)) (Reads'.as-is 𝓤 H A
               (Mut.mslice WriterRecordT.row y5 2), Mut.reads-mslice 𝓤 H A W WriterRecordT.row y5 2, Path'.refl, ((Scalar.reads-sc 𝓤 H A W (Row.sInt
               Syntax.w32), Path'.refl), ((Yields.yields-copy 𝓤 H A W (λ ρ. Unit) (Declared.row WriterRecord.the-type) Path'.refl (Copies.cStruct
@@ -1026,8 +1026,8 @@ module _ (claims· : Claims) where
               t15 l8) 16 y4 (Shared.room-sslice 𝓤 H A W WriterRecordT.row y2 3)) d45
           d47 : Typed.Typed 𝓤 H A 𝓣 E (gx g14 t15 l8) b39 Δ0 at47
           d47 = Typed.s-seq 𝓤 H A W 𝓣 E (gx g14 t15 l8) (gx g16 t15 l8) b9 b38 Δ0 (Typed.both s17) at46 (Plain.t-call-plain 𝓤 H A W 𝓣 1 ps·0 r·0 (claims· .0)
-              (claims· .1) "node_records::get_writer_record" (known .0) E (λ pos β. β) (gx g14 t15 l8) (record { pos = 16; ty = y2; ref = λ x. x }, (Num.vAt 6
-              λ x. x, tt)) 14 (3 ∷ []) (Call.sub-id 𝓤 H A W ((gx g14 t15 l8) .slots)) (ShrSlice.spares-sslice 𝓤 H A W WriterRecordT.row y2 3,
+              (claims· .1) "record_tables::get_writer_record" (known .0) E (λ pos β. β) (gx g14 t15 l8) (record { pos = 16; ty = y2; ref = λ x. x }, (Num.vAt
+              6 λ x. x, tt)) 14 (3 ∷ []) (Call.sub-id 𝓤 H A W ((gx g14 t15 l8) .slots)) (ShrSlice.spares-sslice 𝓤 H A W WriterRecordT.row y2 3,
               Shared.reads-sslice 𝓤 H A W WriterRecordT.row y2 3, Path'.refl, ((Scalar.reads-sc 𝓤 H A W (Row.sInt Syntax.w32), Path'.refl), tt))
               (Reads'.room-gone 𝓤 H A y1) (tt, tt) Path'.refl) d46
           d48 : Typed.Typed 𝓤 H A 𝓣 E (gx g13 t1 l8) b40 Δ0 at48
@@ -1084,7 +1084,7 @@ module _ (claims· : Claims) where
               y4 (Shared.room-sslice 𝓤 H A W WriterRecordT.row y2 1)) d59
           d61 : Typed.Typed 𝓤 H A 𝓣 E (gx g4 t1 l2) b46 Δ0 at61
           d61 = Typed.s-seq 𝓤 H A W 𝓣 E (gx g4 t1 l2) (gx g5 t1 l2) b2 b45 Δ0 (Typed.both s3) at60 (Plain.t-call-plain 𝓤 H A W 𝓣 1 ps·0 r·0 (claims· .0)
-              (claims· .1) "node_records::get_writer_record" (known .0) E (λ pos β. β) (gx g4 t1 l2) (record { pos = 9; ty = y2; ref = λ x. x }, (Num.vAt 4 λ
+              (claims· .1) "record_tables::get_writer_record" (known .0) E (λ pos β. β) (gx g4 t1 l2) (record { pos = 9; ty = y2; ref = λ x. x }, (Num.vAt 4 λ
               x. x, tt)) 5 (1 ∷ []) (Call.sub-id 𝓤 H A W ((gx g4 t1 l2) .slots)) (ShrSlice.spares-sslice 𝓤 H A W WriterRecordT.row y2 1, Shared.reads-sslice 𝓤
               H A W WriterRecordT.row y2 1, Path'.refl, ((Scalar.reads-sc 𝓤 H A W (Row.sInt Syntax.w32), Path'.refl), tt)) (Reads'.room-gone 𝓤 H A y1) (tt,
               tt) Path'.refl) d60
@@ -1528,10 +1528,10 @@ module _ (claims· : Claims) where
           asked = λ a good pre bs. laid record { κs = κs; args = record { t = a .0; queue = a .1 .0; e = a .1 .1 .0; k = a .1 .1 .1 .0 }; good = good; fits =
               record { k = record { fits = good .1 .1 .1 .0 .1 } }; pre = pre }
         module _ {M : Type 1} (𝓤 : URA.URA M) (H : Wp.Heap 𝓤) (A : Atoms.Atoms 𝓤) (W : Kit.Given 𝓤 H A) (𝓣 : Wp.Tables 𝓤 H) (known0 : Plain.Known 𝓤 H A W 𝓣 1
-            ps·0 r·0 (claims· .0) (claims· .1) "node_records::get_writer_record") (known1 : Plain.Known 𝓤 H A W 𝓣 0 ps·1 r·1 (claims· .2) (claims· .3)
+            ps·0 r·0 (claims· .0) (claims· .1) "record_tables::get_writer_record") (known1 : Plain.Known 𝓤 H A W 𝓣 0 ps·1 r·1 (claims· .2) (claims· .3)
             "writer_records::before_of") (known2 : Plain.Known 𝓤 H A W 𝓣 0 ps·2 r·2 (claims· .4) (claims· .5) "writer_records::after_of") (known3 :
             Plain.Known 𝓤 H A W 𝓣 0 ps·3 r·3 (claims· .6) (claims· .7) "writer_records::with_after") (known4 : Plain.Known 𝓤 H A W 𝓣 1 ps·4 r·4 (claims· .8)
-            (claims· .9) "node_records::put_writer_record") (known5 : Plain.Known 𝓤 H A W 𝓣 0 ps·5 r·5 (claims· .10) (claims· .11)
+            (claims· .9) "record_tables::put_writer_record") (known5 : Plain.Known 𝓤 H A W 𝓣 0 ps·5 r·5 (claims· .10) (claims· .11)
             "writer_records::with_before") (known6 : Plain.Known 𝓤 H A W 𝓣 0 ps·6 r·6 (claims· .12) (claims· .13) "writer_records::either") where
           pub spec : Statement.Triple 𝓤 (Wp.WpFn 𝓤 H (𝓣 .C) (𝓣 .Λ) (Function.fnOf 1 ps r xs m hs body)) (Function.plainOf 𝓤 H A 1 ps r Pre· Post·)
           spec = Plain.t-fn-plain 𝓤 H A W 𝓣 1 ps r xs m hs body (λ κs qs bs. Φ) (λ κs qs bs bd. typed κs qs 𝓤 H A W 𝓣 (known0, known1, known2, known3, known4,

@@ -1,11 +1,11 @@
 -- Generated: the needs of unlink at its contract, and how its theorem closes.
--- From 2a7436110a0a6637, as 1afbb47306cab569.
+-- From 47d771535d58e2a3, as 2946a956095624a6.
 use borrow.Fn.Run
 use borrow.Fn.Written
 use contract.Running.{givenOf, tablesOf}
-use Rattle.node_records.proofs.Lifted.get_writer_record as get-writer-record-reads
-use Rattle.node_records.proofs.get_writer_record.Met as get-writer-record-met
-use Rattle.node_records.proofs.get_writer_record.Symbol as get-writer-record-symbol
+use Rattle.record_tables.proofs.Lifted.get_writer_record as get-writer-record-reads
+use Rattle.record_tables.proofs.get_writer_record.Met as get-writer-record-met
+use Rattle.record_tables.proofs.get_writer_record.Symbol as get-writer-record-symbol
 use Rattle.writer_records.proofs.before_of.Reads as before-of-reads
 use Rattle.writer_records.proofs.before_of.Met as before-of-met
 use Rattle.writer_records.proofs.before_of.Symbol as before-of-symbol
@@ -15,9 +15,9 @@ use Rattle.writer_records.proofs.after_of.Symbol as after-of-symbol
 use Rattle.writer_records.proofs.with_after.Reads as with-after-reads
 use Rattle.writer_records.proofs.with_after.Met as with-after-met
 use Rattle.writer_records.proofs.with_after.Symbol as with-after-symbol
-use Rattle.node_records.proofs.Lifted.put_writer_record as put-writer-record-reads
-use Rattle.node_records.proofs.put_writer_record.Met as put-writer-record-met
-use Rattle.node_records.proofs.put_writer_record.Symbol as put-writer-record-symbol
+use Rattle.record_tables.proofs.Lifted.put_writer_record as put-writer-record-reads
+use Rattle.record_tables.proofs.put_writer_record.Met as put-writer-record-met
+use Rattle.record_tables.proofs.put_writer_record.Symbol as put-writer-record-symbol
 use Rattle.writer_records.proofs.with_before.Reads as with-before-reads
 use Rattle.writer_records.proofs.with_before.Met as with-before-met
 use Rattle.writer_records.proofs.with_before.Symbol as with-before-symbol
@@ -81,10 +81,10 @@ module _ {M : Type 1} where
   close closed 𝓤 H 𝓜 𝓖 𝓡 =
       Written.close 1 self.ps self.r self.Ghost self.requires self.ensures self.pre-read self.Pinned self.Owned self.post-read record { M = M; 𝓤 = 𝓤; H = H; 𝓜 = 𝓜; 𝓖 = 𝓖; 𝓡 = 𝓡 } code.env Key.name code.function (code.unfolded 𝓤 H 𝓜 𝓡)
       (λ κs a g. tt) (λ κs. self.owns κs record { M = M; 𝓤 = 𝓤; H = H; 𝓜 = 𝓜; 𝓖 = 𝓖; 𝓡 = 𝓡 }) (self.passes record { M = M; 𝓤 = 𝓤; H = H; 𝓜 = 𝓜; 𝓖 = 𝓖; 𝓡 = 𝓡 }) λ g. closed 𝓤 H (𝓖 .A) (givenOf 𝓤 H 𝓜 𝓖) (Run.Over 𝓤 H 𝓜 𝓖 𝓡 code.env)
-      (get-writer-record-reads.known record { M = M; 𝓤 = 𝓤; H = H; 𝓜 = 𝓜; 𝓖 = 𝓖; 𝓡 = 𝓡 } code.env get-writer-record-symbol.name get-writer-record-symbol.routine code.calls-node-records·get-writer-record (get-writer-record-met.met 𝓤 H 𝓜 𝓖 𝓡))
+      (get-writer-record-reads.known record { M = M; 𝓤 = 𝓤; H = H; 𝓜 = 𝓜; 𝓖 = 𝓖; 𝓡 = 𝓡 } code.env get-writer-record-symbol.name get-writer-record-symbol.routine code.calls-record-tables·get-writer-record (get-writer-record-met.met 𝓤 H 𝓜 𝓖 𝓡))
       (before-of-reads.known record { M = M; 𝓤 = 𝓤; H = H; 𝓜 = 𝓜; 𝓖 = 𝓖; 𝓡 = 𝓡 } code.env before-of-symbol.name before-of-symbol.routine code.calls-writer-records·before-of (before-of-met.met 𝓤 H 𝓜 𝓖 𝓡))
       (after-of-reads.known record { M = M; 𝓤 = 𝓤; H = H; 𝓜 = 𝓜; 𝓖 = 𝓖; 𝓡 = 𝓡 } code.env after-of-symbol.name after-of-symbol.routine code.calls-writer-records·after-of (after-of-met.met 𝓤 H 𝓜 𝓖 𝓡))
       (with-after-reads.known record { M = M; 𝓤 = 𝓤; H = H; 𝓜 = 𝓜; 𝓖 = 𝓖; 𝓡 = 𝓡 } code.env with-after-symbol.name with-after-symbol.routine code.calls-writer-records·with-after (with-after-met.met 𝓤 H 𝓜 𝓖 𝓡))
-      (put-writer-record-reads.known record { M = M; 𝓤 = 𝓤; H = H; 𝓜 = 𝓜; 𝓖 = 𝓖; 𝓡 = 𝓡 } code.env put-writer-record-symbol.name put-writer-record-symbol.routine code.calls-node-records·put-writer-record (put-writer-record-met.met 𝓤 H 𝓜 𝓖 𝓡))
+      (put-writer-record-reads.known record { M = M; 𝓤 = 𝓤; H = H; 𝓜 = 𝓜; 𝓖 = 𝓖; 𝓡 = 𝓡 } code.env put-writer-record-symbol.name put-writer-record-symbol.routine code.calls-record-tables·put-writer-record (put-writer-record-met.met 𝓤 H 𝓜 𝓖 𝓡))
       (with-before-reads.known record { M = M; 𝓤 = 𝓤; H = H; 𝓜 = 𝓜; 𝓖 = 𝓖; 𝓡 = 𝓡 } code.env with-before-symbol.name with-before-symbol.routine code.calls-writer-records·with-before (with-before-met.met 𝓤 H 𝓜 𝓖 𝓡))
       (either-reads.known record { M = M; 𝓤 = 𝓤; H = H; 𝓜 = 𝓜; 𝓖 = 𝓖; 𝓡 = 𝓡 } code.env either-symbol.name either-symbol.routine code.calls-writer-records·either (either-met.met 𝓤 H 𝓜 𝓖 𝓡))

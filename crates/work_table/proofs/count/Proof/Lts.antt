@@ -1,5 +1,5 @@
 -- Generated: the derivation of a body.
--- From da7cda4a5652d8ac, as c5e32f67874575ac.
+-- From 82c50cd2a59a6be4, as 64bc3f12a50a04c0.
 use Prim.Native.Nat
 use Rattle.node_records.proofs.NodeRecord
 use Rattle.node_records.proofs.NodeRecord.Laws
@@ -173,11 +173,11 @@ b3 = Syntax.assign (Syntax.place 11 []) (Syntax.addrOf (Syntax.place 1 ((Syntax.
 abbrev b4 : Syntax.Body
 b4 = Syntax.assign (Syntax.place 12 []) (Syntax.aggregate ((Syntax.copy (Syntax.place 11 [])) ∷ (Syntax.copy (Syntax.place 1 ((Syntax.field 1) ∷ []))) ∷ []))
 abbrev b5 : Syntax.Body
-b5 = Syntax.call "node_records::get_record" ((Syntax.copy (Syntax.place 12 [])) ∷ (Syntax.copy (Syntax.place 3 [])) ∷ []) (Syntax.place 10 [])
+b5 = Syntax.call "record_tables::get_record" ((Syntax.copy (Syntax.place 12 [])) ∷ (Syntax.copy (Syntax.place 3 [])) ∷ []) (Syntax.place 10 [])
 abbrev b6 : Syntax.Body
 b6 = Syntax.call "work_table::counted" ((Syntax.copy (Syntax.place 10 [])) ∷ (Syntax.copy (Syntax.place 4 [])) ∷ []) (Syntax.place 9 [])
 abbrev b7 : Syntax.Body
-b7 = Syntax.call "node_records::put_record" ((Syntax.copy (Syntax.place 8 [])) ∷ (Syntax.copy (Syntax.place 3 [])) ∷ (Syntax.copy (Syntax.place 9 [])) ∷ [])
+b7 = Syntax.call "record_tables::put_record" ((Syntax.copy (Syntax.place 8 [])) ∷ (Syntax.copy (Syntax.place 3 [])) ∷ (Syntax.copy (Syntax.place 9 [])) ∷ [])
     (Syntax.place 6 [])
 abbrev b8 : Syntax.Body
 b8 = Syntax.seq b6 b7
@@ -345,8 +345,8 @@ module _ (claims· : Claims) where
     module _ (M : Type 1) where
       abbrev pub Closed : Type 2
       Closed = (𝓤 : URA.URA M) (H : Wp.Heap 𝓤) (A : Atoms.Atoms 𝓤) (W : Kit.Given 𝓤 H A) (𝓣 : Wp.Tables 𝓤 H) (known0 : Plain.Known 𝓤 H A W 𝓣 1 ps·0 r·0
-          (claims· .0) (claims· .1) "node_records::get_record") (known1 : Plain.Known 𝓤 H A W 𝓣 0 ps·1 r·1 (claims· .2) (claims· .3) "work_table::counted")
-          (known2 : Plain.Known 𝓤 H A W 𝓣 1 ps·2 r·2 (claims· .4) (claims· .5) "node_records::put_record") → Statement.Triple 𝓤 (Wp.WpFn 𝓤 H (𝓣 .C) (𝓣 .Λ)
+          (claims· .0) (claims· .1) "record_tables::get_record") (known1 : Plain.Known 𝓤 H A W 𝓣 0 ps·1 r·1 (claims· .2) (claims· .3) "work_table::counted")
+          (known2 : Plain.Known 𝓤 H A W 𝓣 1 ps·2 r·2 (claims· .4) (claims· .5) "record_tables::put_record") → Statement.Triple 𝓤 (Wp.WpFn 𝓤 H (𝓣 .C) (𝓣 .Λ)
           (Function.fnOf 1 ps r xs m hs body)) (Function.plainOf 𝓤 H A 1 ps r Pre· Post·)
     module _ where
       abbrev at0 : Typed.TF T17 O1
@@ -403,8 +403,8 @@ module _ (claims· : Claims) where
       Φ = at24
       module _ {M : Type 1} (𝓤 : URA.URA M) (H : Wp.Heap 𝓤) (A : Atoms.Atoms 𝓤) (W : Kit.Given 𝓤 H A) (𝓣 : Wp.Tables 𝓤 H) where
         abbrev Knowns : Type 1
-        Knowns = Plain.Known 𝓤 H A W 𝓣 1 ps·0 r·0 (claims· .0) (claims· .1) "node_records::get_record" × Plain.Known 𝓤 H A W 𝓣 0 ps·1 r·1 (claims· .2)
-            (claims· .3) "work_table::counted" × Plain.Known 𝓤 H A W 𝓣 1 ps·2 r·2 (claims· .4) (claims· .5) "node_records::put_record"
+        Knowns = Plain.Known 𝓤 H A W 𝓣 1 ps·0 r·0 (claims· .0) (claims· .1) "record_tables::get_record" × Plain.Known 𝓤 H A W 𝓣 0 ps·1 r·1 (claims· .2)
+            (claims· .3) "work_table::counted" × Plain.Known 𝓤 H A W 𝓣 1 ps·2 r·2 (claims· .4) (claims· .5) "record_tables::put_record"
       module _ (κs : Lifetimes.Lfts 1) (qs : Lifetimes.Shares 1) where
         abbrev K0 : Row.Life
         K0 = Row.lease (κs .0) (qs .0)
@@ -524,7 +524,7 @@ module _ (claims· : Claims) where
               A W 𝓣 E G17 G21 G22 b7 (λ Ψ. Typed.both s15 (Typed.pass T18 T19 s16 (Typed.pass T19 T20 s17 Ψ))) (Typed.both s19) (Typed.g-post 𝓤 H A W 𝓣 E G17
               G20 G21 b7 (λ Ψ. Typed.both s15 (Typed.pass T18 T19 s16 (Typed.pass T19 T20 s17 Ψ))) (λ Ψ. Ψ) (Typed.g-post 𝓤 H A W 𝓣 E G17 G19 G20 b7 (λ Ψ.
               Typed.both s15 (Typed.pass T18 T19 s16 Ψ)) (Typed.pass T19 T20 s17) (Typed.g-post 𝓤 H A W 𝓣 E G17 G18 G19 b7 (Typed.both s15) (Typed.pass T18
-              T19 s16) (Plain.t-call-plain 𝓤 H A W 𝓣 1 ps·2 r·2 (claims· .4) (claims· .5) "node_records::put_record" (known .2) E (λ pos β. β) G17 (record {
+              T19 s16) (Plain.t-call-plain 𝓤 H A W 𝓣 1 ps·2 r·2 (claims· .4) (claims· .5) "record_tables::put_record" (known .2) E (λ pos β. β) G17 (record {
               pos = 8; ty = y0; ref = λ x. x }, (Num.vAt 3 λ x. x, (record { pos = 9; st = []; d = 0; at = λ x. x }, tt))) 6 (1 ∷ []) (Call.sub-id 𝓤 H A W
               (G17 .slots)) (Reads.as-is 𝓤 H A (Mut.mslice NodeRecordT.row y0 1), Mut.reads-mslice 𝓤 H A W NodeRecordT.row y0 1, Path'.refl, ((Scalar.reads-sc
               𝓤 H A W (Row.sInt Syntax.w32), Path'.refl), ((Yields.yields-copy 𝓤 H A W (λ ρ. Unit) (Declared.row NodeRecord.the-type) Path'.refl
@@ -557,7 +557,7 @@ module _ (claims· : Claims) where
               NodeRecordT.row y5 2)) d5
           d7 : Typed.Typed 𝓤 H A 𝓣 E G10 b9 Δ1 at7
           d7 = Typed.s-seq 𝓤 H A W 𝓣 E G10 G11 b5 b8 Δ1 (Typed.both s8) at6 (Plain.t-call-plain 𝓤 H A W 𝓣 1 ps·0 r·0 (claims· .0) (claims· .1)
-              "node_records::get_record" (known .0) E (λ pos β. β) G10 (record { pos = 12; ty = y5; ref = λ x. x }, (Num.vAt 3 λ x. x, tt)) 10 (2 ∷ [])
+              "record_tables::get_record" (known .0) E (λ pos β. β) G10 (record { pos = 12; ty = y5; ref = λ x. x }, (Num.vAt 3 λ x. x, tt)) 10 (2 ∷ [])
               (Call.sub-id 𝓤 H A W (G10 .slots)) (ShrSlice.spares-sslice 𝓤 H A W NodeRecordT.row y5 2, Shared.reads-sslice 𝓤 H A W NodeRecordT.row y5 2,
               Path'.refl, ((Scalar.reads-sc 𝓤 H A W (Row.sInt Syntax.w32), Path'.refl), tt)) (Reads.room-gone 𝓤 H A y4) (tt, tt) Path'.refl) d6
           d8 : Typed.Typed 𝓤 H A 𝓣 E G9 b10 Δ1 at8
@@ -809,8 +809,8 @@ module _ (claims· : Claims) where
           asked = λ a good pre bs. laid record { κs = κs; args = record { t = a .0; z = a .1 .0; k = a .1 .1 .0; more = a .1 .1 .1 .0 }; good = good; fits =
               record { z = record { fits = good .1 .0 .1 }; k = record { fits = good .1 .1 .0 .1 } }; pre = pre }
         module _ {M : Type 1} (𝓤 : URA.URA M) (H : Wp.Heap 𝓤) (A : Atoms.Atoms 𝓤) (W : Kit.Given 𝓤 H A) (𝓣 : Wp.Tables 𝓤 H) (known0 : Plain.Known 𝓤 H A W 𝓣 1
-            ps·0 r·0 (claims· .0) (claims· .1) "node_records::get_record") (known1 : Plain.Known 𝓤 H A W 𝓣 0 ps·1 r·1 (claims· .2) (claims· .3)
-            "work_table::counted") (known2 : Plain.Known 𝓤 H A W 𝓣 1 ps·2 r·2 (claims· .4) (claims· .5) "node_records::put_record") where
+            ps·0 r·0 (claims· .0) (claims· .1) "record_tables::get_record") (known1 : Plain.Known 𝓤 H A W 𝓣 0 ps·1 r·1 (claims· .2) (claims· .3)
+            "work_table::counted") (known2 : Plain.Known 𝓤 H A W 𝓣 1 ps·2 r·2 (claims· .4) (claims· .5) "record_tables::put_record") where
           pub spec : Statement.Triple 𝓤 (Wp.WpFn 𝓤 H (𝓣 .C) (𝓣 .Λ) (Function.fnOf 1 ps r xs m hs body)) (Function.plainOf 𝓤 H A 1 ps r Pre· Post·)
           spec = Plain.t-fn-plain 𝓤 H A W 𝓣 1 ps r xs m hs body (λ κs qs bs. Φ) (λ κs qs bs bd. typed κs qs 𝓤 H A W 𝓣 (known0, known1, known2) bs bd) Pre·
               Post· asked

@@ -1,17 +1,17 @@
 -- Generated: the needs of count at its contract, and how its theorem closes.
--- From da7cda4a5652d8ac, as f3274ba3ac82a20d.
+-- From 82c50cd2a59a6be4, as dffc042ce5774304.
 use borrow.Fn.Run
 use borrow.Fn.Written
 use contract.Running.{givenOf, tablesOf}
-use Rattle.node_records.proofs.Lifted.get_record as get-record-reads
-use Rattle.node_records.proofs.get_record.Met as get-record-met
-use Rattle.node_records.proofs.get_record.Symbol as get-record-symbol
+use Rattle.record_tables.proofs.Lifted.get_record as get-record-reads
+use Rattle.record_tables.proofs.get_record.Met as get-record-met
+use Rattle.record_tables.proofs.get_record.Symbol as get-record-symbol
 use Rattle.work_table.proofs.counted.Reads as counted-reads
 use Rattle.work_table.proofs.counted.Met as counted-met
 use Rattle.work_table.proofs.counted.Symbol as counted-symbol
-use Rattle.node_records.proofs.Lifted.put_record as put-record-reads
-use Rattle.node_records.proofs.put_record.Met as put-record-met
-use Rattle.node_records.proofs.put_record.Symbol as put-record-symbol
+use Rattle.record_tables.proofs.Lifted.put_record as put-record-reads
+use Rattle.record_tables.proofs.put_record.Met as put-record-met
+use Rattle.record_tables.proofs.put_record.Symbol as put-record-symbol
 use Rattle.work_table.proofs.count.Key
 use Rattle.work_table.proofs.count.Code as code
 use Rattle.work_table.proofs.count.Statement.{statement}
@@ -48,6 +48,6 @@ module _ {M : Type 1} where
   close closed 𝓤 H 𝓜 𝓖 𝓡 =
       Written.close 1 self.ps self.r self.Ghost self.requires self.ensures self.pre-read self.Pinned self.Owned self.post-read record { M = M; 𝓤 = 𝓤; H = H; 𝓜 = 𝓜; 𝓖 = 𝓖; 𝓡 = 𝓡 } code.env Key.name code.function (code.unfolded 𝓤 H 𝓜 𝓡)
       (λ κs a g. tt) (λ κs. self.owns κs record { M = M; 𝓤 = 𝓤; H = H; 𝓜 = 𝓜; 𝓖 = 𝓖; 𝓡 = 𝓡 }) (self.passes record { M = M; 𝓤 = 𝓤; H = H; 𝓜 = 𝓜; 𝓖 = 𝓖; 𝓡 = 𝓡 }) λ g. closed 𝓤 H (𝓖 .A) (givenOf 𝓤 H 𝓜 𝓖) (Run.Over 𝓤 H 𝓜 𝓖 𝓡 code.env)
-      (get-record-reads.known record { M = M; 𝓤 = 𝓤; H = H; 𝓜 = 𝓜; 𝓖 = 𝓖; 𝓡 = 𝓡 } code.env get-record-symbol.name get-record-symbol.routine code.calls-node-records·get-record (get-record-met.met 𝓤 H 𝓜 𝓖 𝓡))
+      (get-record-reads.known record { M = M; 𝓤 = 𝓤; H = H; 𝓜 = 𝓜; 𝓖 = 𝓖; 𝓡 = 𝓡 } code.env get-record-symbol.name get-record-symbol.routine code.calls-record-tables·get-record (get-record-met.met 𝓤 H 𝓜 𝓖 𝓡))
       (counted-reads.known record { M = M; 𝓤 = 𝓤; H = H; 𝓜 = 𝓜; 𝓖 = 𝓖; 𝓡 = 𝓡 } code.env counted-symbol.name counted-symbol.routine code.calls-work-table·counted (counted-met.met 𝓤 H 𝓜 𝓖 𝓡))
-      (put-record-reads.known record { M = M; 𝓤 = 𝓤; H = H; 𝓜 = 𝓜; 𝓖 = 𝓖; 𝓡 = 𝓡 } code.env put-record-symbol.name put-record-symbol.routine code.calls-node-records·put-record (put-record-met.met 𝓤 H 𝓜 𝓖 𝓡))
+      (put-record-reads.known record { M = M; 𝓤 = 𝓤; H = H; 𝓜 = 𝓜; 𝓖 = 𝓖; 𝓡 = 𝓡 } code.env put-record-symbol.name put-record-symbol.routine code.calls-record-tables·put-record (put-record-met.met 𝓤 H 𝓜 𝓖 𝓡))

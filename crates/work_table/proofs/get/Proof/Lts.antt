@@ -1,5 +1,5 @@
 -- Generated: the derivation of a body.
--- From da7cda4a5652d8ac, as adb4d553811cc082.
+-- From 82c50cd2a59a6be4, as 3366b78a3e52d603.
 use Prim.Native.Nat
 use Rattle.node_records.proofs.NodeRecord
 use Rattle.node_records.proofs.NodeRecord.Laws
@@ -109,7 +109,7 @@ b4 = Syntax.skip
 abbrev b5 : Syntax.Body
 b5 = Syntax.cond (Syntax.copy (Syntax.place 4 [])) b3 b4
 abbrev b6 : Syntax.Body
-b6 = Syntax.call "node_records::get_record" ((Syntax.copy (Syntax.place 1 [])) ∷ (Syntax.copy (Syntax.place 3 [])) ∷ []) (Syntax.place 0 [])
+b6 = Syntax.call "record_tables::get_record" ((Syntax.copy (Syntax.place 1 [])) ∷ (Syntax.copy (Syntax.place 3 [])) ∷ []) (Syntax.place 0 [])
 abbrev b7 : Syntax.Body
 b7 = Syntax.return
 abbrev b8 : Syntax.Body
@@ -186,8 +186,8 @@ module _ (claims· : Claims) where
       abbrev pub Closed : Type 2
       Closed = (𝓤 : URA.URA M) (H : Wp.Heap 𝓤) (A : Atoms.Atoms 𝓤) (W : Kit.Given 𝓤 H A) (𝓣 : Wp.Tables 𝓤 H) (known0 : Plain.Known 𝓤 H A W 𝓣 0 ps·0 r·0
           (claims· .0) (claims· .1) "node_records::no_record") (known1 : Plain.Known 𝓤 H A W 𝓣 1 ps·1 r·1 (claims· .2) (claims· .3)
-          "node_records::get_record") → Statement.Triple 𝓤 (Wp.WpFn 𝓤 H (𝓣 .C) (𝓣 .Λ) (Function.fnOf 1 ps r xs m hs body)) (Function.plainOf 𝓤 H A 1 ps r Pre·
-          Post·)
+          "record_tables::get_record") → Statement.Triple 𝓤 (Wp.WpFn 𝓤 H (𝓣 .C) (𝓣 .Λ) (Function.fnOf 1 ps r xs m hs body)) (Function.plainOf 𝓤 H A 1 ps r
+          Pre· Post·)
     module _ where
       abbrev at0 : Typed.TF T7 O1
       at0 = Typed.atRet O1
@@ -222,7 +222,7 @@ module _ (claims· : Claims) where
       module _ {M : Type 1} (𝓤 : URA.URA M) (H : Wp.Heap 𝓤) (A : Atoms.Atoms 𝓤) (W : Kit.Given 𝓤 H A) (𝓣 : Wp.Tables 𝓤 H) where
         abbrev Knowns : Type 1
         Knowns = Plain.Known 𝓤 H A W 𝓣 0 ps·0 r·0 (claims· .0) (claims· .1) "node_records::no_record" × Plain.Known 𝓤 H A W 𝓣 1 ps·1 r·1 (claims· .2) (claims·
-            .3) "node_records::get_record"
+            .3) "record_tables::get_record"
       module _ (κs : Lifetimes.Lfts 1) (qs : Lifetimes.Shares 1) where
         abbrev K0 : Row.Life
         K0 = Row.lease (κs .0) (qs .0)
@@ -291,7 +291,7 @@ module _ (claims· : Claims) where
               Syntax.w32))) d9
           d11 : Typed.Typed 𝓤 H A 𝓣 E G3 b8 Δ0 at11
           d11 = Typed.s-seq 𝓤 H A W 𝓣 E G3 G9 b6 b7 Δ0 (Typed.both s6) at10 (Plain.t-call-plain 𝓤 H A W 𝓣 1 ps·1 r·1 (claims· .2) (claims· .3)
-              "node_records::get_record" (known .1) E (λ pos β. β) G3 (record { pos = 1; ty = y2; ref = λ x. x }, (Num.vAt 3 λ x. x, tt)) 0 (0 ∷ [])
+              "record_tables::get_record" (known .1) E (λ pos β. β) G3 (record { pos = 1; ty = y2; ref = λ x. x }, (Num.vAt 3 λ x. x, tt)) 0 (0 ∷ [])
               (Call.sub-id 𝓤 H A W (G3 .slots)) (ShrSlice.spares-sslice 𝓤 H A W NodeRecordT.row y2 0, Shared.reads-sslice 𝓤 H A W NodeRecordT.row y2 0,
               Path'.refl, ((Scalar.reads-sc 𝓤 H A W (Row.sInt Syntax.w32), Path'.refl), tt)) (Reads.room-gone 𝓤 H A y1) (tt, tt) Path'.refl) d10
           d12 : Typed.Typed 𝓤 H A 𝓣 E G2 b9 Δ0 at12
@@ -414,6 +414,6 @@ module _ (claims· : Claims) where
               fits = good .1 .0 .1 }; k = record { fits = good .1 .1 .0 .1 } }; pre = pre }
         module _ {M : Type 1} (𝓤 : URA.URA M) (H : Wp.Heap 𝓤) (A : Atoms.Atoms 𝓤) (W : Kit.Given 𝓤 H A) (𝓣 : Wp.Tables 𝓤 H) (known0 : Plain.Known 𝓤 H A W 𝓣 0
             ps·0 r·0 (claims· .0) (claims· .1) "node_records::no_record") (known1 : Plain.Known 𝓤 H A W 𝓣 1 ps·1 r·1 (claims· .2) (claims· .3)
-            "node_records::get_record") where
+            "record_tables::get_record") where
           pub spec : Statement.Triple 𝓤 (Wp.WpFn 𝓤 H (𝓣 .C) (𝓣 .Λ) (Function.fnOf 1 ps r xs m hs body)) (Function.plainOf 𝓤 H A 1 ps r Pre· Post·)
           spec = Plain.t-fn-plain 𝓤 H A W 𝓣 1 ps r xs m hs body (λ κs qs bs. Φ) (λ κs qs bs bd. typed κs qs 𝓤 H A W 𝓣 (known0, known1) bs bd) Pre· Post· asked

@@ -1,5 +1,5 @@
 -- Generated: the derivation of a body.
--- From da7cda4a5652d8ac, as 5b7666c007b2b95c.
+-- From 82c50cd2a59a6be4, as d2021614d2f99254.
 use Prim.Native.Nat
 use Rattle.node_records.proofs.NodeRecord
 use Rattle.node_records.proofs.NodeRecord.Laws
@@ -209,7 +209,7 @@ b3 = Syntax.assign (Syntax.place 9 []) (Syntax.addrOf (Syntax.place 1 ((Syntax.f
 abbrev b4 : Syntax.Body
 b4 = Syntax.assign (Syntax.place 10 []) (Syntax.aggregate ((Syntax.copy (Syntax.place 9 [])) ∷ (Syntax.copy (Syntax.place 1 ((Syntax.field 1) ∷ []))) ∷ []))
 abbrev b5 : Syntax.Body
-b5 = Syntax.call "node_records::put_record" ((Syntax.copy (Syntax.place 10 [])) ∷ (Syntax.copy (Syntax.place 3 [])) ∷ (Syntax.copy (Syntax.place 4 [])) ∷ [])
+b5 = Syntax.call "record_tables::put_record" ((Syntax.copy (Syntax.place 10 [])) ∷ (Syntax.copy (Syntax.place 3 [])) ∷ (Syntax.copy (Syntax.place 4 [])) ∷ [])
     (Syntax.place 8 [])
 abbrev b6 : Syntax.Body
 b6 = Syntax.assign (Syntax.place 11 []) (Syntax.addrOf (Syntax.place 1 ((Syntax.field 0) ∷ (Syntax.deref NodeRecordT.value) ∷ [])))
@@ -447,7 +447,7 @@ module _ (claims· : Claims) where
     module _ (M : Type 1) where
       abbrev pub Closed : Type 2
       Closed = (𝓤 : URA.URA M) (H : Wp.Heap 𝓤) (A : Atoms.Atoms 𝓤) (W : Kit.Given 𝓤 H A) (𝓣 : Wp.Tables 𝓤 H) (known0 : Plain.Known 𝓤 H A W 𝓣 1 ps·0 r·0
-          (claims· .0) (claims· .1) "work_table::get") (known1 : Plain.Known 𝓤 H A W 𝓣 1 ps·1 r·1 (claims· .2) (claims· .3) "node_records::put_record")
+          (claims· .0) (claims· .1) "work_table::get") (known1 : Plain.Known 𝓤 H A W 𝓣 1 ps·1 r·1 (claims· .2) (claims· .3) "record_tables::put_record")
           (known2 : Plain.Known 𝓤 H A W 𝓣 1 ps·2 r·2 (claims· .4) (claims· .5) "work_table::count") → Statement.Triple 𝓤 (Wp.WpFn 𝓤 H (𝓣 .C) (𝓣 .Λ)
           (Function.fnOf 1 ps r xs m hs body)) (Function.plainOf 𝓤 H A 1 ps r Pre· Post·)
     module _ where
@@ -564,7 +564,7 @@ module _ (claims· : Claims) where
       module _ {M : Type 1} (𝓤 : URA.URA M) (H : Wp.Heap 𝓤) (A : Atoms.Atoms 𝓤) (W : Kit.Given 𝓤 H A) (𝓣 : Wp.Tables 𝓤 H) where
         abbrev Knowns : Type 1
         Knowns = Plain.Known 𝓤 H A W 𝓣 1 ps·0 r·0 (claims· .0) (claims· .1) "work_table::get" × Plain.Known 𝓤 H A W 𝓣 1 ps·1 r·1 (claims· .2) (claims· .3)
-            "node_records::put_record" × Plain.Known 𝓤 H A W 𝓣 1 ps·2 r·2 (claims· .4) (claims· .5) "work_table::count"
+            "record_tables::put_record" × Plain.Known 𝓤 H A W 𝓣 1 ps·2 r·2 (claims· .4) (claims· .5) "work_table::count"
       module _ (κs : Lifetimes.Lfts 1) (qs : Lifetimes.Shares 1) where
         abbrev K0 : Row.Life
         K0 = Row.lease (κs .0) (qs .0)
@@ -839,7 +839,7 @@ module _ (claims· : Claims) where
               l6) 8 Syntax.tyUnit (Scalar.room-sc 𝓤 H A W Row.sUnit)) d40
           d42 : Typed.Typed 𝓤 H A 𝓣 E (gx g9 t1 l6) b33 Δ0 at42
           d42 = Typed.s-seq 𝓤 H A W 𝓣 E (gx g9 t1 l6) (gx g10 t1 l6) b5 b32 Δ0 (Typed.both s11) at41 (Plain.t-call-plain 𝓤 H A W 𝓣 1 ps·1 r·1 (claims· .2)
-              (claims· .3) "node_records::put_record" (known .1) E (λ pos β. β) (gx g9 t1 l6) (record { pos = 10; ty = y5; ref = λ x. x }, (Num.vAt 3 λ x. x,
+              (claims· .3) "record_tables::put_record" (known .1) E (λ pos β. β) (gx g9 t1 l6) (record { pos = 10; ty = y5; ref = λ x. x }, (Num.vAt 3 λ x. x,
               (record { pos = 4; st = []; d = 0; at = λ x. x }, tt))) 8 (2 ∷ []) (Call.sub-id 𝓤 H A W ((gx g9 t1 l6) .slots)) (Reads'.as-is 𝓤 H A (Mut.mslice
               NodeRecordT.row y5 2), Mut.reads-mslice 𝓤 H A W NodeRecordT.row y5 2, Path'.refl, ((Scalar.reads-sc 𝓤 H A W (Row.sInt Syntax.w32), Path'.refl),
               ((Yields.yields-copy 𝓤 H A W (λ ρ. Unit) (Declared.row NodeRecord.the-type) Path'.refl (Copies.cStruct NodeRecord.the-type Laws.the-laws
@@ -1210,7 +1210,7 @@ module _ (claims· : Claims) where
               record { z = record { fits = good .1 .0 .1 }; k = record { fits = good .1 .1 .0 .1 } }; pre = pre }
         module _ {M : Type 1} (𝓤 : URA.URA M) (H : Wp.Heap 𝓤) (A : Atoms.Atoms 𝓤) (W : Kit.Given 𝓤 H A) (𝓣 : Wp.Tables 𝓤 H) (known0 : Plain.Known 𝓤 H A W 𝓣 1
             ps·0 r·0 (claims· .0) (claims· .1) "work_table::get") (known1 : Plain.Known 𝓤 H A W 𝓣 1 ps·1 r·1 (claims· .2) (claims· .3)
-            "node_records::put_record") (known2 : Plain.Known 𝓤 H A W 𝓣 1 ps·2 r·2 (claims· .4) (claims· .5) "work_table::count") where
+            "record_tables::put_record") (known2 : Plain.Known 𝓤 H A W 𝓣 1 ps·2 r·2 (claims· .4) (claims· .5) "work_table::count") where
           pub spec : Statement.Triple 𝓤 (Wp.WpFn 𝓤 H (𝓣 .C) (𝓣 .Λ) (Function.fnOf 1 ps r xs m hs body)) (Function.plainOf 𝓤 H A 1 ps r Pre· Post·)
           spec = Plain.t-fn-plain 𝓤 H A W 𝓣 1 ps r xs m hs body (λ κs qs bs. Φ) (λ κs qs bs bd. typed κs qs 𝓤 H A W 𝓣 (known0, known1, known2) bs bd) Pre·
               Post· asked

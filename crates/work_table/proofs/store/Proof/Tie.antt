@@ -1,14 +1,14 @@
 -- Generated: the needs of store at its contract, and how its theorem closes.
--- From da7cda4a5652d8ac, as 2729b497a8e9e767.
+-- From 82c50cd2a59a6be4, as eee651c44ef9886a.
 use borrow.Fn.Run
 use borrow.Fn.Written
 use contract.Running.{givenOf, tablesOf}
 use Rattle.work_table.proofs.Lifted.get as get-reads
 use Rattle.work_table.proofs.get.Met as get-met
 use Rattle.work_table.proofs.get.Symbol as get-symbol
-use Rattle.node_records.proofs.Lifted.put_record as put-record-reads
-use Rattle.node_records.proofs.put_record.Met as put-record-met
-use Rattle.node_records.proofs.put_record.Symbol as put-record-symbol
+use Rattle.record_tables.proofs.Lifted.put_record as put-record-reads
+use Rattle.record_tables.proofs.put_record.Met as put-record-met
+use Rattle.record_tables.proofs.put_record.Symbol as put-record-symbol
 use Rattle.work_table.proofs.Lifted.count as count-reads
 use Rattle.work_table.proofs.count.Met as count-met
 use Rattle.work_table.proofs.count.Symbol as count-symbol
@@ -55,5 +55,5 @@ module _ {M : Type 1} where
       Written.close 1 self.ps self.r self.Ghost self.requires self.ensures self.pre-read self.Pinned self.Owned self.post-read record { M = M; 𝓤 = 𝓤; H = H; 𝓜 = 𝓜; 𝓖 = 𝓖; 𝓡 = 𝓡 } code.env Key.name code.function (code.unfolded 𝓤 H 𝓜 𝓡)
       (λ κs a g. tt) (λ κs. self.owns κs record { M = M; 𝓤 = 𝓤; H = H; 𝓜 = 𝓜; 𝓖 = 𝓖; 𝓡 = 𝓡 }) (self.passes record { M = M; 𝓤 = 𝓤; H = H; 𝓜 = 𝓜; 𝓖 = 𝓖; 𝓡 = 𝓡 }) λ g. closed 𝓤 H (𝓖 .A) (givenOf 𝓤 H 𝓜 𝓖) (Run.Over 𝓤 H 𝓜 𝓖 𝓡 code.env)
       (get-reads.known record { M = M; 𝓤 = 𝓤; H = H; 𝓜 = 𝓜; 𝓖 = 𝓖; 𝓡 = 𝓡 } code.env get-symbol.name get-symbol.routine code.calls-work-table·get (get-met.met 𝓤 H 𝓜 𝓖 𝓡))
-      (put-record-reads.known record { M = M; 𝓤 = 𝓤; H = H; 𝓜 = 𝓜; 𝓖 = 𝓖; 𝓡 = 𝓡 } code.env put-record-symbol.name put-record-symbol.routine code.calls-node-records·put-record (put-record-met.met 𝓤 H 𝓜 𝓖 𝓡))
+      (put-record-reads.known record { M = M; 𝓤 = 𝓤; H = H; 𝓜 = 𝓜; 𝓖 = 𝓖; 𝓡 = 𝓡 } code.env put-record-symbol.name put-record-symbol.routine code.calls-record-tables·put-record (put-record-met.met 𝓤 H 𝓜 𝓖 𝓡))
       (count-reads.known record { M = M; 𝓤 = 𝓤; H = H; 𝓜 = 𝓜; 𝓖 = 𝓖; 𝓡 = 𝓡 } code.env count-symbol.name count-symbol.routine code.calls-work-table·count (count-met.met 𝓤 H 𝓜 𝓖 𝓡))

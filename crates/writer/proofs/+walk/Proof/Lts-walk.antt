@@ -1,5 +1,5 @@
 -- Generated: the derivation of a body.
--- From 890f16ded88694c9, as 644786f7bd93b8cc.
+-- From 96e9cd744a7ff944, as 644786f7bd93b8cc.
 use Prim.Native.Nat
 use Rattle.meeting.proofs.Half
 use Rattle.meeting.proofs.Half.Laws

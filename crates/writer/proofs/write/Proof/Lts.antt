@@ -1,5 +1,5 @@
 -- Generated: the derivation of a body.
--- From 890f16ded88694c9, as cad03cd0e9e8a21b.
+-- From 96e9cd744a7ff944, as 90b26dfa8e8d07fd.
 use Prim.Native.Nat
 use Rattle.checker.proofs.Refusal
 use Rattle.checker.proofs.Refusal.Laws
@@ -437,7 +437,7 @@ b56 = Syntax.assign (Syntax.place 24 []) (Syntax.addrOf (Syntax.place 5 ((Syntax
 abbrev b57 : Syntax.Body
 b57 = Syntax.assign (Syntax.place 25 []) (Syntax.aggregate ((Syntax.copy (Syntax.place 24 [])) ∷ (Syntax.copy (Syntax.place 5 ((Syntax.field 1) ∷ []))) ∷ []))
 abbrev b58 : Syntax.Body
-b58 = Syntax.call "node_records::clear_writer_records" ((Syntax.copy (Syntax.place 25 [])) ∷ []) (Syntax.place 23 [])
+b58 = Syntax.call "record_tables::clear_writer_records" ((Syntax.copy (Syntax.place 25 [])) ∷ []) (Syntax.place 23 [])
 abbrev b59 : Syntax.Body
 b59 = Syntax.assign (Syntax.place 6 []) (Syntax.repeat (Syntax.int Syntax.w8 0) 2400)
 abbrev b60 : Syntax.Body
@@ -460,7 +460,7 @@ b67 = Syntax.assign (Syntax.place 32 []) (Syntax.addrOf (Syntax.place 5 ((Syntax
 abbrev b68 : Syntax.Body
 b68 = Syntax.assign (Syntax.place 33 []) (Syntax.aggregate ((Syntax.copy (Syntax.place 32 [])) ∷ (Syntax.copy (Syntax.place 5 ((Syntax.field 1) ∷ []))) ∷ []))
 abbrev b69 : Syntax.Body
-b69 = Syntax.call "node_records::clear_writer_records" ((Syntax.copy (Syntax.place 33 [])) ∷ []) (Syntax.place 23 [])
+b69 = Syntax.call "record_tables::clear_writer_records" ((Syntax.copy (Syntax.place 33 [])) ∷ []) (Syntax.place 23 [])
 abbrev b70 : Syntax.Body
 b70 = Syntax.assign (Syntax.place 35 []) (Syntax.op1 (Syntax.cast Syntax.unsigned Syntax.unsigned Syntax.w64) (Syntax.copy (Syntax.place 1 [])))
 abbrev b71 : Syntax.Body
@@ -1128,9 +1128,9 @@ module _ (claims· : Claims) where
       abbrev pub Closed : Type 2
       Closed = (𝓤 : URA.URA M) (H : Wp.Heap 𝓤) (A : Atoms.Atoms 𝓤) (W : Kit.Given 𝓤 H A) (𝓣 : Wp.Tables 𝓤 H) (known0 : Plain.Known 𝓤 H A W 𝓣 0 ps·0 r·0
           (claims· .0) (claims· .1) "checker::early") (known1 : Plain.Known 𝓤 H A W 𝓣 1 ps·1 r·1 (claims· .2) (claims· .3)
-          "node_records::clear_writer_records") (known2 : Plain.Known 𝓤 H A W 𝓣 4 ps·2 r·2 (claims· .4) (claims· .5) "writer::stream") (known3 : Plain.Known 𝓤
-          H A W 𝓣 0 ps·3 r·3 (claims· .6) (claims· .7) "writer::answer") → Statement.Triple 𝓤 (Wp.WpFn 𝓤 H (𝓣 .C) (𝓣 .Λ) (Function.fnOf 3 ps r xs m hs body))
-          (Function.plainOf 𝓤 H A 3 ps r Pre· Post·)
+          "record_tables::clear_writer_records") (known2 : Plain.Known 𝓤 H A W 𝓣 4 ps·2 r·2 (claims· .4) (claims· .5) "writer::stream") (known3 : Plain.Known
+          𝓤 H A W 𝓣 0 ps·3 r·3 (claims· .6) (claims· .7) "writer::answer") → Statement.Triple 𝓤 (Wp.WpFn 𝓤 H (𝓣 .C) (𝓣 .Λ) (Function.fnOf 3 ps r xs m hs
+          body)) (Function.plainOf 𝓤 H A 3 ps r Pre· Post·)
     module _ where
       abbrev at0 : (bs : List Nat.ℕ) → Typed.TF T13 O1
       at0 = λ bs. Typed.atRet O1
@@ -1405,7 +1405,7 @@ module _ (claims· : Claims) where
       module _ {M : Type 1} (𝓤 : URA.URA M) (H : Wp.Heap 𝓤) (A : Atoms.Atoms 𝓤) (W : Kit.Given 𝓤 H A) (𝓣 : Wp.Tables 𝓤 H) where
         abbrev Knowns : Type 1
         Knowns = Plain.Known 𝓤 H A W 𝓣 0 ps·0 r·0 (claims· .0) (claims· .1) "checker::early" × Plain.Known 𝓤 H A W 𝓣 1 ps·1 r·1 (claims· .2) (claims· .3)
-            "node_records::clear_writer_records" × Plain.Known 𝓤 H A W 𝓣 4 ps·2 r·2 (claims· .4) (claims· .5) "writer::stream" × Plain.Known 𝓤 H A W 𝓣 0 ps·3
+            "record_tables::clear_writer_records" × Plain.Known 𝓤 H A W 𝓣 4 ps·2 r·2 (claims· .4) (claims· .5) "writer::stream" × Plain.Known 𝓤 H A W 𝓣 0 ps·3
             r·3 (claims· .6) (claims· .7) "writer::answer"
       module _ (κs : Lifetimes.Lfts 3) (qs : Lifetimes.Shares 3) where
         abbrev K0 : Row.Life
@@ -2055,7 +2055,7 @@ module _ (claims· : Claims) where
               (Scalar.room-sc 𝓤 H A W Row.sUnit)) d77
           d79 : Typed.Typed 𝓤 H A 𝓣 E G104 b79 Δ0 (at79 bs)
           d79 = Typed.s-seq 𝓤 H A W 𝓣 E G104 G105 b69 b78 Δ0 (Typed.both (s98 bs)) (at78 bs) (Plain.t-call-plain 𝓤 H A W 𝓣 1 ps·1 r·1 (claims· .2) (claims·
-              .3) "node_records::clear_writer_records" (known .1) E (λ pos β. β) G104 (record { pos = 33; ty = y7; ref = λ x. x }, tt) 23 (7 ∷ [])
+              .3) "record_tables::clear_writer_records" (known .1) E (λ pos β. β) G104 (record { pos = 33; ty = y7; ref = λ x. x }, tt) 23 (7 ∷ [])
               (Call.sub-id 𝓤 H A W (G104 .slots)) (Reads'.as-is 𝓤 H A (Mut.mslice WriterRecordT.row y7 7), Mut.reads-mslice 𝓤 H A W WriterRecordT.row y7 7,
               Path'.refl, tt) (Reads'.room-gone 𝓤 H A Syntax.tyUnit) (tt, tt) Path'.refl) d78
           d80 : Typed.Typed 𝓤 H A 𝓣 E G103 b80 Δ0 (at80 bs)
@@ -2173,9 +2173,9 @@ module _ (claims· : Claims) where
               𝓤 H A W Row.sUnit)) d108
           d110 : Typed.Typed 𝓤 H A 𝓣 E G73 b90 Δ0 (at110 bs)
           d110 = Typed.s-seq 𝓤 H A W 𝓣 E G73 G74 b58 b89 Δ0 (Typed.both (s67 bs)) (at109 bs) (Plain.t-call-plain 𝓤 H A W 𝓣 1 ps·1 r·1 (claims· .2) (claims·
-              .3) "node_records::clear_writer_records" (known .1) E (λ pos β. β) G73 (record { pos = 25; ty = y7; ref = λ x. x }, tt) 23 (3 ∷ []) (Call.sub-id
-              𝓤 H A W (G73 .slots)) (Reads'.as-is 𝓤 H A (Mut.mslice WriterRecordT.row y7 3), Mut.reads-mslice 𝓤 H A W WriterRecordT.row y7 3, Path'.refl, tt)
-              (Reads'.room-gone 𝓤 H A Syntax.tyUnit) (tt, tt) Path'.refl) d109
+              .3) "record_tables::clear_writer_records" (known .1) E (λ pos β. β) G73 (record { pos = 25; ty = y7; ref = λ x. x }, tt) 23 (3 ∷ [])
+              (Call.sub-id 𝓤 H A W (G73 .slots)) (Reads'.as-is 𝓤 H A (Mut.mslice WriterRecordT.row y7 3), Mut.reads-mslice 𝓤 H A W WriterRecordT.row y7 3,
+              Path'.refl, tt) (Reads'.room-gone 𝓤 H A Syntax.tyUnit) (tt, tt) Path'.refl) d109
           d111 : Typed.Typed 𝓤 H A 𝓣 E G72 b91 Δ0 (at111 bs)
           d111 = Typed.s-seq 𝓤 H A W 𝓣 E G72 G73 b57 b90 Δ0 (Typed.ask (s66 bs)) (at110 bs) (Relend.t-sl-aggregate 𝓤 H A W E WriterRecordT.row 𝓣 (Relend.asMut
               WriterRecordT.row) G72 24 25 3 y7 y7 (λ x. x) (Scalar.oFld 5 ((Syntax.field 1) ∷ []) y2 8 λ v. Shared.lenV (v .0)) (Reads'.as-is 𝓤 H A
@@ -3080,8 +3080,8 @@ module _ (claims· : Claims) where
               }; blocks = bs; good = good; fits = record { n = record { fits = good .0 .1 }; size = record { fits = good .1 .0 .1 } }; pre = pre }
         module _ {M : Type 1} (𝓤 : URA.URA M) (H : Wp.Heap 𝓤) (A : Atoms.Atoms 𝓤) (W : Kit.Given 𝓤 H A) (𝓣 : Wp.Tables 𝓤 H) (known0 : Plain.Known 𝓤 H A W 𝓣 0
             ps·0 r·0 (claims· .0) (claims· .1) "checker::early") (known1 : Plain.Known 𝓤 H A W 𝓣 1 ps·1 r·1 (claims· .2) (claims· .3)
-            "node_records::clear_writer_records") (known2 : Plain.Known 𝓤 H A W 𝓣 4 ps·2 r·2 (claims· .4) (claims· .5) "writer::stream") (known3 : Plain.Known
-            𝓤 H A W 𝓣 0 ps·3 r·3 (claims· .6) (claims· .7) "writer::answer") where
+            "record_tables::clear_writer_records") (known2 : Plain.Known 𝓤 H A W 𝓣 4 ps·2 r·2 (claims· .4) (claims· .5) "writer::stream") (known3 :
+            Plain.Known 𝓤 H A W 𝓣 0 ps·3 r·3 (claims· .6) (claims· .7) "writer::answer") where
           pub spec : Statement.Triple 𝓤 (Wp.WpFn 𝓤 H (𝓣 .C) (𝓣 .Λ) (Function.fnOf 3 ps r xs m hs body)) (Function.plainOf 𝓤 H A 3 ps r Pre· Post·)
           spec = Plain.t-fn-plain 𝓤 H A W 𝓣 3 ps r xs m hs body (λ κs qs bs. Φ bs) (λ κs qs bs bd. typed κs qs 𝓤 H A W 𝓣 (known0, known1, known2, known3) bs
               bd) Pre· Post· asked

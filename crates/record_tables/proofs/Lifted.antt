@@ -1,0 +1,8 @@
+-- Generated: what callers cite of the lifted functions.
+-- From d7a7898001502198, as 704011e744e9e46f.
+pub mod get_record
+pub mod put_record
+pub mod clear_records
+pub mod get_writer_record
+pub mod put_writer_record
+pub mod clear_writer_records

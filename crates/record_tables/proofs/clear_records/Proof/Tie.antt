@@ -1,0 +1,67 @@
+-- Generated: the needs of clear_records at its contract, and how its theorem closes.
+-- From d7a7898001502198, as 7501b2a8ecfe58bf.
+use borrow.Fn.Run
+use borrow.Fn.Written
+use contract.Running.{givenOf, tablesOf}
+use Rattle.node_records.proofs.least.Reads as least-reads
+use Rattle.node_records.proofs.least.Met as least-met
+use Rattle.node_records.proofs.least.Symbol as least-symbol
+use Rattle.node_records.proofs.no_record.Reads as no-record-reads
+use Rattle.node_records.proofs.no_record.Met as no-record-met
+use Rattle.node_records.proofs.no_record.Symbol as no-record-symbol
+use Rattle.record_tables.proofs.clear_records.Key
+use Rattle.record_tables.proofs.clear_records.Code as code
+use Rattle.record_tables.proofs.clear_records.Statement.{statement}
+use Rattle.record_tables.proofs.clear_records.Proof.Lts as lts
+use Rattle.record_tables.proofs.Lifted.clear_records as self
+
+abbrev callees : lts.Claims
+callees = (least-reads.Asked, least-reads.Learnt, no-record-reads.Asked, no-record-reads.Learnt)
+
+abbrev pub InvT-loop : Type 1
+InvT-loop = lts.InvT-loop
+
+abbrev pub MeasureT-loop : Type 0
+MeasureT-loop = lts.MeasureT-loop
+
+abbrev pub Need-least-requires : (Inv-loop : InvT-loop) → (μ-loop : MeasureT-loop) → Type 0
+Need-least-requires Inv-loop μ-loop = lts.Need-least-requires callees self.Pre self.Post Inv-loop μ-loop
+
+abbrev pub Need-no-record-requires : (Inv-loop : InvT-loop) → (μ-loop : MeasureT-loop) → Type 0
+Need-no-record-requires Inv-loop μ-loop = lts.Need-no-record-requires callees self.Pre self.Post Inv-loop μ-loop
+
+abbrev pub Need-loop-holds : (Inv-loop : InvT-loop) → (μ-loop : MeasureT-loop) → Type 0
+Need-loop-holds Inv-loop μ-loop = lts.Need-loop-holds callees self.Pre self.Post Inv-loop μ-loop
+
+abbrev pub Need-mul-x : (Inv-loop : InvT-loop) → (μ-loop : MeasureT-loop) → Type 0
+Need-mul-x Inv-loop μ-loop = lts.Need-mul-x callees self.Pre self.Post Inv-loop μ-loop
+
+abbrev pub Need-slice-set-from-x : (Inv-loop : InvT-loop) → (μ-loop : MeasureT-loop) → Type 0
+Need-slice-set-from-x Inv-loop μ-loop = lts.Need-slice-set-from-x callees self.Pre self.Post Inv-loop μ-loop
+
+abbrev pub Need-add-i : (Inv-loop : InvT-loop) → (μ-loop : MeasureT-loop) → Type 0
+Need-add-i Inv-loop μ-loop = lts.Need-add-i callees self.Pre self.Post Inv-loop μ-loop
+
+abbrev pub Need-loop-less : (Inv-loop : InvT-loop) → (μ-loop : MeasureT-loop) → Type 0
+Need-loop-less Inv-loop μ-loop = lts.Need-loop-less callees self.Pre self.Post Inv-loop μ-loop
+
+abbrev pub Need-loop-again : (Inv-loop : InvT-loop) → (μ-loop : MeasureT-loop) → Type 0
+Need-loop-again Inv-loop μ-loop = lts.Need-loop-again callees self.Pre self.Post Inv-loop μ-loop
+
+abbrev pub Need-same-length : (Inv-loop : InvT-loop) → (μ-loop : MeasureT-loop) → Type 0
+Need-same-length Inv-loop μ-loop = lts.Need-same-length callees self.Pre self.Post Inv-loop μ-loop
+
+abbrev pub Need-returns : (Inv-loop : InvT-loop) → (μ-loop : MeasureT-loop) → Type 0
+Need-returns Inv-loop μ-loop = lts.Need-returns callees self.Pre self.Post Inv-loop μ-loop
+
+module _ {M : Type 1} where
+  pub spec : (Inv-loop : InvT-loop) → (μ-loop : MeasureT-loop) → Need-least-requires Inv-loop μ-loop → Need-no-record-requires Inv-loop μ-loop → Need-loop-holds Inv-loop μ-loop → Need-mul-x Inv-loop μ-loop → Need-slice-set-from-x Inv-loop μ-loop → Need-add-i Inv-loop μ-loop → Need-loop-less Inv-loop μ-loop → Need-loop-again Inv-loop μ-loop → Need-same-length Inv-loop μ-loop → Need-returns Inv-loop μ-loop → lts.Closed callees self.Pre self.Post M
+  spec Inv-loop μ-loop n0 n1 n2 n3 n4 n5 n6 n7 n8 n9 = lts.spec callees self.Pre self.Post Inv-loop μ-loop n0 n1 n2 n3 n4 n5 n6 n7 n8 n9
+
+  pub close : lts.Closed callees self.Pre self.Post M → statement M
+  unfolding code.routine tablesOf
+  close closed 𝓤 H 𝓜 𝓖 𝓡 =
+      Written.close 1 self.ps self.r self.Ghost self.requires self.ensures self.pre-read self.Pinned self.Owned self.post-read record { M = M; 𝓤 = 𝓤; H = H; 𝓜 = 𝓜; 𝓖 = 𝓖; 𝓡 = 𝓡 } code.env Key.name code.function (code.unfolded 𝓤 H 𝓜 𝓡)
+      (λ κs a g. tt) (λ κs. self.owns κs record { M = M; 𝓤 = 𝓤; H = H; 𝓜 = 𝓜; 𝓖 = 𝓖; 𝓡 = 𝓡 }) (self.passes record { M = M; 𝓤 = 𝓤; H = H; 𝓜 = 𝓜; 𝓖 = 𝓖; 𝓡 = 𝓡 }) λ g. closed 𝓤 H (𝓖 .A) (givenOf 𝓤 H 𝓜 𝓖) (Run.Over 𝓤 H 𝓜 𝓖 𝓡 code.env)
+      (least-reads.known record { M = M; 𝓤 = 𝓤; H = H; 𝓜 = 𝓜; 𝓖 = 𝓖; 𝓡 = 𝓡 } code.env least-symbol.name least-symbol.routine code.calls-node-records·least (least-met.met 𝓤 H 𝓜 𝓖 𝓡))
+      (no-record-reads.known record { M = M; 𝓤 = 𝓤; H = H; 𝓜 = 𝓜; 𝓖 = 𝓖; 𝓡 = 𝓡 } code.env no-record-symbol.name no-record-symbol.routine code.calls-node-records·no-record (no-record-met.met 𝓤 H 𝓜 𝓖 𝓡))
