@@ -1,5 +1,5 @@
 -- Generated: what callers cite of the lifted functions.
--- From 4395b808c19df7da, as 00dfe1b51a958ecd.
+-- From 829506afb8e8d79e, as 00dfe1b51a958ecd.
 pub mod is_stale
 pub mod alike_number
 pub mod is_barred

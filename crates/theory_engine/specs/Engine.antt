@@ -10,8 +10,10 @@ use Rattle.theory_reading.specs.Bytes.{opener, dot}
 use Rattle.theory_writing.specs.Texts.{tildeIf}
 use Rattle.theory_writing.specs.Run.{head}
 use Rattle.theory_writing.specs.Calls.{truthAt}
-use Rattle.theory_engine.specs.Cells.{cell, stampField}
-use Rattle.theory_engine.specs.Recycling.{Lane, oneMore, findIn, storeIn, nextIn}
+use Rattle.theory_engine.specs.Cells.{cell}
+use Rattle.writer_records.specs.Fields.{stampField}
+use Rattle.theory_engine.specs.Recycling.{Lane, findIn, storeIn, nextIn}
+use Rattle.writer_records.specs.Records.{oneMore}
 use Rattle.theory_engine.specs.Pending.{pushAll, waitIn, closeIn, sentTo, writtenTo}
 use Rattle.node_records.specs.declared.WriterRecord.{WriterRecord}
 

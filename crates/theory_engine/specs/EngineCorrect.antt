@@ -11,8 +11,10 @@ use Rattle.theory_reading.specs.Bytes.{opener, dot}
 use Rattle.theory_writing.specs.Texts.{tildeIf}
 use Rattle.theory_writing.specs.Run.{head}
 use Rattle.theory_writing.specs.Calls.{truthAt}
-use Rattle.theory_engine.specs.Cells.{cell, stampField}
-use Rattle.theory_engine.specs.Recycling.{Lane, oneMore, findIn, storeIn, nextIn}
+use Rattle.theory_engine.specs.Cells.{cell}
+use Rattle.writer_records.specs.Fields.{stampField}
+use Rattle.theory_engine.specs.Recycling.{Lane, findIn, storeIn, nextIn}
+use Rattle.writer_records.specs.Records.{oneMore}
 use Rattle.theory_engine.specs.Pending.{Waiting, pushAll, waitIn}
 use Rattle.theory_engine.specs.Engine.{Half, Progress, Walked, Sent, constantHalf, numberHalf, isStale, alikeConstant, alikeNumber, barredHalf}
 use Rattle.theory_engine.specs.Engine.{sendText, sendNode, sentAs, writeNode, writeTemporary, kept, giveIn, knownIn, meetIn, allBytes}

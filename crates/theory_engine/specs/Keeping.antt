@@ -13,7 +13,8 @@ use Rattle.theory_reading.specs.Nodes.{Node, node}
 use Rattle.theory_reading.specs.ParentCounts.{parents}
 use Rattle.theory_writing.specs.UniqueTable.{State, start, firstFree, nextNumber}
 use Rattle.theory_writing.specs.Links.{Holds, holds-none, holds-free}
-use Rattle.theory_engine.specs.Cells.{cell, levelField, firstField, secondField, complementField, stampField, parentsField, queueField}
+use Rattle.theory_engine.specs.Cells.{cell}
+use Rattle.writer_records.specs.Fields.{levelField, firstField, secondField, complementField, stampField, parentsField, queueField}
 use Rattle.theory_engine.specs.Recycling.{freeOf, nextIn}
 use Rattle.theory_engine.specs.Lanes.{column-length, linksOf, links-free}
 use Rattle.theory_engine.specs.Buckets.{Buckets, buckets-none}

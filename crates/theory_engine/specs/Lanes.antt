@@ -12,7 +12,8 @@ use lib.ListN.{length, getD, set, length-map, List·getD-map}
 use lib.Seq.{getD-set-same, getD-set-other, set-out, map-set-same, ext-getD}
 use borrow.Author.Tests.{ne-eqb}
 use Rattle.theory_writing.specs.Links.{Links, unlinked, linked, stops, freeIn}
-use Rattle.theory_engine.specs.Cells.{fieldsOf, withField, field-with, zero-at, cell, putCell, length-put, cell-number, cell-other, queueField}
+use Rattle.writer_records.specs.Fields.{fieldsOf, withField, field-with, queueField}
+use Rattle.theory_engine.specs.Cells.{zero-at, cell, putCell, length-put, cell-number, cell-other}
 use Rattle.theory_engine.specs.Recycling.{unlinkIn, linkIn, freeOf}
 use Rattle.node_records.specs.Records.{noWriterRecord}
 use Rattle.node_records.specs.declared.WriterRecord.{WriterRecord}

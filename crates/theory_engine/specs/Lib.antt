@@ -1,7 +1,7 @@
 -- The writer as code has it: on lists of cells and bytes
 pub mod Cells
-pub mod Hashing
 pub mod Recycling
+pub mod RecordLaws
 pub mod Pending
 pub mod Engine
 -- The unique table and its queue in records

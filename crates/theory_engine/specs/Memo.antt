@@ -7,8 +7,9 @@ use lib.Dec.{eqb}
 use lib.ListN.{getD, set, drop}
 use Rattle.theory_lists.specs.Lists.{bit}
 use Rattle.theory_reading.specs.Nodes.{stamp}
-use Rattle.theory_engine.specs.Cells.{cell, levelField, stampField}
-use Rattle.theory_engine.specs.Hashing.{stir, edgeSpan}
+use Rattle.theory_engine.specs.Cells.{cell}
+use Rattle.writer_records.specs.Fields.{levelField, stampField}
+use Rattle.writer_records.specs.Hashing.{stir, edgeSpan}
 use Rattle.theory_engine.specs.Engine.{Half, constantHalf, numberHalf}
 use Rattle.theory_engine.specs.Applying.{Source}
 use Rattle.node_records.specs.declared.WriterRecord.{WriterRecord}

@@ -19,7 +19,8 @@ use Rattle.theory_writing.specs.Steps.{part-halves}
 use Rattle.theory_writing.specs.Normal.{Normal, part-deep}
 use Rattle.theory_writing.specs.Meaning.{Is}
 use Rattle.theory_writing.specs.Online.{Went, online, online-went}
-use Rattle.theory_engine.specs.Cells.{cell, levelField, stampField}
+use Rattle.theory_engine.specs.Cells.{cell}
+use Rattle.writer_records.specs.Fields.{levelField, stampField}
 use Rattle.theory_engine.specs.Keeping.{Keeps}
 use Rattle.theory_engine.specs.Engine.{Half, Progress, constantHalf, numberHalf, kept}
 use Rattle.theory_engine.specs.Leading.{Came, Stands, Leads}

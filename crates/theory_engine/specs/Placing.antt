@@ -18,9 +18,11 @@ use Rattle.theory_writing.specs.UniqueTable.{State, without, freed, placed, sto
 use Rattle.theory_writing.specs.Storing.{placed-same, placed-other, placed-longer, Parentless, Sound, Able}
 use Rattle.theory_writing.specs.Queue.{Queued}
 use Rattle.theory_writing.specs.Links.{among-without-same, among-without}
-use Rattle.theory_engine.specs.Cells.{cell, putCell, length-put, cell-same, cell-number, cell-other, bucketField}
-use Rattle.theory_engine.specs.Cells.{levelField, firstField, secondField, complementField, stampField, parentsField, queueField}
-use Rattle.theory_engine.specs.Recycling.{Lane, lane, linkIn, insertIn, oneMore, releaseIn, adoptIn, noteIn, placeIn, storeIn}
+use Rattle.theory_engine.specs.Cells.{cell, putCell, length-put, cell-same, cell-number, cell-other}
+use Rattle.writer_records.specs.Fields.{bucketField}
+use Rattle.writer_records.specs.Fields.{levelField, firstField, secondField, complementField, stampField, parentsField, queueField}
+use Rattle.theory_engine.specs.Recycling.{Lane, lane, linkIn, insertIn, releaseIn, adoptIn, noteIn, placeIn, storeIn}
+use Rattle.writer_records.specs.Records.{oneMore}
 use Rattle.theory_engine.specs.Buckets.{Buckets, inserted-in, buckets-same, insert-length, insert-other, buckets-link}
 use Rattle.theory_engine.specs.Freed.{parents-placed, freed-told, freed-away}
 use Rattle.theory_engine.specs.Keeping.{HasNode, Keeps, node-same}

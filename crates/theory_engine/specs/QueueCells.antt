@@ -14,9 +14,11 @@ use Rattle.theory_reading.specs.Limits.{tableLimit}
 use Rattle.theory_reading.specs.Nodes.{Node, hasParent}
 use Rattle.theory_writing.specs.UniqueTable.{without, orphaned}
 use Rattle.theory_writing.specs.Links.{Links, Holds, all-absent, without-absent, holds-unlinks, holds-links}
-use Rattle.theory_engine.specs.Cells.{cell, putCell, length-put, cell-same, cell-number, cell-other, parentsField, queueField, bucketField}
+use Rattle.theory_engine.specs.Cells.{cell, putCell, length-put, cell-same, cell-number, cell-other}
+use Rattle.writer_records.specs.Fields.{parentsField, queueField, bucketField}
 use Rattle.theory_engine.specs.Freed.{orphaned-among, orphaned-twice}
-use Rattle.theory_engine.specs.Recycling.{Lane, lane, unlinkIn, linkIn, oneMore, moreIn, fewerIn, orphanIn, orphansIn, adoptIn}
+use Rattle.theory_engine.specs.Recycling.{Lane, lane, unlinkIn, linkIn, moreIn, fewerIn, orphanIn, orphansIn, adoptIn}
+use Rattle.writer_records.specs.Records.{oneMore}
 use Rattle.theory_engine.specs.Lanes.{column-same, linksOf, links-same, links-unlink, links-link, unlink-length, unlink-other}
 use Rattle.theory_engine.specs.Lanes.{link-length, link-other}
 use Rattle.node_records.specs.declared.WriterRecord.{WriterRecord}

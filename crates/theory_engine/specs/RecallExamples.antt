@@ -16,7 +16,7 @@ use Rattle.theory_engine.specs.Pending.{pushAll, waitIn, closeIn, sentTo
 use Rattle.theory_engine.specs.Engine.{Progress, endIn, writeNode, giveIn, knownIn, meetIn}
 use Rattle.theory_engine.specs.Applying.{Source, firstSources, secondSources, firstValues, fixed}
 use Rattle.theory_engine.specs.Memo.{lookUpIn, rememberIn, slotFrom, slotIn}
-use Rattle.theory_engine.specs.Hashing.{stir}
+use Rattle.writer_records.specs.Hashing.{stir}
 use Rattle.theory_engine.specs.Recalling.{alikePart, recallIn}
 use Rattle.node_records.specs.Records.{noWriterRecord}
 use Rattle.node_records.specs.declared.WriterRecord.{WriterRecord}

@@ -3,14 +3,14 @@
 -- Assumes nothing.
 use mathlib.Core.Bool.{Bool, not, cond, _&&_, _||_}
 use mathlib.Core.List.{List}
-use Prim.Native.Nat.{ℕ, zero, suc, _+_, _*_, _-_, _%_}
+use Prim.Native.Nat.{ℕ, zero, suc, _+_, _-_}
 use lib.Dec.{eqb, ltb}
-use Rattle.theory_reading.specs.Limits.{tableLimit}
 use Rattle.theory_writing.specs.Links.{stops}
 use Rattle.theory_engine.specs.Cells.{cell, putCell}
-use Rattle.theory_engine.specs.Cells.{levelField, firstField, secondField, complementField, stampField, parentsField}
-use Rattle.theory_engine.specs.Cells.{queueField, bucketField, headField, tailField}
-use Rattle.theory_engine.specs.Hashing.{stir, numberSpan, levelSpan}
+use Rattle.writer_records.specs.Fields.{levelField, firstField, secondField, complementField, stampField, parentsField}
+use Rattle.writer_records.specs.Fields.{queueField, bucketField, headField, tailField}
+use Rattle.writer_records.specs.Hashing.{bucketOf}
+use Rattle.writer_records.specs.Records.{oneMore}
 use Rattle.node_records.specs.declared.WriterRecord.{WriterRecord}
 
 -- ---- Numbers linked both ways ----------------------------------------------------------------
@@ -43,15 +43,7 @@ freeOf t x a b =
 
 -- ---- Looking up ------------------------------------------------------------------------------
 
--- a node's level, children and complement, mixed
-abbrev pub mixOf : ℕ → ℕ → ℕ → ℕ → ℕ
-mixOf i a b c = stir 2246822519 (stir 2654435769 (((a * numberSpan + b) * levelSpan + i) * 2 + c))
-
--- its bucket: 1 .. tableLimit
-abbrev pub bucketOf : ℕ → ℕ → ℕ → ℕ → ℕ
-bucketOf i a b c = mixOf i a b c % tableLimit + 1
-
--- that of the node which has number k
+-- the bucket of the node which has number k
 abbrev pub bucketAt : List WriterRecord → ℕ → ℕ
 bucketAt t k = bucketOf (cell t levelField k) (cell t firstField k) (cell t secondField k) (cell t complementField k)
 
@@ -81,10 +73,6 @@ unfoldable pub removeIn : List WriterRecord → ℕ → List WriterRecord
 removeIn t k = let h = bucketAt t k in endsTo h (unlinkIn t bucketField (cell t headField h) (cell t tailField h) k)
 
 -- ---- Parents ---------------------------------------------------------------------------------
-
--- one more, as far as 32 bits go
-abbrev pub oneMore : ℕ → ℕ
-oneMore p = cond (ltb p 4294967295) (p + 1) p
 
 unfoldable pub moreIn : List WriterRecord → ℕ → List WriterRecord
 moreIn t c = putCell t parentsField c (oneMore (cell t parentsField c))

@@ -8,7 +8,8 @@ use native.Mathlib.Omega.{arith}
 use lib.Dec.{eqb}
 use borrow.Author.Tests.{eq-eqb, ne-eqb, lt-ltb, le-ltb}
 use Rattle.theory_writing.specs.Links.{stops}
-use Rattle.theory_engine.specs.Cells.{cell, levelField, firstField, secondField, complementField, parentsField, queueField, bucketField}
+use Rattle.theory_engine.specs.Cells.{cell}
+use Rattle.writer_records.specs.Fields.{levelField, firstField, secondField, complementField, parentsField, queueField, bucketField}
 use Rattle.theory_engine.specs.Recycling.{Lane, lane, linkIn, unlinkIn, freeOf, fitsAt, searchIn, fewerIn, moreIn, orphanIn, orphansIn}
 use Rattle.theory_engine.specs.Recycling.{releaseIn, adoptIn, placeIn, storeIn, nextIn}
 use Rattle.node_records.specs.declared.WriterRecord.{WriterRecord}

@@ -16,7 +16,8 @@ use Rattle.theory_reading.specs.ParentCounts.{parents, none-parents, parents-no
 use Rattle.theory_writing.specs.UniqueTable.{State, without, freed, placed}
 use Rattle.theory_writing.specs.Storing.{Parentless, Free, Sound, first-child, second-child}
 use Rattle.theory_writing.specs.Queue.{Queued, all-without′, hasParent-all}
-use Rattle.theory_engine.specs.Cells.{cell, stampField, parentsField, queueField, bucketField}
+use Rattle.theory_engine.specs.Cells.{cell}
+use Rattle.writer_records.specs.Fields.{stampField, parentsField, queueField, bucketField}
 use Rattle.theory_engine.specs.Recycling.{Lane, lane, unlinkIn, removeIn, orphansIn, releaseIn}
 use Rattle.theory_engine.specs.Buckets.{Buckets, buckets-same, buckets-next, remove-length, remove-other, buckets-unlink}
 use Rattle.theory_engine.specs.Freed.{parents-rest, length-next, length-again, freed-fresh}

@@ -1,5 +1,5 @@
 -- Generated: what callers cite of the lifted functions.
--- From 47d771535d58e2a3, as 940547a0de86cccf.
+-- From e1bec613391eec56, as 940547a0de86cccf.
 pub mod unlink
 pub mod link_last
 pub mod free

@@ -1,6 +1,7 @@
 // The unique table and its recycling queue in lent records.
 ghost use mathlib.Core.Path.{_≡_};
-ghost use Rattle.theory_engine.specs.Cells.{cell, levelField, stampField};
+ghost use Rattle.theory_engine.specs.Cells.{cell};
+ghost use Rattle.writer_records.specs.Fields.{levelField, stampField};
 ghost use Rattle.theory_engine.specs.Recycling.{unlinkIn, linkIn, freeOf, bucketAt, searchIn, findIn, insertIn, removeIn};
 ghost use Rattle.theory_engine.specs.Recycling.{fewerIn, orphanIn, orphansIn, releaseIn, adoptIn, noteIn, placeIn, storeIn, nextIn};
 ghost use Rattle.writer_records.specs.Records.{laneField};

@@ -1,2 +1,3 @@
+pub mod Fields
+pub mod Hashing
 pub mod Records
-pub mod RecordLaws

@@ -1,11 +1,15 @@
--- What the code that stores nodes reads of a record, and what it makes of it. Definitions only; RecordLaws ties them to cells. Assumes nothing.
-use mathlib.Core.Bool.{Bool, cond, _&&_}
-use Prim.Native.Nat.{ℕ}
-use lib.Dec.{eqb}
+-- What the code that stores nodes reads of a record, and what it makes of it; RecordLaws of theory_engine ties it to cells. Assumes nothing.
+use mathlib.Core.Path.{_≡_, refl}
+use mathlib.Core.Bool.{Bool, true, false, cond, _&&_}
+use Prim.Native.Nat.{ℕ, _+_}
+use lib.Dec.{eqb, ltb}
 use lib.ListN.{getD}
-use Rattle.theory_engine.specs.Cells.{fieldsOf, withField, levelField, firstField, secondField, complementField, stampField, queueField, bucketField}
-use Rattle.theory_engine.specs.Recycling.{oneMore}
+use Rattle.writer_records.specs.Fields.{fieldsOf, withField, levelField, firstField, secondField, complementField, stampField, queueField, bucketField}
 use Rattle.node_records.specs.declared.WriterRecord.{WriterRecord}
+
+-- one more, as far as 32 bits go
+abbrev pub oneMore : ℕ → ℕ
+oneMore p = cond (ltb p 4294967295) (p + 1) p
 
 -- the field with the number after this one in the recycling queue, or in its bucket; the field after it has the number before this one
 abbrev pub laneField : Bool → ℕ
@@ -24,3 +28,45 @@ isNode x i a b c =
     && (eqb (getD (fieldsOf x) firstField 0) a
     && (eqb (getD (fieldsOf x) secondField 0) b
     && eqb (getD (fieldsOf x) complementField 0) c))
+
+-- ---- Links ------------------------------------------------------------------------------------
+
+-- the field of a lane
+pub after-with : (queue : Bool) (x : WriterRecord) (v : ℕ) →
+    record {
+      level = x .level;
+      first = x .first;
+      second = x .second;
+      complement = x .complement;
+      stamp = x .stamp;
+      parents = x .parents;
+      after = cond queue v (x .after);
+      before = x .before;
+      next = cond queue (x .next) v;
+      previous = x .previous;
+      head = x .head;
+      tail = x .tail;
+    }
+    ≡ withField x (laneField queue) v
+after-with true x v = refl
+after-with false x v = refl
+
+-- the one after it
+pub before-with : (queue : Bool) (x : WriterRecord) (v : ℕ) →
+    record {
+      level = x .level;
+      first = x .first;
+      second = x .second;
+      complement = x .complement;
+      stamp = x .stamp;
+      parents = x .parents;
+      after = x .after;
+      before = cond queue v (x .before);
+      next = x .next;
+      previous = cond queue (x .previous) v;
+      head = x .head;
+      tail = x .tail;
+    }
+    ≡ withField x (laneField queue + 1) v
+before-with true x v = refl
+before-with false x v = refl

@@ -1,12 +1,13 @@
 // Numbers and records of the unique table by value: what is read of a record, and what it becomes.
 ghost use mathlib.Core.Path.{_≡_};
-ghost use mathlib.Core.Bool.{cond};
+ghost use mathlib.Core.Bool.{cond, not, _||_};
+ghost use lib.Dec.{eqb};
 ghost use lib.ListN.{getD};
 ghost use Prim.Native.Nat.{_+_, _-_};
-ghost use Rattle.theory_writing.specs.Links.{stops};
-ghost use Rattle.theory_engine.specs.Cells.{fieldsOf, withField, parentsField, headField, tailField};
-ghost use Rattle.theory_engine.specs.Hashing.{stir};
-ghost use Rattle.theory_engine.specs.Recycling.{oneMore, bucketOf};
+ghost use Rattle.writer_records.specs.Fields.{fieldsOf, withField, parentsField, headField, tailField};
+ghost use Rattle.writer_records.specs.Hashing.{stir};
+ghost use Rattle.writer_records.specs.Records.{oneMore};
+ghost use Rattle.writer_records.specs.Hashing.{bucketOf};
 ghost use Rattle.writer_records.specs.Records.{laneField, withNode, isNode};
 use node_records::TABLE_LIMIT;
 use node_records::WriterRecord;
@@ -31,9 +32,9 @@ pub fn one_less(p: u32) -> u32
     if p == 0 { 0 } else { p - 1 }
 }
 
-// The search for a number to reuse ends at x.
+// The search for a number to reuse ends at x: x is 0, or neither a nor b.
 pub fn is_free(a: u32, b: u32, x: u32) -> bool
-    ensures { λ r. ⌜ r ≡ stops a b x ⌝ }
+    ensures { λ r. ⌜ r ≡ (eqb x 0 || not (eqb a x || eqb b x)) ⌝ }
 {
     if x == 0 {
         return true;

@@ -1,5 +1,5 @@
 -- Generated: what callers cite of enter.
--- From e46e83bf8f03a1af, as fcfdd88b6ee62f0d.
+-- From 53e075ab766def62, as fcfdd88b6ee62f0d.
 use Rattle.blocks.proofs.Loaded
 use Rattle.blocks.proofs.Loaded.Laws
 use Rattle.node_records.proofs.Tables.NodeRecord as NodeRecordT

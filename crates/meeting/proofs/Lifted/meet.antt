@@ -1,5 +1,5 @@
 -- Generated: what callers cite of meet.
--- From 4395b808c19df7da, as 94dd884ebe80d30e.
+-- From 829506afb8e8d79e, as 94dd884ebe80d30e.
 use Rattle.meeting.proofs.Half
 use Rattle.meeting.proofs.Half.Laws
 use Rattle.meeting.proofs.Progress

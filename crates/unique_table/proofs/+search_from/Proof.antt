@@ -3,10 +3,10 @@
 mod Lts-search_from
 mod Tie
 use borrow.Author.Needs.{needs}
-use Rattle.writer_records.specs.RecordLaws.{got-field, node-fits}
+use Rattle.theory_engine.specs.RecordLaws.{got-field, node-fits}
 use Rattle.theory_engine.specs.RecyclingCorrect.{search-none, search-end, search-hit, search-on}
 use Rattle.theory_engine.specs.Recycling.{searchIn}
-use Rattle.theory_engine.specs.Cells.{bucketField}
+use Rattle.writer_records.specs.Fields.{bucketField}
 use mathlib.Core.Path.{refl, sym, ap, _∙_}
 use Prim.Native.Nat.{ℕ, _-_}
 use borrow.Fn.PlainCycle.{Measures}

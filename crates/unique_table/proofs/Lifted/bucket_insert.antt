@@ -1,5 +1,5 @@
 -- Generated: what callers cite of bucket_insert.
--- From 47d771535d58e2a3, as 6e54c3be5a627f1d.
+-- From e1bec613391eec56, as 6e54c3be5a627f1d.
 use Rattle.node_records.proofs.Tables.WriterRecord as WriterRecordT
 use borrow.Fn.Kinds
 use borrow.Kind.MutSlice

@@ -1,5 +1,5 @@
 -- Generated: what callers cite of fewer_parents.
--- From 47d771535d58e2a3, as 6ef67471e9228763.
+-- From e1bec613391eec56, as 6ef67471e9228763.
 use Rattle.node_records.proofs.Tables.WriterRecord as WriterRecordT
 use borrow.Fn.Kinds
 use borrow.Kind.MutSlice

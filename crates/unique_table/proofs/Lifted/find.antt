@@ -1,5 +1,5 @@
 -- Generated: what callers cite of find.
--- From 47d771535d58e2a3, as 325cc5d669d475d0.
+-- From e1bec613391eec56, as 325cc5d669d475d0.
 use Rattle.node_records.proofs.Tables.WriterRecord as WriterRecordT
 use borrow.Fn.Kinds
 use borrow.Kind.ShrSlice

@@ -1,5 +1,5 @@
 -- Generated: what callers cite of free.
--- From 47d771535d58e2a3, as 9ec320f7f354e6de.
+-- From e1bec613391eec56, as 9ec320f7f354e6de.
 use Rattle.node_records.proofs.Tables.WriterRecord as WriterRecordT
 use borrow.Fn.Kinds
 use borrow.Kind.ShrSlice

@@ -1,5 +1,5 @@
 -- Generated: what callers cite of link_last.
--- From 47d771535d58e2a3, as 9f9e6e18654e46ad.
+-- From e1bec613391eec56, as 9f9e6e18654e46ad.
 use Rattle.node_records.proofs.Tables.WriterRecord as WriterRecordT
 use Rattle.unique_table.proofs.Ends
 use Rattle.unique_table.proofs.Ends.Laws

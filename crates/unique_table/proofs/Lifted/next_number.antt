@@ -1,5 +1,5 @@
 -- Generated: what callers cite of next_number.
--- From 47d771535d58e2a3, as 4530d4f2f0f562db.
+-- From e1bec613391eec56, as 4530d4f2f0f562db.
 use Rattle.node_records.proofs.Tables.WriterRecord as WriterRecordT
 use borrow.Fn.Kinds
 use borrow.Kind.ShrSlice

@@ -1,5 +1,5 @@
 -- Generated: what callers cite of note.
--- From 47d771535d58e2a3, as 2aa884957cfc1f10.
+-- From e1bec613391eec56, as 2aa884957cfc1f10.
 use Rattle.node_records.proofs.Tables.WriterRecord as WriterRecordT
 use borrow.Fn.Kinds
 use borrow.Kind.MutSlice

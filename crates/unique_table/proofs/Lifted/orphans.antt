@@ -1,5 +1,5 @@
 -- Generated: what callers cite of orphans.
--- From 47d771535d58e2a3, as ed8ee87059a0aa2b.
+-- From e1bec613391eec56, as ed8ee87059a0aa2b.
 use Rattle.node_records.proofs.Tables.WriterRecord as WriterRecordT
 use Rattle.unique_table.proofs.Ends
 use Rattle.unique_table.proofs.Ends.Laws

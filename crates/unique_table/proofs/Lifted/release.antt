@@ -1,5 +1,5 @@
 -- Generated: what callers cite of release.
--- From 47d771535d58e2a3, as 4caf756978d77292.
+-- From e1bec613391eec56, as 4caf756978d77292.
 use Rattle.node_records.proofs.Tables.WriterRecord as WriterRecordT
 use Rattle.unique_table.proofs.Ends
 use Rattle.unique_table.proofs.Ends.Laws

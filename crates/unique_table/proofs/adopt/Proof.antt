@@ -3,10 +3,10 @@
 mod Lts
 mod Tie
 use borrow.Author.Needs.{needs}
-use Rattle.writer_records.specs.RecordLaws.{got-field, put-one-more}
+use Rattle.theory_engine.specs.RecordLaws.{got-field, put-one-more}
 use Rattle.theory_engine.specs.RecyclingCorrect.{adopt-none, adopt-kept, adopt-leaves}
 use Rattle.theory_engine.specs.Recycling.{lane, unlinkIn}
-use Rattle.theory_engine.specs.Cells.{parentsField, queueField}
+use Rattle.writer_records.specs.Fields.{parentsField, queueField}
 use Rattle.node_records.specs.declared.WriterRecord.{WriterRecord}
 use mathlib.Core.List.{List}
 use mathlib.Core.Path.{refl, sym, ap, _∙_}

@@ -3,9 +3,9 @@
 mod Lts
 mod Tie
 use borrow.Author.Needs.{needs}
-use Rattle.writer_records.specs.RecordLaws.{got-field, put-ends}
+use Rattle.theory_engine.specs.RecordLaws.{got-field, put-ends}
 use Rattle.theory_engine.specs.Recycling.{removeIn, endsTo}
-use Rattle.theory_engine.specs.Cells.{headField, tailField}
+use Rattle.writer_records.specs.Fields.{headField, tailField}
 use mathlib.Core.Path.{refl, ap, _∙_}
 use Rattle.unique_table.proofs.bucket_remove.Statement.{statement}
 use Rattle.unique_table.proofs.bucket_remove.Proof.Tie as tie

@@ -3,7 +3,7 @@
 mod Lts
 mod Tie
 use borrow.Author.Needs.{needs}
-use Rattle.writer_records.specs.RecordLaws.{put-one-less}
+use Rattle.theory_engine.specs.RecordLaws.{put-one-less}
 use Rattle.unique_table.proofs.fewer_parents.Statement.{statement}
 use Rattle.unique_table.proofs.fewer_parents.Proof.Tie as tie
 

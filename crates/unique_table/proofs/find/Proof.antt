@@ -3,9 +3,9 @@
 mod Lts
 mod Tie
 use borrow.Author.Needs.{needs}
-use Rattle.writer_records.specs.RecordLaws.{got-field}
+use Rattle.theory_engine.specs.RecordLaws.{got-field}
 use Rattle.theory_engine.specs.Recycling.{findIn}
-use Rattle.theory_engine.specs.Cells.{headField}
+use Rattle.writer_records.specs.Fields.{headField}
 use mathlib.Core.Path.{refl}
 use Rattle.unique_table.proofs.find.Statement.{statement}
 use Rattle.unique_table.proofs.find.Proof.Tie as tie

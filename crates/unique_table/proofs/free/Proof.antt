@@ -3,9 +3,9 @@
 mod Lts
 mod Tie
 use borrow.Author.Needs.{needs}
-use Rattle.writer_records.specs.RecordLaws.{got-field}
+use Rattle.theory_engine.specs.RecordLaws.{got-field}
 use Rattle.theory_engine.specs.RecyclingCorrect.{free-first, free-second, free-third}
-use Rattle.theory_engine.specs.Cells.{queueField}
+use Rattle.writer_records.specs.Fields.{queueField}
 use mathlib.Core.Path.{sym, _∙_}
 use Rattle.unique_table.proofs.free.Statement.{statement}
 use Rattle.unique_table.proofs.free.Proof.Tie as tie

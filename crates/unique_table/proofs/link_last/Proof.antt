@@ -3,7 +3,7 @@
 mod Lts
 mod Tie
 use borrow.Author.Needs.{needs}
-use Rattle.writer_records.specs.RecordLaws.{put-field, put-fields, put-linked}
+use Rattle.theory_engine.specs.RecordLaws.{put-field, put-fields, put-linked}
 use Rattle.writer_records.specs.Records.{laneField}
 use Rattle.theory_engine.specs.Recycling.{linkIn}
 use Prim.Native.Nat.{_+_}

@@ -3,7 +3,7 @@
 mod Lts
 mod Tie
 use borrow.Author.Needs.{needs}
-use Rattle.writer_records.specs.RecordLaws.{put-node}
+use Rattle.theory_engine.specs.RecordLaws.{put-node}
 use Rattle.unique_table.proofs.note.Statement.{statement}
 use Rattle.unique_table.proofs.note.Proof.Tie as tie
 

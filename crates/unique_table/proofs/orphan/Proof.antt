@@ -3,9 +3,9 @@
 mod Lts
 mod Tie
 use borrow.Author.Needs.{needs}
-use Rattle.writer_records.specs.RecordLaws.{got-field}
+use Rattle.theory_engine.specs.RecordLaws.{got-field}
 use Rattle.theory_engine.specs.RecyclingCorrect.{orphan-none, orphan-kept, orphan-joins}
-use Rattle.theory_engine.specs.Cells.{parentsField}
+use Rattle.writer_records.specs.Fields.{parentsField}
 use mathlib.Core.Path.{refl, sym, _∙_}
 use Rattle.unique_table.proofs.orphan.Statement.{statement}
 use Rattle.unique_table.proofs.orphan.Proof.Tie as tie

@@ -3,9 +3,9 @@
 mod Lts
 mod Tie
 use borrow.Author.Needs.{needs}
-use Rattle.writer_records.specs.RecordLaws.{got-field}
+use Rattle.theory_engine.specs.RecordLaws.{got-field}
 use Rattle.theory_engine.specs.Recycling.{Lane, releaseIn}
-use Rattle.theory_engine.specs.Cells.{firstField, secondField}
+use Rattle.writer_records.specs.Fields.{firstField, secondField}
 use mathlib.Core.Path.{refl, ap}
 use Rattle.unique_table.proofs.release.Statement.{statement}
 use Rattle.unique_table.proofs.release.Proof.Tie as tie

@@ -3,7 +3,7 @@
 mod Lts
 mod Tie
 use borrow.Author.Needs.{needs}
-use Rattle.writer_records.specs.RecordLaws.{got-field, put-field}
+use Rattle.theory_engine.specs.RecordLaws.{got-field, put-field}
 use Rattle.writer_records.specs.Records.{laneField}
 use Rattle.theory_engine.specs.Recycling.{unlinkIn}
 use Prim.Native.Nat.{_+_}

@@ -7,7 +7,7 @@ use mathlib.Core.Path.{refl}
 use Prim.Native.Nat.{ℕ, _+_, _*_, _<_, _≤_, _%_}
 use native.Mathlib.Nat.{mul-le-mul}
 use native.Mathlib.Omega.{arith}
-use Rattle.theory_engine.specs.Hashing.{stir}
+use Rattle.writer_records.specs.Hashing.{stir}
 
 product : (a b : ℕ) → (a % 4294967296) * (b % 4294967296) < 18446744073709551616
 product a b =

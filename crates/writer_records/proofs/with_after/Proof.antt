@@ -4,7 +4,7 @@ use mathlib.Core.Path.{refl}
 use Rattle.writer_records.proofs.with_after.Statement.{statement}
 use Rattle.writer_records.proofs.with_after.Tie as tie
 use borrow.Author.Needs.{needs}
-use Rattle.writer_records.specs.RecordLaws.{after-with}
+use Rattle.writer_records.specs.Records.{after-with}
 
 either-requires : tie.Need-either-requires
 either-requires c κs = search needs

@@ -4,7 +4,7 @@ use mathlib.Core.Path.{refl}
 use Rattle.writer_records.proofs.with_before.Statement.{statement}
 use Rattle.writer_records.proofs.with_before.Tie as tie
 use borrow.Author.Needs.{needs}
-use Rattle.writer_records.specs.RecordLaws.{before-with}
+use Rattle.writer_records.specs.Records.{before-with}
 
 either-requires : tie.Need-either-requires
 either-requires c κs = search needs

@@ -1,5 +1,5 @@
 -- Generated: the derivation of a body.
--- From b778e47394334ed5, as 999583dc7237fdae.
+-- From 5f16bb0f6d510e29, as 999583dc7237fdae.
 use Prim.Native.Nat
 use Rattle.edges.proofs.TableEdge
 use Rattle.edges.proofs.TableEdge.Laws

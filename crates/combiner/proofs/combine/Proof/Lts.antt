@@ -1,5 +1,5 @@
 -- Generated: the derivation of a body.
--- From e46e83bf8f03a1af, as 490ad490e083beef.
+-- From 53e075ab766def62, as 490ad490e083beef.
 use Prim.Native.Nat
 use Rattle.blocks.proofs.Loaded
 use Rattle.blocks.proofs.Loaded.Laws

@@ -1,5 +1,5 @@
 -- Generated: the derivation of a body.
--- From e46e83bf8f03a1af, as 489713826c202711.
+-- From 53e075ab766def62, as 489713826c202711.
 use Prim.Native.Nat
 use Rattle.blocks.proofs.Block
 use Rattle.blocks.proofs.Block.Laws

@@ -1,5 +1,5 @@
 -- Generated: the needs of is_stale at its contract, and how its theorem closes.
--- From 4395b808c19df7da, as fbba422657e37d3b.
+-- From 829506afb8e8d79e, as fbba422657e37d3b.
 use borrow.Fn.Run
 use borrow.Fn.Written
 use contract.Running.{givenOf, tablesOf}

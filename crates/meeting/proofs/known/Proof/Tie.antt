@@ -1,5 +1,5 @@
 -- Generated: the needs of known at its contract, and how its theorem closes.
--- From 4395b808c19df7da, as a469ec20be7dd233.
+-- From 829506afb8e8d79e, as a469ec20be7dd233.
 use borrow.Fn.Run
 use borrow.Fn.Written
 use contract.Running.{givenOf, tablesOf}

@@ -1,5 +1,5 @@
 -- Generated: the needs of adopt at its contract, and how its theorem closes.
--- From 47d771535d58e2a3, as 8784c69c2d0419a5.
+-- From e1bec613391eec56, as 8784c69c2d0419a5.
 use borrow.Fn.Run
 use borrow.Fn.Written
 use contract.Running.{givenOf, tablesOf}

@@ -1,5 +1,5 @@
 -- Generated: the needs of bucket_remove at its contract, and how its theorem closes.
--- From 47d771535d58e2a3, as 2a0ab472823f005d.
+-- From e1bec613391eec56, as 2a0ab472823f005d.
 use borrow.Fn.Run
 use borrow.Fn.Written
 use contract.Running.{givenOf, tablesOf}

@@ -1,5 +1,5 @@
 -- Generated: the needs of fewer_parents at its contract, and how its theorem closes.
--- From 47d771535d58e2a3, as de471910ad8803cb.
+-- From e1bec613391eec56, as de471910ad8803cb.
 use borrow.Fn.Run
 use borrow.Fn.Written
 use contract.Running.{givenOf, tablesOf}

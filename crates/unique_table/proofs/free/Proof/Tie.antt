@@ -1,5 +1,5 @@
 -- Generated: the needs of free at its contract, and how its theorem closes.
--- From 47d771535d58e2a3, as 05a84aba73b63f8e.
+-- From e1bec613391eec56, as 05a84aba73b63f8e.
 use borrow.Fn.Run
 use borrow.Fn.Written
 use contract.Running.{givenOf, tablesOf}

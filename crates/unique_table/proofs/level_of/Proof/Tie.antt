@@ -1,5 +1,5 @@
 -- Generated: the needs of level_of at its contract, and how its theorem closes.
--- From 47d771535d58e2a3, as 040d838a307ac612.
+-- From e1bec613391eec56, as 040d838a307ac612.
 use borrow.Fn.Run
 use borrow.Fn.Written
 use contract.Running.{givenOf, tablesOf}

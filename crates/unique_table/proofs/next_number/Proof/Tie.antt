@@ -1,5 +1,5 @@
 -- Generated: the needs of next_number at its contract, and how its theorem closes.
--- From 47d771535d58e2a3, as 49d7b8e616ceb6b9.
+-- From e1bec613391eec56, as 49d7b8e616ceb6b9.
 use borrow.Fn.Run
 use borrow.Fn.Written
 use contract.Running.{givenOf, tablesOf}

@@ -1,5 +1,5 @@
 -- Generated: the needs of note at its contract, and how its theorem closes.
--- From 47d771535d58e2a3, as ecf43fe272a148f3.
+-- From e1bec613391eec56, as ecf43fe272a148f3.
 use borrow.Fn.Run
 use borrow.Fn.Written
 use contract.Running.{givenOf, tablesOf}

@@ -1,5 +1,5 @@
 -- Generated: the needs of orphan at its contract, and how its theorem closes.
--- From 47d771535d58e2a3, as 5d3e7cd933d4a7cf.
+-- From e1bec613391eec56, as 5d3e7cd933d4a7cf.
 use borrow.Fn.Run
 use borrow.Fn.Written
 use contract.Running.{givenOf, tablesOf}

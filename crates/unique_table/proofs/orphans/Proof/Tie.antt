@@ -1,5 +1,5 @@
 -- Generated: the needs of orphans at its contract, and how its theorem closes.
--- From 47d771535d58e2a3, as 4d468a5ae9189ae4.
+-- From e1bec613391eec56, as 4d468a5ae9189ae4.
 use borrow.Fn.Run
 use borrow.Fn.Written
 use contract.Running.{givenOf, tablesOf}

@@ -1,5 +1,5 @@
 -- Generated: the needs of place at its contract, and how its theorem closes.
--- From 47d771535d58e2a3, as 8f797277c31d5d28.
+-- From e1bec613391eec56, as 8f797277c31d5d28.
 use borrow.Fn.Run
 use borrow.Fn.Written
 use contract.Running.{givenOf, tablesOf}

@@ -1,5 +1,5 @@
 -- Generated: the needs of stamp_of at its contract, and how its theorem closes.
--- From 47d771535d58e2a3, as 057040cdb5259293.
+-- From e1bec613391eec56, as 057040cdb5259293.
 use borrow.Fn.Run
 use borrow.Fn.Written
 use contract.Running.{givenOf, tablesOf}

@@ -1,5 +1,5 @@
 -- Generated: the needs of store at its contract, and how its theorem closes.
--- From 47d771535d58e2a3, as 5261106ac57dff7c.
+-- From e1bec613391eec56, as 5261106ac57dff7c.
 use borrow.Fn.Run
 use borrow.Fn.Written
 use contract.Running.{givenOf, tablesOf}

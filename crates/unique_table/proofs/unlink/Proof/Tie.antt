@@ -1,5 +1,5 @@
 -- Generated: the needs of unlink at its contract, and how its theorem closes.
--- From 47d771535d58e2a3, as 2946a956095624a6.
+-- From e1bec613391eec56, as 2946a956095624a6.
 use borrow.Fn.Run
 use borrow.Fn.Written
 use contract.Running.{givenOf, tablesOf}

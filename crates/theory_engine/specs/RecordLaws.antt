@@ -1,7 +1,7 @@
 -- A record that is read, changed by value and put back: the cells that are then put. Assumes nothing.
 use mathlib.Core.Path.{_≡_, refl, sym, ap, _∙_}
 use mathlib.Core.Logic.{_≢_, ⊎-elim}
-use mathlib.Core.Bool.{Bool, true, false, cond}
+use mathlib.Core.Bool.{Bool}
 use mathlib.Core.List.{List, [], _∷_, _++_}
 use Prim.Native.Nat.{ℕ, zero, suc, _+_, _-_, min, _≤_, _<_}
 use native.Mathlib.Omega.{arith}
@@ -11,10 +11,11 @@ use Rattle.theory_lists.specs.Lists.{decide-eq, decide-le}
 use Rattle.node_records.specs.Records.{noWriterRecord}
 use Rattle.record_tables.specs.Entries.{entryAt, putEntry, clearTo, entry-put-here}
 use Rattle.node_records.specs.declared.WriterRecord.{WriterRecord}
-use Rattle.theory_engine.specs.Cells.{fieldsOf, recordWith, withField, fields-with, cell, putCell, cell-at, put-at}
-use Rattle.theory_engine.specs.Cells.{levelField, firstField, secondField, complementField, stampField, parentsField, headField, tailField}
-use Rattle.theory_engine.specs.Recycling.{oneMore, fitsAt, moreIn, fewerIn, noteIn}
-use Rattle.writer_records.specs.Records.{laneField, withNode, isNode}
+use Rattle.writer_records.specs.Fields.{fieldsOf, recordWith, withField, fields-with}
+use Rattle.theory_engine.specs.Cells.{cell, putCell, cell-at, put-at}
+use Rattle.writer_records.specs.Fields.{levelField, firstField, secondField, complementField, stampField, parentsField, headField, tailField}
+use Rattle.theory_engine.specs.Recycling.{fitsAt, moreIn, fewerIn, noteIn}
+use Rattle.writer_records.specs.Records.{oneMore, withNode, isNode}
 
 -- ---- One record ------------------------------------------------------------------------------
 
@@ -41,46 +42,6 @@ put-more t (suc k) x j v =
     (decide-le (length t) k)
     ∙ sym (set-set t k x (withField (getD (set t k x) k noWriterRecord) j v))
     ∙ ap (λ (u : List WriterRecord). set u k (withField (getD u k noWriterRecord) j v)) (sym (put-suc t k x))
-
--- the field of a lane
-pub after-with : (queue : Bool) (x : WriterRecord) (v : ℕ) →
-    record {
-      level = x .level;
-      first = x .first;
-      second = x .second;
-      complement = x .complement;
-      stamp = x .stamp;
-      parents = x .parents;
-      after = cond queue v (x .after);
-      before = x .before;
-      next = cond queue (x .next) v;
-      previous = x .previous;
-      head = x .head;
-      tail = x .tail;
-    }
-    ≡ withField x (laneField queue) v
-after-with true x v = refl
-after-with false x v = refl
-
--- the one after it
-pub before-with : (queue : Bool) (x : WriterRecord) (v : ℕ) →
-    record {
-      level = x .level;
-      first = x .first;
-      second = x .second;
-      complement = x .complement;
-      stamp = x .stamp;
-      parents = x .parents;
-      after = x .after;
-      before = cond queue v (x .before);
-      next = x .next;
-      previous = cond queue (x .previous) v;
-      head = x .head;
-      tail = x .tail;
-    }
-    ≡ withField x (laneField queue + 1) v
-before-with true x v = refl
-before-with false x v = refl
 
 -- ---- Two cells -------------------------------------------------------------------------------
 

@@ -1,6 +1,7 @@
 -- How the code mixes numbers to spread them over places: each round multiplies and folds. Nothing depends on what it comes to. Definitions
 -- only. Assumes nothing.
 use Prim.Native.Nat.{ℕ, _+_, _*_, _/_, _%_}
+use Rattle.theory_reading.specs.Limits.{tableLimit}
 
 -- Cells side by side in one number: so many values for a number, for an edge (a number, turned about or not) and for a level.
 abbrev pub numberSpan : ℕ
@@ -21,3 +22,11 @@ unfoldable pub stir : ℕ → ℕ → ℕ
 stir k v =
     let x = v % 4294967296 in
     fold (x * ((x + k) % 4294967296))
+
+-- a node's level, children and complement, mixed
+abbrev pub mixOf : ℕ → ℕ → ℕ → ℕ → ℕ
+mixOf i a b c = stir 2246822519 (stir 2654435769 (((a * numberSpan + b) * levelSpan + i) * 2 + c))
+
+-- its bucket: 1 .. tableLimit
+abbrev pub bucketOf : ℕ → ℕ → ℕ → ℕ → ℕ
+bucketOf i a b c = mixOf i a b c % tableLimit + 1
