@@ -35,7 +35,7 @@ fn written_numbers(a: Writing) -> RuleWritten
         Writing::Refused(f) => {
             let c = f.cause;
             RuleWritten {
-                cause: firmware::cause_number(c),
+                cause: c_answers::cause_number(c),
                 stream: f.stream,
                 byte: f.byte as u64,
                 written: 0,

@@ -1,42 +1,15 @@
--- The answers of the calls as C has them: numbers, each cause with the paper's number. What does not apply is 0. Assumes nothing.
-use mathlib.Core.Path.{_≡_, refl, ap, _∙_}
-use mathlib.Core.Bool.{Bool, true, false, cond}
+-- What the calls give as C has it: the answer's numbers, and the work table after the call. Assumes nothing.
+use mathlib.Core.Path.{_≡_, ap, _∙_}
 use mathlib.Core.List.{List}
 use Prim.Native.Nat.{ℕ}
-use Rattle.theory_lists.specs.Lists.{bit}
-use Rattle.theory_reading.specs.Causes.{Result, refused, done, causeRow}
+use Rattle.theory_reading.specs.Causes.{Result}
 use Rattle.theory_reading.specs.Calls as R
 use Rattle.node_records.specs.Records.{noRecord}
-use Rattle.firmware.specs.declared.RuleChecked.{RuleChecked}
-use Rattle.firmware.specs.declared.RuleDecided.{RuleDecided}
-use Rattle.firmware.specs.declared.RuleFilled.{RuleFilled}
 use Rattle.node_records.specs.declared.NodeRecord.{NodeRecord}
-
-abbrev pub extentNumber : R.Extent → ℕ
-extentNumber R.cut = 0
-extentNumber R.complete = 1
-
--- a flag for the extent
-pub extent-flag : (b : Bool) → bit b ≡ extentNumber (cond b R.complete R.cut)
-extent-flag true = refl
-extent-flag false = refl
-
-abbrev pub verdictNumber : R.Verdict → ℕ
-verdictNumber R.isNo = 0
-verdictNumber R.isYes = 1
-verdictNumber R.notYet = 2
-
-abbrev pub checkedNumbers : Result R.Checked → RuleChecked
-checkedNumbers (refused r) = record { cause = causeRow (r .cause) .number; stream = r .stream; byte = r .byte; covered = 0; size = 0; extent = 0 }
-checkedNumbers (done x) = record { cause = 0; stream = 0; byte = 0; covered = x .covered; size = x .size; extent = extentNumber (x .extent) }
-
-abbrev pub decidedNumbers : Result R.Verdict → RuleDecided
-decidedNumbers (refused r) = record { cause = causeRow (r .cause) .number; stream = r .stream; byte = r .byte; verdict = 0; spare = 0 }
-decidedNumbers (done v) = record { cause = 0; stream = 0; byte = 0; verdict = verdictNumber v; spare = 0 }
-
-abbrev pub filledNumbers : Result ℕ → RuleFilled
-filledNumbers (refused r) = record { cause = causeRow (r .cause) .number; stream = r .stream; byte = r .byte; covered = 0 }
-filledNumbers (done k) = record { cause = 0; stream = 0; byte = 0; covered = k }
+use Rattle.c_answers.specs.Numbers.{checkedNumbers, decidedNumbers, filledNumbers}
+use Rattle.c_answers.specs.declared.RuleChecked.{RuleChecked}
+use Rattle.c_answers.specs.declared.RuleDecided.{RuleDecided}
+use Rattle.c_answers.specs.declared.RuleFilled.{RuleFilled}
 
 -- an answer, with the work table after the call
 pub record Given (A : Type 0) : Type 0 where

@@ -88,7 +88,7 @@ fn refused_line(f: Refusal) -> Line
 {
     let c = f.cause;
     let a = push_text(empty(), b"refused ");
-    let b = push_number(a, firmware::cause_number(c) as u64);
+    let b = push_number(a, c_answers::cause_number(c) as u64);
     let d = push(b, b' ');
     let e = push_number(d, f.stream as u64);
     let g = push(e, b' ');

@@ -5,13 +5,13 @@ ghost use Rattle.scanner.specs.Capped.{capStep};
 ghost use Rattle.elements.specs.Abstraction.{contextOf, elementOf, outcomeOf};
 ghost use Rattle.places.specs.Abstraction.{placeOf};
 ghost use Rattle.stepping.specs.Steps.{contextFrom, placeFrom, gotNumbers, outcomeNumbers, stepNumbers, stepGiven};
+use c_answers::cause_number;
 use elements::Context;
 use elements::Element;
 use elements::Opens;
 use elements::Outcome;
 use elements::Ref;
 use elements::context_number;
-use firmware::cause_number;
 use places::Place;
 
 #[repr(C)]

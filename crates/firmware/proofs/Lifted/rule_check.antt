@@ -1,7 +1,7 @@
 -- Generated: what callers cite of rule_check.
--- From 557c1247835c3c62, as 2b72a07aa0939061.
-use Rattle.firmware.proofs.RuleChecked
-use Rattle.firmware.proofs.RuleChecked.Laws
+-- From 7fbb203811fee7fd, as ad50fe5e265bc27b.
+use Rattle.c_answers.proofs.RuleChecked
+use Rattle.c_answers.proofs.RuleChecked.Laws
 use Rattle.node_records.proofs.Tables.NodeRecord as NodeRecordT
 use borrow.Fn.Kinds
 use borrow.Kind.MutSlice

@@ -1,7 +1,7 @@
 -- Generated: what callers cite of rule_decide.
--- From 557c1247835c3c62, as 9c8a28817546c223.
-use Rattle.firmware.proofs.RuleDecided
-use Rattle.firmware.proofs.RuleDecided.Laws
+-- From 7fbb203811fee7fd, as 7b1d1359fc928a90.
+use Rattle.c_answers.proofs.RuleDecided
+use Rattle.c_answers.proofs.RuleDecided.Laws
 use Rattle.node_records.proofs.Tables.NodeRecord as NodeRecordT
 use borrow.Fn.Kinds
 use borrow.Kind.MutSlice

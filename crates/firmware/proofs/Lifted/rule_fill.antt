@@ -1,7 +1,7 @@
 -- Generated: what callers cite of rule_fill.
--- From 557c1247835c3c62, as 2616fe2aea72a162.
-use Rattle.firmware.proofs.RuleFilled
-use Rattle.firmware.proofs.RuleFilled.Laws
+-- From 7fbb203811fee7fd, as 820be47d1d58c220.
+use Rattle.c_answers.proofs.RuleFilled
+use Rattle.c_answers.proofs.RuleFilled.Laws
 use Rattle.node_records.proofs.Tables.NodeRecord as NodeRecordT
 use borrow.Fn.Kinds
 use borrow.Kind.MutSlice

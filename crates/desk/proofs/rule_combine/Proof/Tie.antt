@@ -1,5 +1,5 @@
 -- Generated: the needs of rule_combine at its contract, and how its theorem closes.
--- From 7e6fa9dda67f8e0f, as 30b7ffad4f501c26.
+-- From 8b812be87fdbf484, as 30b7ffad4f501c26.
 use borrow.Fn.Run
 use borrow.Fn.Written
 use contract.Running.{givenOf, tablesOf}

@@ -1,10 +1,10 @@
 -- Generated: the derivation of a body.
--- From 557c1247835c3c62, as 950aa65f04f49f4d.
+-- From 7fbb203811fee7fd, as 20e8fa6842fd7cbd.
 use Prim.Native.Nat
+use Rattle.c_answers.proofs.RuleChecked
+use Rattle.c_answers.proofs.RuleChecked.Laws
 use Rattle.checker.proofs.Checking
-use Rattle.checker.proofs.Checking.Laws
-use Rattle.firmware.proofs.RuleChecked
-use Rattle.firmware.proofs.RuleChecked.Laws as Laws'
+use Rattle.checker.proofs.Checking.Laws as Laws'
 use Rattle.node_records.proofs.Tables.NodeRecord as NodeRecordT
 use borrow.Author.Called
 use borrow.Fn.Any
@@ -80,7 +80,7 @@ y6 = Syntax.tyRef Syntax.erased Syntax.mut NodeRecordT.behind
 abbrev y7 : Syntax.Ty
 y7 = Syntax.tyStruct (38 ∷ 91 ∷ 93 ∷ []) (Syntax.tcons y6 (Syntax.tcons y2 Syntax.tnil))
 abbrev y8 : Syntax.Ty
-y8 = Syntax.tyStruct (102 ∷ 105 ∷ 114 ∷ 109 ∷ 119 ∷ 97 ∷ 114 ∷ 101 ∷ 58 ∷ 58 ∷ 82 ∷ 117 ∷ 108 ∷ 101 ∷ 67 ∷ 104 ∷ 101 ∷ 99 ∷ 107 ∷ 101 ∷ 100 ∷ [])
+y8 = Syntax.tyStruct (99 ∷ 95 ∷ 97 ∷ 110 ∷ 115 ∷ 119 ∷ 101 ∷ 114 ∷ 115 ∷ 58 ∷ 58 ∷ 82 ∷ 117 ∷ 108 ∷ 101 ∷ 67 ∷ 104 ∷ 101 ∷ 99 ∷ 107 ∷ 101 ∷ 100 ∷ [])
     (Syntax.tcons y1 (Syntax.tcons y1 (Syntax.tcons y2 (Syntax.tcons y2 (Syntax.tcons y1 (Syntax.tcons y1 Syntax.tnil))))))
 abbrev y9 : Syntax.Ty
 y9 = Syntax.tyInt Syntax.w8
@@ -117,11 +117,11 @@ e6b = (6, Mut.msleft NodeRecordT.row y6)
 abbrev pub ps : List (Kinds.PK 2)
 ps = (Num.pNum Syntax.w32) ∷ (ShrSlice.pShrS (Referent.rtF (Referent.fInt Syntax.w8)) 0 tt) ∷ (MutSlice.pMutS NodeRecordT.row 1 tt) ∷ []
 abbrev pub r : Kinds.RK 2
-r = Value.rVal record { ty = Declared'.row RuleChecked.the-type; one = Path'.refl; val = Laws'3.val RuleChecked.the-type Laws'.the-laws; tells = Laws'3.tells
-    RuleChecked.the-type Laws'.the-laws; still = Laws'3.still RuleChecked.the-type Laws'.the-copy Exit.yes; row = Rows.whole (Declared'.row
-    RuleChecked.the-type); rd = λ x. x; mk = λ x. x } λ M 𝓤 H A W. record { copies = Laws'3.copy RuleChecked.the-type Laws'.the-copy 𝓤 H A W; lawful =
-    Laws'3.lawful RuleChecked.the-type Laws'.the-laws 𝓤 H A W; makes = Laws'3.makes RuleChecked.the-type Laws'.the-plain 𝓤 H A; in-mem = Local.mem-whole 𝓤 H A
-    W (Declared'.row RuleChecked.the-type); of-mem = Local.whole-mem 𝓤 H A W (Declared'.row RuleChecked.the-type) }
+r = Value.rVal record { ty = Declared'.row RuleChecked.the-type; one = Path'.refl; val = Laws'3.val RuleChecked.the-type Laws.the-laws; tells = Laws'3.tells
+    RuleChecked.the-type Laws.the-laws; still = Laws'3.still RuleChecked.the-type Laws.the-copy Exit.yes; row = Rows.whole (Declared'.row
+    RuleChecked.the-type); rd = λ x. x; mk = λ x. x } λ M 𝓤 H A W. record { copies = Laws'3.copy RuleChecked.the-type Laws.the-copy 𝓤 H A W; lawful =
+    Laws'3.lawful RuleChecked.the-type Laws.the-laws 𝓤 H A W; makes = Laws'3.makes RuleChecked.the-type Laws.the-plain 𝓤 H A; in-mem = Local.mem-whole 𝓤 H A W
+    (Declared'.row RuleChecked.the-type); of-mem = Local.whole-mem 𝓤 H A W (Declared'.row RuleChecked.the-type) }
 abbrev pub xs : List Syntax.Ty
 xs = y5 ∷ y6 ∷ y7 ∷ []
 abbrev pub m : Nat.ℕ
@@ -129,23 +129,23 @@ m = 1
 abbrev pub ps·0 : List (Kinds.PK 2)
 ps·0 = (Num.pNum Syntax.w32) ∷ (ShrSlice.pShrS (Referent.rtF (Referent.fInt Syntax.w8)) 0 tt) ∷ (MutSlice.pMutS NodeRecordT.row 1 tt) ∷ []
 abbrev pub r·0 : Kinds.RK 2
-r·0 = Value.rVal record { ty = Declared.row Checking.the-type; one = Path'.refl; val = Laws''.val Checking.the-type Laws.the-laws; tells = Laws''.tells
-    Checking.the-type Laws.the-laws; still = Laws''.still Checking.the-type Laws.the-copy Exit.yes; row = Rows.whole (Declared.row Checking.the-type); rd = λ
-    x. x; mk = λ x. x } λ M 𝓤 H A W. record { copies = Laws''.copy Checking.the-type Laws.the-copy 𝓤 H A W; lawful = Laws''.lawful Checking.the-type
-    Laws.the-laws 𝓤 H A W tt; makes = Laws''.makes Checking.the-type Laws.the-plain 𝓤 H A; in-mem = Local.mem-whole 𝓤 H A W (Declared.row Checking.the-type);
-    of-mem = Local.whole-mem 𝓤 H A W (Declared.row Checking.the-type) }
+r·0 = Value.rVal record { ty = Declared.row Checking.the-type; one = Path'.refl; val = Laws''.val Checking.the-type Laws'.the-laws; tells = Laws''.tells
+    Checking.the-type Laws'.the-laws; still = Laws''.still Checking.the-type Laws'.the-copy Exit.yes; row = Rows.whole (Declared.row Checking.the-type); rd =
+    λ x. x; mk = λ x. x } λ M 𝓤 H A W. record { copies = Laws''.copy Checking.the-type Laws'.the-copy 𝓤 H A W; lawful = Laws''.lawful Checking.the-type
+    Laws'.the-laws 𝓤 H A W tt; makes = Laws''.makes Checking.the-type Laws'.the-plain 𝓤 H A; in-mem = Local.mem-whole 𝓤 H A W (Declared.row
+    Checking.the-type); of-mem = Local.whole-mem 𝓤 H A W (Declared.row Checking.the-type) }
 abbrev pub ps·1 : List (Kinds.PK 0)
-ps·1 = (Value.pVal record { ty = Declared.row Checking.the-type; one = Path'.refl; val = Laws''.val Checking.the-type Laws.the-laws; tells = Laws''.tells
-    Checking.the-type Laws.the-laws; still = Laws''.still Checking.the-type Laws.the-copy Exit.yes; row = Rows.whole (Declared.row Checking.the-type); rd = λ
-    x. x; mk = λ x. x } λ M 𝓤 H A W. record { copies = Laws''.copy Checking.the-type Laws.the-copy 𝓤 H A W; lawful = Laws''.lawful Checking.the-type
-    Laws.the-laws 𝓤 H A W tt; makes = Laws''.makes Checking.the-type Laws.the-plain 𝓤 H A; in-mem = Local.mem-whole 𝓤 H A W (Declared.row Checking.the-type);
-    of-mem = Local.whole-mem 𝓤 H A W (Declared.row Checking.the-type) }) ∷ []
+ps·1 = (Value.pVal record { ty = Declared.row Checking.the-type; one = Path'.refl; val = Laws''.val Checking.the-type Laws'.the-laws; tells = Laws''.tells
+    Checking.the-type Laws'.the-laws; still = Laws''.still Checking.the-type Laws'.the-copy Exit.yes; row = Rows.whole (Declared.row Checking.the-type); rd =
+    λ x. x; mk = λ x. x } λ M 𝓤 H A W. record { copies = Laws''.copy Checking.the-type Laws'.the-copy 𝓤 H A W; lawful = Laws''.lawful Checking.the-type
+    Laws'.the-laws 𝓤 H A W tt; makes = Laws''.makes Checking.the-type Laws'.the-plain 𝓤 H A; in-mem = Local.mem-whole 𝓤 H A W (Declared.row
+    Checking.the-type); of-mem = Local.whole-mem 𝓤 H A W (Declared.row Checking.the-type) }) ∷ []
 abbrev pub r·1 : Kinds.RK 0
-r·1 = Value.rVal record { ty = Declared'.row RuleChecked.the-type; one = Path'.refl; val = Laws'3.val RuleChecked.the-type Laws'.the-laws; tells =
-    Laws'3.tells RuleChecked.the-type Laws'.the-laws; still = Laws'3.still RuleChecked.the-type Laws'.the-copy Exit.yes; row = Rows.whole (Declared'.row
-    RuleChecked.the-type); rd = λ x. x; mk = λ x. x } λ M 𝓤 H A W. record { copies = Laws'3.copy RuleChecked.the-type Laws'.the-copy 𝓤 H A W; lawful =
-    Laws'3.lawful RuleChecked.the-type Laws'.the-laws 𝓤 H A W; makes = Laws'3.makes RuleChecked.the-type Laws'.the-plain 𝓤 H A; in-mem = Local.mem-whole 𝓤 H A
-    W (Declared'.row RuleChecked.the-type); of-mem = Local.whole-mem 𝓤 H A W (Declared'.row RuleChecked.the-type) }
+r·1 = Value.rVal record { ty = Declared'.row RuleChecked.the-type; one = Path'.refl; val = Laws'3.val RuleChecked.the-type Laws.the-laws; tells = Laws'3.tells
+    RuleChecked.the-type Laws.the-laws; still = Laws'3.still RuleChecked.the-type Laws.the-copy Exit.yes; row = Rows.whole (Declared'.row
+    RuleChecked.the-type); rd = λ x. x; mk = λ x. x } λ M 𝓤 H A W. record { copies = Laws'3.copy RuleChecked.the-type Laws.the-copy 𝓤 H A W; lawful =
+    Laws'3.lawful RuleChecked.the-type Laws.the-laws 𝓤 H A W; makes = Laws'3.makes RuleChecked.the-type Laws.the-plain 𝓤 H A; in-mem = Local.mem-whole 𝓤 H A W
+    (Declared'.row RuleChecked.the-type); of-mem = Local.whole-mem 𝓤 H A W (Declared'.row RuleChecked.the-type) }
 abbrev pub hs : List Syntax.Home
 hs = Syntax.valueLocal ∷ Syntax.valueLocal ∷ Syntax.valueLocal ∷ Syntax.valueLocal ∷ Syntax.valueLocal ∷ Syntax.valueLocal ∷ Syntax.valueLocal ∷ []
 abbrev b0 : Syntax.Body
@@ -156,7 +156,7 @@ abbrev b2 : Syntax.Body
 b2 = Syntax.call "checker::check" ((Syntax.copy (Syntax.place 1 [])) ∷ (Syntax.copy (Syntax.place 2 [])) ∷ (Syntax.copy (Syntax.place 6 [])) ∷ [])
     (Syntax.place 4 [])
 abbrev b3 : Syntax.Body
-b3 = Syntax.call "firmware::checked_numbers" ((Syntax.copy (Syntax.place 4 [])) ∷ []) (Syntax.place 0 [])
+b3 = Syntax.call "c_answers::checked_numbers" ((Syntax.copy (Syntax.place 4 [])) ∷ []) (Syntax.place 0 [])
 abbrev b4 : Syntax.Body
 b4 = Syntax.return
 abbrev b5 : Syntax.Body
@@ -233,7 +233,7 @@ module _ (claims· : Claims) where
     module _ (M : Type 1) where
       abbrev pub Closed : Type 2
       Closed = (𝓤 : URA.URA M) (H : Wp.Heap 𝓤) (A : Atoms.Atoms 𝓤) (W : Kit.Given 𝓤 H A) (𝓣 : Wp.Tables 𝓤 H) (known0 : Plain.Known 𝓤 H A W 𝓣 2 ps·0 r·0
-          (claims· .0) (claims· .1) "checker::check") (known1 : Plain.Known 𝓤 H A W 𝓣 0 ps·1 r·1 (claims· .2) (claims· .3) "firmware::checked_numbers") →
+          (claims· .0) (claims· .1) "checker::check") (known1 : Plain.Known 𝓤 H A W 𝓣 0 ps·1 r·1 (claims· .2) (claims· .3) "c_answers::checked_numbers") →
           Statement.Triple 𝓤 (Wp.WpFn 𝓤 H (𝓣 .C) (𝓣 .Λ) (Function.fnOf 2 ps r xs m hs body)) (Function.plainOf 𝓤 H A 2 ps r Pre· Post·)
     module _ where
       abbrev at0 : Typed.TF T12 O0
@@ -265,7 +265,7 @@ module _ (claims· : Claims) where
       module _ {M : Type 1} (𝓤 : URA.URA M) (H : Wp.Heap 𝓤) (A : Atoms.Atoms 𝓤) (W : Kit.Given 𝓤 H A) (𝓣 : Wp.Tables 𝓤 H) where
         abbrev Knowns : Type 1
         Knowns = Plain.Known 𝓤 H A W 𝓣 2 ps·0 r·0 (claims· .0) (claims· .1) "checker::check" × Plain.Known 𝓤 H A W 𝓣 0 ps·1 r·1 (claims· .2) (claims· .3)
-            "firmware::checked_numbers"
+            "c_answers::checked_numbers"
       module _ (κs : Lifetimes.Lfts 2) (qs : Lifetimes.Shares 2) where
         abbrev K0 : Row.Life
         K0 = Row.lease (κs .1 .0) (qs .1 .0)
@@ -331,9 +331,9 @@ module _ (claims· : Claims) where
               Checking.the-type) y5 Path'.refl)) d1
           d3 : Typed.Typed 𝓤 H A 𝓣 E G9 b5 Δ0 at3
           d3 = Typed.s-seq 𝓤 H A W 𝓣 E G9 G10 b3 b4 Δ0 (Typed.both s8) at2 (Plain.t-call-plain 𝓤 H A W 𝓣 0 ps·1 r·1 (claims· .2) (claims· .3)
-              "firmware::checked_numbers" (known .1) E (λ pos β. β) G9 (record { pos = 4; st = []; d = 0; at = λ x. x }, tt) 0 [] (Call.sub-id 𝓤 H A W (G9
-              .slots)) ((Yields.yields-copy 𝓤 H A W (λ ρ. Unit) (Declared.row Checking.the-type) Path'.refl (Copies.cEnum Checking.the-type Laws.the-laws
-              Laws.the-copy .copy 𝓤 H A W) (Rows.whole (Declared.row Checking.the-type)) (λ x. x) (λ x. x) (λ ρ told. Local.mem-whole 𝓤 H A W (Declared.row
+              "c_answers::checked_numbers" (known .1) E (λ pos β. β) G9 (record { pos = 4; st = []; d = 0; at = λ x. x }, tt) 0 [] (Call.sub-id 𝓤 H A W (G9
+              .slots)) ((Yields.yields-copy 𝓤 H A W (λ ρ. Unit) (Declared.row Checking.the-type) Path'.refl (Copies.cEnum Checking.the-type Laws'.the-laws
+              Laws'.the-copy .copy 𝓤 H A W) (Rows.whole (Declared.row Checking.the-type)) (λ x. x) (λ x. x) (λ ρ told. Local.mem-whole 𝓤 H A W (Declared.row
               Checking.the-type) ρ) λ ρ told. Local.whole-mem 𝓤 H A W (Declared.row Checking.the-type) ρ, Path'.refl), tt) (Reads.room-gone 𝓤 H A y8) tt
               Path'.refl) d2
           d4 : Typed.Typed 𝓤 H A 𝓣 E G8 b5 Δ0 at4
@@ -480,6 +480,6 @@ module _ (claims· : Claims) where
               record { fits = good .0 .1 } }; pre = pre }
         module _ {M : Type 1} (𝓤 : URA.URA M) (H : Wp.Heap 𝓤) (A : Atoms.Atoms 𝓤) (W : Kit.Given 𝓤 H A) (𝓣 : Wp.Tables 𝓤 H) (known0 : Plain.Known 𝓤 H A W 𝓣 2
             ps·0 r·0 (claims· .0) (claims· .1) "checker::check") (known1 : Plain.Known 𝓤 H A W 𝓣 0 ps·1 r·1 (claims· .2) (claims· .3)
-            "firmware::checked_numbers") where
+            "c_answers::checked_numbers") where
           pub spec : Statement.Triple 𝓤 (Wp.WpFn 𝓤 H (𝓣 .C) (𝓣 .Λ) (Function.fnOf 2 ps r xs m hs body)) (Function.plainOf 𝓤 H A 2 ps r Pre· Post·)
           spec = Plain.t-fn-plain 𝓤 H A W 𝓣 2 ps r xs m hs body (λ κs qs bs. Φ) (λ κs qs bs bd. typed κs qs 𝓤 H A W 𝓣 (known0, known1) bs bd) Pre· Post· asked

@@ -1,14 +1,14 @@
 -- Generated: the needs of rule_decide at its contract, and how its theorem closes.
--- From 557c1247835c3c62, as 7d7cf7a94f739019.
+-- From 7fbb203811fee7fd, as aaac4e06dcfeaf41.
 use borrow.Fn.Run
 use borrow.Fn.Written
 use contract.Running.{givenOf, tablesOf}
 use Rattle.decider.proofs.Lifted.decide as decide-reads
 use Rattle.decider.proofs.decide.Met as decide-met
 use Rattle.decider.proofs.decide.Symbol as decide-symbol
-use Rattle.firmware.proofs.decided_numbers.Reads as decided-numbers-reads
-use Rattle.firmware.proofs.decided_numbers.Met as decided-numbers-met
-use Rattle.firmware.proofs.decided_numbers.Symbol as decided-numbers-symbol
+use Rattle.c_answers.proofs.decided_numbers.Reads as decided-numbers-reads
+use Rattle.c_answers.proofs.decided_numbers.Met as decided-numbers-met
+use Rattle.c_answers.proofs.decided_numbers.Symbol as decided-numbers-symbol
 use Rattle.firmware.proofs.rule_decide.Key
 use Rattle.firmware.proofs.rule_decide.Code as code
 use Rattle.firmware.proofs.rule_decide.Statement.{statement}
@@ -40,4 +40,4 @@ module _ {M : Type 1} where
       Written.close 2 self.ps self.r self.Ghost self.requires self.ensures self.pre-read self.Pinned self.Owned self.post-read record { M = M; 𝓤 = 𝓤; H = H; 𝓜 = 𝓜; 𝓖 = 𝓖; 𝓡 = 𝓡 } code.env Key.name code.function (code.unfolded 𝓤 H 𝓜 𝓡)
       (λ κs a g. tt) (λ κs. self.owns κs record { M = M; 𝓤 = 𝓤; H = H; 𝓜 = 𝓜; 𝓖 = 𝓖; 𝓡 = 𝓡 }) (self.passes record { M = M; 𝓤 = 𝓤; H = H; 𝓜 = 𝓜; 𝓖 = 𝓖; 𝓡 = 𝓡 }) λ g. closed 𝓤 H (𝓖 .A) (givenOf 𝓤 H 𝓜 𝓖) (Run.Over 𝓤 H 𝓜 𝓖 𝓡 code.env)
       (decide-reads.known record { M = M; 𝓤 = 𝓤; H = H; 𝓜 = 𝓜; 𝓖 = 𝓖; 𝓡 = 𝓡 } code.env decide-symbol.name decide-symbol.routine code.calls-decider·decide (decide-met.met 𝓤 H 𝓜 𝓖 𝓡))
-      (decided-numbers-reads.known record { M = M; 𝓤 = 𝓤; H = H; 𝓜 = 𝓜; 𝓖 = 𝓖; 𝓡 = 𝓡 } code.env decided-numbers-symbol.name decided-numbers-symbol.routine code.calls-firmware·decided-numbers (decided-numbers-met.met 𝓤 H 𝓜 𝓖 𝓡))
+      (decided-numbers-reads.known record { M = M; 𝓤 = 𝓤; H = H; 𝓜 = 𝓜; 𝓖 = 𝓖; 𝓡 = 𝓡 } code.env decided-numbers-symbol.name decided-numbers-symbol.routine code.calls-c-answers·decided-numbers (decided-numbers-met.met 𝓤 H 𝓜 𝓖 𝓡))

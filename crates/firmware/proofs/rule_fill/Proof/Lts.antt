@@ -1,10 +1,10 @@
 -- Generated: the derivation of a body.
--- From 557c1247835c3c62, as 0e5947841da6329f.
+-- From 7fbb203811fee7fd, as c4e5f306202c1b75.
 use Prim.Native.Nat
+use Rattle.c_answers.proofs.RuleFilled
+use Rattle.c_answers.proofs.RuleFilled.Laws
 use Rattle.filler.proofs.Filling
-use Rattle.filler.proofs.Filling.Laws
-use Rattle.firmware.proofs.RuleFilled
-use Rattle.firmware.proofs.RuleFilled.Laws as Laws'
+use Rattle.filler.proofs.Filling.Laws as Laws'
 use Rattle.node_records.proofs.Tables.NodeRecord as NodeRecordT
 use borrow.Author.Called
 use borrow.Fn.Any
@@ -83,8 +83,8 @@ y8 = Syntax.tyRef Syntax.erased Syntax.mut NodeRecordT.behind
 abbrev y9 : Syntax.Ty
 y9 = Syntax.tyStruct (38 ∷ 91 ∷ 93 ∷ []) (Syntax.tcons y8 (Syntax.tcons y2 Syntax.tnil))
 abbrev y10 : Syntax.Ty
-y10 = Syntax.tyStruct (102 ∷ 105 ∷ 114 ∷ 109 ∷ 119 ∷ 97 ∷ 114 ∷ 101 ∷ 58 ∷ 58 ∷ 82 ∷ 117 ∷ 108 ∷ 101 ∷ 70 ∷ 105 ∷ 108 ∷ 108 ∷ 101 ∷ 100 ∷ []) (Syntax.tcons y1
-    (Syntax.tcons y1 (Syntax.tcons y2 (Syntax.tcons y2 Syntax.tnil))))
+y10 = Syntax.tyStruct (99 ∷ 95 ∷ 97 ∷ 110 ∷ 115 ∷ 119 ∷ 101 ∷ 114 ∷ 115 ∷ 58 ∷ 58 ∷ 82 ∷ 117 ∷ 108 ∷ 101 ∷ 70 ∷ 105 ∷ 108 ∷ 108 ∷ 101 ∷ 100 ∷ [])
+    (Syntax.tcons y1 (Syntax.tcons y1 (Syntax.tcons y2 (Syntax.tcons y2 Syntax.tnil))))
 abbrev y11 : Syntax.Ty
 y11 = Syntax.tyRef (Syntax.named 0) Syntax.imm y5
 abbrev y12 : Syntax.Ty
@@ -135,11 +135,11 @@ abbrev pub ps : List (Kinds.PK 3)
 ps = (Num.pNum Syntax.w32) ∷ (ShrSlice.pShrS (Referent.rtF (Referent.fInt Syntax.w8)) 0 tt) ∷ (MutSlice.pMutS (Referent.rtF (Referent.fInt Syntax.w8)) 1 tt) ∷
     (MutSlice.pMutS NodeRecordT.row 2 tt) ∷ []
 abbrev pub r : Kinds.RK 3
-r = Value.rVal record { ty = Declared'.row RuleFilled.the-type; one = Path'.refl; val = Laws'3.val RuleFilled.the-type Laws'.the-laws; tells = Laws'3.tells
-    RuleFilled.the-type Laws'.the-laws; still = Laws'3.still RuleFilled.the-type Laws'.the-copy Exit.yes; row = Rows.whole (Declared'.row
-    RuleFilled.the-type); rd = λ x. x; mk = λ x. x } λ M 𝓤 H A W. record { copies = Laws'3.copy RuleFilled.the-type Laws'.the-copy 𝓤 H A W; lawful =
-    Laws'3.lawful RuleFilled.the-type Laws'.the-laws 𝓤 H A W; makes = Laws'3.makes RuleFilled.the-type Laws'.the-plain 𝓤 H A; in-mem = Local.mem-whole 𝓤 H A W
-    (Declared'.row RuleFilled.the-type); of-mem = Local.whole-mem 𝓤 H A W (Declared'.row RuleFilled.the-type) }
+r = Value.rVal record { ty = Declared'.row RuleFilled.the-type; one = Path'.refl; val = Laws'3.val RuleFilled.the-type Laws.the-laws; tells = Laws'3.tells
+    RuleFilled.the-type Laws.the-laws; still = Laws'3.still RuleFilled.the-type Laws.the-copy Exit.yes; row = Rows.whole (Declared'.row RuleFilled.the-type);
+    rd = λ x. x; mk = λ x. x } λ M 𝓤 H A W. record { copies = Laws'3.copy RuleFilled.the-type Laws.the-copy 𝓤 H A W; lawful = Laws'3.lawful
+    RuleFilled.the-type Laws.the-laws 𝓤 H A W; makes = Laws'3.makes RuleFilled.the-type Laws.the-plain 𝓤 H A; in-mem = Local.mem-whole 𝓤 H A W (Declared'.row
+    RuleFilled.the-type); of-mem = Local.whole-mem 𝓤 H A W (Declared'.row RuleFilled.the-type) }
 abbrev pub xs : List Syntax.Ty
 xs = y4 ∷ y6 ∷ y7 ∷ y8 ∷ y9 ∷ []
 abbrev pub m : Nat.ℕ
@@ -148,23 +148,23 @@ abbrev pub ps·0 : List (Kinds.PK 3)
 ps·0 = (Num.pNum Syntax.w32) ∷ (ShrSlice.pShrS (Referent.rtF (Referent.fInt Syntax.w8)) 0 tt) ∷ (MutSlice.pMutS (Referent.rtF (Referent.fInt Syntax.w8)) 1 tt)
     ∷ (MutSlice.pMutS NodeRecordT.row 2 tt) ∷ []
 abbrev pub r·0 : Kinds.RK 3
-r·0 = Value.rVal record { ty = Declared.row Filling.the-type; one = Path'.refl; val = Laws''.val Filling.the-type Laws.the-laws; tells = Laws''.tells
-    Filling.the-type Laws.the-laws; still = Laws''.still Filling.the-type Laws.the-copy Exit.yes; row = Rows.whole (Declared.row Filling.the-type); rd = λ x.
-    x; mk = λ x. x } λ M 𝓤 H A W. record { copies = Laws''.copy Filling.the-type Laws.the-copy 𝓤 H A W; lawful = Laws''.lawful Filling.the-type Laws.the-laws
-    𝓤 H A W tt; makes = Laws''.makes Filling.the-type Laws.the-plain 𝓤 H A; in-mem = Local.mem-whole 𝓤 H A W (Declared.row Filling.the-type); of-mem =
-    Local.whole-mem 𝓤 H A W (Declared.row Filling.the-type) }
+r·0 = Value.rVal record { ty = Declared.row Filling.the-type; one = Path'.refl; val = Laws''.val Filling.the-type Laws'.the-laws; tells = Laws''.tells
+    Filling.the-type Laws'.the-laws; still = Laws''.still Filling.the-type Laws'.the-copy Exit.yes; row = Rows.whole (Declared.row Filling.the-type); rd = λ
+    x. x; mk = λ x. x } λ M 𝓤 H A W. record { copies = Laws''.copy Filling.the-type Laws'.the-copy 𝓤 H A W; lawful = Laws''.lawful Filling.the-type
+    Laws'.the-laws 𝓤 H A W tt; makes = Laws''.makes Filling.the-type Laws'.the-plain 𝓤 H A; in-mem = Local.mem-whole 𝓤 H A W (Declared.row Filling.the-type);
+    of-mem = Local.whole-mem 𝓤 H A W (Declared.row Filling.the-type) }
 abbrev pub ps·1 : List (Kinds.PK 0)
-ps·1 = (Value.pVal record { ty = Declared.row Filling.the-type; one = Path'.refl; val = Laws''.val Filling.the-type Laws.the-laws; tells = Laws''.tells
-    Filling.the-type Laws.the-laws; still = Laws''.still Filling.the-type Laws.the-copy Exit.yes; row = Rows.whole (Declared.row Filling.the-type); rd = λ x.
-    x; mk = λ x. x } λ M 𝓤 H A W. record { copies = Laws''.copy Filling.the-type Laws.the-copy 𝓤 H A W; lawful = Laws''.lawful Filling.the-type Laws.the-laws
-    𝓤 H A W tt; makes = Laws''.makes Filling.the-type Laws.the-plain 𝓤 H A; in-mem = Local.mem-whole 𝓤 H A W (Declared.row Filling.the-type); of-mem =
-    Local.whole-mem 𝓤 H A W (Declared.row Filling.the-type) }) ∷ []
+ps·1 = (Value.pVal record { ty = Declared.row Filling.the-type; one = Path'.refl; val = Laws''.val Filling.the-type Laws'.the-laws; tells = Laws''.tells
+    Filling.the-type Laws'.the-laws; still = Laws''.still Filling.the-type Laws'.the-copy Exit.yes; row = Rows.whole (Declared.row Filling.the-type); rd = λ
+    x. x; mk = λ x. x } λ M 𝓤 H A W. record { copies = Laws''.copy Filling.the-type Laws'.the-copy 𝓤 H A W; lawful = Laws''.lawful Filling.the-type
+    Laws'.the-laws 𝓤 H A W tt; makes = Laws''.makes Filling.the-type Laws'.the-plain 𝓤 H A; in-mem = Local.mem-whole 𝓤 H A W (Declared.row Filling.the-type);
+    of-mem = Local.whole-mem 𝓤 H A W (Declared.row Filling.the-type) }) ∷ []
 abbrev pub r·1 : Kinds.RK 0
-r·1 = Value.rVal record { ty = Declared'.row RuleFilled.the-type; one = Path'.refl; val = Laws'3.val RuleFilled.the-type Laws'.the-laws; tells = Laws'3.tells
-    RuleFilled.the-type Laws'.the-laws; still = Laws'3.still RuleFilled.the-type Laws'.the-copy Exit.yes; row = Rows.whole (Declared'.row
-    RuleFilled.the-type); rd = λ x. x; mk = λ x. x } λ M 𝓤 H A W. record { copies = Laws'3.copy RuleFilled.the-type Laws'.the-copy 𝓤 H A W; lawful =
-    Laws'3.lawful RuleFilled.the-type Laws'.the-laws 𝓤 H A W; makes = Laws'3.makes RuleFilled.the-type Laws'.the-plain 𝓤 H A; in-mem = Local.mem-whole 𝓤 H A W
-    (Declared'.row RuleFilled.the-type); of-mem = Local.whole-mem 𝓤 H A W (Declared'.row RuleFilled.the-type) }
+r·1 = Value.rVal record { ty = Declared'.row RuleFilled.the-type; one = Path'.refl; val = Laws'3.val RuleFilled.the-type Laws.the-laws; tells = Laws'3.tells
+    RuleFilled.the-type Laws.the-laws; still = Laws'3.still RuleFilled.the-type Laws.the-copy Exit.yes; row = Rows.whole (Declared'.row RuleFilled.the-type);
+    rd = λ x. x; mk = λ x. x } λ M 𝓤 H A W. record { copies = Laws'3.copy RuleFilled.the-type Laws.the-copy 𝓤 H A W; lawful = Laws'3.lawful
+    RuleFilled.the-type Laws.the-laws 𝓤 H A W; makes = Laws'3.makes RuleFilled.the-type Laws.the-plain 𝓤 H A; in-mem = Local.mem-whole 𝓤 H A W (Declared'.row
+    RuleFilled.the-type); of-mem = Local.whole-mem 𝓤 H A W (Declared'.row RuleFilled.the-type) }
 abbrev pub hs : List Syntax.Home
 hs = Syntax.valueLocal ∷ Syntax.valueLocal ∷ Syntax.valueLocal ∷ Syntax.valueLocal ∷ Syntax.valueLocal ∷ Syntax.valueLocal ∷ Syntax.valueLocal ∷
     Syntax.valueLocal ∷ Syntax.valueLocal ∷ Syntax.valueLocal ∷ []
@@ -180,7 +180,7 @@ abbrev b4 : Syntax.Body
 b4 = Syntax.call "filler::fill" ((Syntax.copy (Syntax.place 1 [])) ∷ (Syntax.copy (Syntax.place 2 [])) ∷ (Syntax.copy (Syntax.place 7 [])) ∷ (Syntax.copy
     (Syntax.place 9 [])) ∷ []) (Syntax.place 5 [])
 abbrev b5 : Syntax.Body
-b5 = Syntax.call "firmware::filled_numbers" ((Syntax.copy (Syntax.place 5 [])) ∷ []) (Syntax.place 0 [])
+b5 = Syntax.call "c_answers::filled_numbers" ((Syntax.copy (Syntax.place 5 [])) ∷ []) (Syntax.place 0 [])
 abbrev b6 : Syntax.Body
 b6 = Syntax.return
 abbrev b7 : Syntax.Body
@@ -288,7 +288,7 @@ module _ (claims· : Claims) where
     module _ (M : Type 1) where
       abbrev pub Closed : Type 2
       Closed = (𝓤 : URA.URA M) (H : Wp.Heap 𝓤) (A : Atoms.Atoms 𝓤) (W : Kit.Given 𝓤 H A) (𝓣 : Wp.Tables 𝓤 H) (known0 : Plain.Known 𝓤 H A W 𝓣 3 ps·0 r·0
-          (claims· .0) (claims· .1) "filler::fill") (known1 : Plain.Known 𝓤 H A W 𝓣 0 ps·1 r·1 (claims· .2) (claims· .3) "firmware::filled_numbers") →
+          (claims· .0) (claims· .1) "filler::fill") (known1 : Plain.Known 𝓤 H A W 𝓣 0 ps·1 r·1 (claims· .2) (claims· .3) "c_answers::filled_numbers") →
           Statement.Triple 𝓤 (Wp.WpFn 𝓤 H (𝓣 .C) (𝓣 .Λ) (Function.fnOf 3 ps r xs m hs body)) (Function.plainOf 𝓤 H A 3 ps r Pre· Post·)
     module _ where
       abbrev at0 : Typed.TF T20 O0
@@ -336,7 +336,7 @@ module _ (claims· : Claims) where
       module _ {M : Type 1} (𝓤 : URA.URA M) (H : Wp.Heap 𝓤) (A : Atoms.Atoms 𝓤) (W : Kit.Given 𝓤 H A) (𝓣 : Wp.Tables 𝓤 H) where
         abbrev Knowns : Type 1
         Knowns = Plain.Known 𝓤 H A W 𝓣 3 ps·0 r·0 (claims· .0) (claims· .1) "filler::fill" × Plain.Known 𝓤 H A W 𝓣 0 ps·1 r·1 (claims· .2) (claims· .3)
-            "firmware::filled_numbers"
+            "c_answers::filled_numbers"
       module _ (κs : Lifetimes.Lfts 3) (qs : Lifetimes.Shares 3) where
         abbrev K0 : Row.Life
         K0 = Row.lease (κs .1 .0) (qs .1 .0)
@@ -438,9 +438,9 @@ module _ (claims· : Claims) where
               Filling.the-type) y4 Path'.refl)) d1
           d3 : Typed.Typed 𝓤 H A 𝓣 E G17 b7 Δ0 at3
           d3 = Typed.s-seq 𝓤 H A W 𝓣 E G17 G18 b5 b6 Δ0 (Typed.both s16) at2 (Plain.t-call-plain 𝓤 H A W 𝓣 0 ps·1 r·1 (claims· .2) (claims· .3)
-              "firmware::filled_numbers" (known .1) E (λ pos β. β) G17 (record { pos = 5; st = []; d = 0; at = λ x. x }, tt) 0 [] (Call.sub-id 𝓤 H A W (G17
-              .slots)) ((Yields.yields-copy 𝓤 H A W (λ ρ. Unit) (Declared.row Filling.the-type) Path'.refl (Copies.cEnum Filling.the-type Laws.the-laws
-              Laws.the-copy .copy 𝓤 H A W) (Rows.whole (Declared.row Filling.the-type)) (λ x. x) (λ x. x) (λ ρ told. Local.mem-whole 𝓤 H A W (Declared.row
+              "c_answers::filled_numbers" (known .1) E (λ pos β. β) G17 (record { pos = 5; st = []; d = 0; at = λ x. x }, tt) 0 [] (Call.sub-id 𝓤 H A W (G17
+              .slots)) ((Yields.yields-copy 𝓤 H A W (λ ρ. Unit) (Declared.row Filling.the-type) Path'.refl (Copies.cEnum Filling.the-type Laws'.the-laws
+              Laws'.the-copy .copy 𝓤 H A W) (Rows.whole (Declared.row Filling.the-type)) (λ x. x) (λ x. x) (λ ρ told. Local.mem-whole 𝓤 H A W (Declared.row
               Filling.the-type) ρ) λ ρ told. Local.whole-mem 𝓤 H A W (Declared.row Filling.the-type) ρ, Path'.refl), tt) (Reads.room-gone 𝓤 H A y10) tt
               Path'.refl) d2
           d4 : Typed.Typed 𝓤 H A 𝓣 E G16 b7 Δ0 at4
@@ -668,6 +668,6 @@ module _ (claims· : Claims) where
               good; fits = record { n = record { fits = good .0 .1 } }; pre = pre }
         module _ {M : Type 1} (𝓤 : URA.URA M) (H : Wp.Heap 𝓤) (A : Atoms.Atoms 𝓤) (W : Kit.Given 𝓤 H A) (𝓣 : Wp.Tables 𝓤 H) (known0 : Plain.Known 𝓤 H A W 𝓣 3
             ps·0 r·0 (claims· .0) (claims· .1) "filler::fill") (known1 : Plain.Known 𝓤 H A W 𝓣 0 ps·1 r·1 (claims· .2) (claims· .3)
-            "firmware::filled_numbers") where
+            "c_answers::filled_numbers") where
           pub spec : Statement.Triple 𝓤 (Wp.WpFn 𝓤 H (𝓣 .C) (𝓣 .Λ) (Function.fnOf 3 ps r xs m hs body)) (Function.plainOf 𝓤 H A 3 ps r Pre· Post·)
           spec = Plain.t-fn-plain 𝓤 H A W 𝓣 3 ps r xs m hs body (λ κs qs bs. Φ) (λ κs qs bs bd. typed κs qs 𝓤 H A W 𝓣 (known0, known1) bs bd) Pre· Post· asked

@@ -1,14 +1,14 @@
 -- Generated: the needs of rule_fill at its contract, and how its theorem closes.
--- From 557c1247835c3c62, as d45cd1dda6ee056e.
+-- From 7fbb203811fee7fd, as ca9dd90acd24ca2e.
 use borrow.Fn.Run
 use borrow.Fn.Written
 use contract.Running.{givenOf, tablesOf}
 use Rattle.filler.proofs.Lifted.fill as fill-reads
 use Rattle.filler.proofs.fill.Met as fill-met
 use Rattle.filler.proofs.fill.Symbol as fill-symbol
-use Rattle.firmware.proofs.filled_numbers.Reads as filled-numbers-reads
-use Rattle.firmware.proofs.filled_numbers.Met as filled-numbers-met
-use Rattle.firmware.proofs.filled_numbers.Symbol as filled-numbers-symbol
+use Rattle.c_answers.proofs.filled_numbers.Reads as filled-numbers-reads
+use Rattle.c_answers.proofs.filled_numbers.Met as filled-numbers-met
+use Rattle.c_answers.proofs.filled_numbers.Symbol as filled-numbers-symbol
 use Rattle.firmware.proofs.rule_fill.Key
 use Rattle.firmware.proofs.rule_fill.Code as code
 use Rattle.firmware.proofs.rule_fill.Statement.{statement}
@@ -43,4 +43,4 @@ module _ {M : Type 1} where
       Written.close 3 self.ps self.r self.Ghost self.requires self.ensures self.pre-read self.Pinned self.Owned self.post-read record { M = M; 𝓤 = 𝓤; H = H; 𝓜 = 𝓜; 𝓖 = 𝓖; 𝓡 = 𝓡 } code.env Key.name code.function (code.unfolded 𝓤 H 𝓜 𝓡)
       (λ κs a g. tt) (λ κs. self.owns κs record { M = M; 𝓤 = 𝓤; H = H; 𝓜 = 𝓜; 𝓖 = 𝓖; 𝓡 = 𝓡 }) (self.passes record { M = M; 𝓤 = 𝓤; H = H; 𝓜 = 𝓜; 𝓖 = 𝓖; 𝓡 = 𝓡 }) λ g. closed 𝓤 H (𝓖 .A) (givenOf 𝓤 H 𝓜 𝓖) (Run.Over 𝓤 H 𝓜 𝓖 𝓡 code.env)
       (fill-reads.known record { M = M; 𝓤 = 𝓤; H = H; 𝓜 = 𝓜; 𝓖 = 𝓖; 𝓡 = 𝓡 } code.env fill-symbol.name fill-symbol.routine code.calls-filler·fill (fill-met.met 𝓤 H 𝓜 𝓖 𝓡))
-      (filled-numbers-reads.known record { M = M; 𝓤 = 𝓤; H = H; 𝓜 = 𝓜; 𝓖 = 𝓖; 𝓡 = 𝓡 } code.env filled-numbers-symbol.name filled-numbers-symbol.routine code.calls-firmware·filled-numbers (filled-numbers-met.met 𝓤 H 𝓜 𝓖 𝓡))
+      (filled-numbers-reads.known record { M = M; 𝓤 = 𝓤; H = H; 𝓜 = 𝓜; 𝓖 = 𝓖; 𝓡 = 𝓡 } code.env filled-numbers-symbol.name filled-numbers-symbol.routine code.calls-c-answers·filled-numbers (filled-numbers-met.met 𝓤 H 𝓜 𝓖 𝓡))

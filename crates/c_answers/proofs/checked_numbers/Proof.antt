@@ -1,9 +1,9 @@
 -- The numbers of each case, by the definition. Assumes nothing.
 use mathlib.Core.Path.{refl, ap, _∙_}
 use Prim.Native.Nat.{ℕ}
-use Rattle.firmware.specs.Numbers.{extent-flag}
-use Rattle.firmware.proofs.checked_numbers.Statement.{statement}
-use Rattle.firmware.proofs.checked_numbers.Tie as tie
+use Rattle.c_answers.specs.Numbers.{extent-flag}
+use Rattle.c_answers.proofs.checked_numbers.Statement.{statement}
+use Rattle.c_answers.proofs.checked_numbers.Tie as tie
 use borrow.Author.Needs.{needs}
 
 enum-known-a : tie.Need-enum-known-a
