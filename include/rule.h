@@ -1,12 +1,12 @@
 /*
- * Option rules as decision streams: checking a stream, deciding one word, filling a truth table, writing the stream of a truth table, combining two
- * streams by an operator, and reading a stream element by element.
+ * Option rules as decision streams: checking a stream, deciding one word, finding the next admitted word, filling a truth table, writing the stream of
+ * a truth table, combining two streams by an operator, and reading a stream element by element.
  *
  * A stream is the table size, one LF, an optional `~`, one node, and `.` as last byte. A stream without its point is cut; it is taken like any
  * other and covers fewer words. n is the option count, 0 to 32; words run from 0 to 2^n - 1, and option 1 has weight 2^(n-1).
  *
- * Libraries. libfirmware.a has rule_check, rule_decide and rule_fill; libstepping.a has rule_begin and rule_step; libdesk.a has rule_write and
- * rule_combine. Each stands alone, and all can be linked together. They are proved, and want nothing of the C library but memcpy and memset.
+ * Libraries. libfirmware.a has rule_check, rule_decide, rule_next and rule_fill; libstepping.a has rule_begin and rule_step; libdesk.a has rule_write
+ * and rule_combine. Each stands alone, and all can be linked together. They are proved, and want nothing of the C library but memcpy and memset.
  *
  * Memory. The caller lends all of it and keeps it: the library allocates nothing, keeps nothing between calls and no pointer after one, and has
  * no state, so calls on different memory may run at the same time. Lent pieces must not overlap, but the same stream may be lent twice for combining,
@@ -50,6 +50,8 @@ typedef struct {
     uint32_t complement; /* whether the edge to the second is complemented */
     uint32_t stamp;      /* how often the number was given out */
     uint32_t parents;    /* how many records have the number as a child */
+    uint32_t admits;     /* whether some word below the node is yes */
+    uint32_t refuses;    /* whether some word below it is no */
 } rule_record;
 
 /* A record of a work table for writing: a stored node, and its places in the recycling queue and in the unique table. */
@@ -128,6 +130,27 @@ typedef struct {
  * the work table.
  */
 rule_decided rule_decide(uint32_t n, const uint8_t *stream, size_t stream_bytes, uint64_t word, rule_record *table, size_t records);
+
+/* ---- Finding the next admitted word */
+
+/* No covered word from the one asked on is admitted, and all words are covered; such a word was found; none was, and not all words are covered. */
+enum { RULE_NO_WORD = 0, RULE_WORD_FOUND = 1, RULE_NOT_KNOWN = 2 };
+
+/* The word, 0 unless it was found, and which of the three; `spare` is 0. */
+typedef struct {
+    uint32_t cause, stream;
+    uint64_t byte;
+    uint64_t word;
+    uint32_t answer;
+    uint32_t spare;
+} rule_found;
+
+/*
+ * Finds the least covered word, from `word` on, that the rule admits. Tests causes 1, 4 and 5, then 7 to 13 in all of the stream, also behind the place
+ * that decides the word. To list what a rule admits, ask from 0 and go on one past each word found, until that is 2^n or none is found: every covered
+ * word that is admitted comes once, rising. Changes nothing but the work table.
+ */
+rule_found rule_next(uint32_t n, const uint8_t *stream, size_t stream_bytes, uint64_t word, rule_record *table, size_t records);
 
 /* ---- Filling a truth table */
 

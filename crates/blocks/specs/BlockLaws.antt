@@ -10,7 +10,7 @@ use native.Mathlib.Omega.{arith}
 use lib.ListN.{length}
 use borrow.Author.Tests.{lt-ltb}
 use Rattle.theory_lists.specs.Lists.{decide-le}
-use Rattle.theory_reading.specs.Limits.{optionLimit, tableLimit}
+use Rattle.theory_reading.specs.Limits.{optionLimit, openLimit, tableLimit}
 use Rattle.theory_reading.specs.Nodes.{node}
 use Rattle.theory_reading.specs.Reading.{State, Reading, level, isStart, reading}
 use Rattle.theory_reading.specs.Deciding.{Decision, undecided, decided, complemented, options, Trace, traceOn, trace, decisionOf, decision}
@@ -31,17 +31,30 @@ use Rattle.reader.specs.ReadOn.{firstCursor, ReadTo, readAll, read-reaches, rea
 use Rattle.elements.specs.declared.Opens.{Opens}
 use Rattle.reader.specs.declared.Run.{Run}
 use Rattle.reader.specs.OpenCells.{ReadReached, ReadCursor}
-use Rattle.blocks.specs.Blocks.{ReadBlock, blockOf, Next, nextOf, nextBlock, word-passed}
+use Rattle.blocks.specs.Blocks.{edgeAt, ReadBlock, blockOf, Next, nextOf, nextBlock, word-passed}
 use Rattle.node_records.specs.declared.NodeRecord.{NodeRecord}
+
+-- ---- What a stream covers ----------------------------------------------------------------------
+
+-- a stream covers what is covered after some steps
+at-all : (n : ℕ) (bytes : List ℕ) (f : ℕ) (s : State) → At n bytes f s → s .covered ≤ trace n bytes .reading .state .covered
+at-all n bytes f s h =
+    let q = tied-on f n bytes .good in
+    omega (
+      arith,
+      grown-count n (traceOn f n bytes startTrace) _ q (grown-on (suc (length bytes)) n bytes (traceOn f n bytes startTrace) q),
+      ap
+          (λ (t : Trace). t .reading .state .covered) (trace-onward n bytes f),
+      ap (λ (x : Reading). x .state .covered) h,
+    )
+
+pub stands-all : (n : ℕ) (bytes : List ℕ) (r : Run) (o : Opens) (t : List NodeRecord) → Stands n bytes r o t → r .covered ≤ reading n bytes .state .covered
+stands-all n bytes r o t h = omega (arith, at-all n bytes (h .steps) (stateAt r o t) (h .here), trace-covered n bytes)
 
 -- ---- What the loop passes --------------------------------------------------------------------
 
--- x: what the loop reaches from where r stands, with r's covered count as its stop
-module _ (n : ℕ) (bytes : List ℕ) (r : Run) (o : Opens) (t : List NodeRecord) (h : Stands n bytes r o t) (x : ReadReached) (u : List NodeRecord)
-    (reached : ReachedBy n bytes (r .covered) x u) where
-  abbrev s : State
-  s = stateAt r o t
-
+-- x: what the loop reaches with some stop
+module _ (n : ℕ) (bytes : List ℕ) (stop : ℕ) (x : ReadReached) (u : List NodeRecord) (reached : ReachedBy n bytes stop x u) where
   abbrev s′ : State
   s′ = stateAt (x .run) (x .opens) u
 
@@ -49,35 +62,30 @@ module _ (n : ℕ) (bytes : List ℕ) (r : Run) (o : Opens) (t : List NodeRecord
   there = reached .stands .here
 
   module _ (e : x .halted ≡ false) where
-    past : (r .covered < x .run .covered) × PassedLast n bytes (x .run .context) (reached .stands .steps) (r .covered) (x .from) (x .deep)
-    past = subst (Ends n bytes (r .covered) x u (reached .stands .steps)) e (reached .ends)
+    past : (stop < x .run .covered) × PassedLast n bytes (x .run .context) (reached .stands .steps) stop (x .from) (x .deep)
+    past = subst (Ends n bytes stop x u (reached .stands .steps)) e (reached .ends)
 
-    abbrev p : PassedLast n bytes (x .run .context) (reached .stands .steps) (r .covered) (x .from) (x .deep)
+    abbrev p : PassedLast n bytes (x .run .context) (reached .stands .steps) stop (x .from) (x .deep)
     p = past .1
 
     there-last : At n bytes (suc (p .before)) s′
     there-last = subst (λ (f : ℕ). At n bytes f s′) (p .last) there
 
-    -- What is passed begins at the covered count,
-    pub passed-from : x .from ≡ r .covered
-    passed-from = ⊎-elim
-        (λ (l : h .steps ≤ p .before). omega (arith, p .low, p .covered, at-grows n bytes (h .steps) (p .before) s (p .state) l (h .here) (p .here)))
-        (λ (l : p .before < h .steps). absurd (omega (
-          arith,
-          past .0,
-          at-grows n bytes (suc (p .before)) (h .steps) s′ s (omega (arith, l)) there-last
-              (h .here),
-        )))
-        (decide-le (h .steps) (p .before))
+    -- What is passed has the stop among its words,
+    pub passed-stop : (x .from ≤ stop) × (stop < x .run .covered)
+    passed-stop = (p .low, past .0)
 
-    -- and has the words of a node inside so many open ones.
+    -- those of a node inside so many open ones.
     pub passed-covers : x .run .covered ≡ x .from + 2 ^ (n - x .deep)
     passed-covers =
         at-passes n bytes (p .before) (p .state) s′ (p .here) there-last (omega (arith, p .covered, p .low, past .0))
         ∙ ap₂ (λ (c d : ℕ). c + 2 ^ (n - d)) (p .covered) (p .depth)
 
+    pub passed-shallow : x .deep ≤ openLimit
+    passed-shallow = p .shallow
+
     -- No more nodes are open than there are options,
-    passed-nested : x .deep ≤ n
+    pub passed-nested : x .deep ≤ n
     passed-nested = subst (λ (d : ℕ). d ≤ n) (p .depth) (at-nested n bytes (p .before) (p .state) (p .here))
 
     -- and it begins after some nodes of as many words.
@@ -90,13 +98,13 @@ module _ (n : ℕ) (bytes : List ℕ) (r : Run) (o : Opens) (t : List NodeRecord
     passed-later = p .later
 
     -- The table after it is ordered,
-    passed-ordered : Ordered (tableOf u (x .run .size))
+    pub passed-ordered : Ordered (tableOf u (x .run .size))
     passed-ordered =
         subst (λ (b : Bool). Ordered (cond b [] (tableOf u (x .run .size)))) (p .later)
         (at-ordered n bytes (reached .stands .steps) s′ there)
 
     -- the number that stands for it lies no higher than it,
-    passed-sits : 0 < x .run .last .number → x .deep + 1 ≤ node (tableOf u (x .run .size)) (x .run .last .number) .level
+    pub passed-sits : 0 < x .run .last .number → x .deep + 1 ≤ node (tableOf u (x .run .size)) (x .run .last .number) .level
     passed-sits =
         subst (λ (d : ℕ). 0 < x .run .last .number → d + 1 ≤ node (tableOf u (x .run .size)) (x .run .last .number) .level) (p .depth)
         (subst (λ (b : Bool). 0 < x .run .last .number → level (p .state .place)
@@ -104,18 +112,8 @@ module _ (n : ℕ) (bytes : List ℕ) (r : Run) (o : Opens) (t : List NodeRecord
         (subst (λ (k : ℕ). 0 < k → level (p .state .place) ≤ node (s′ .table) k .level) (sym (child-of (x .run .last)))
         (at-sits n bytes (p .before) (p .state) s′ (p .here) there-last (omega (arith, p .covered, p .low, past .0)))))
 
-    -- and the table lasts from where r stands, if it has one.
-    passed-lasts : isStart (contextOf (r .context)) ≡ false → Lasts (tableOf t (r .size)) (tableOf u (x .run .size))
-    passed-lasts later =
-        subst (λ (b : Bool). Lasts (tableOf t (r .size)) (cond b [] (tableOf u (x .run .size)))) (p .later)
-        (subst (λ (b : Bool). Lasts (cond b [] (tableOf t (r .size))) (s′ .table)) later (⊎-elim
-        (λ (l : h .steps ≤ reached .stands .steps). at-lasts n bytes (h .steps) (reached .stands .steps) s s′ l (h .here) there)
-        (λ (l : reached .stands .steps < h .steps).
-        absurd (omega (arith, past .0, at-grows n bytes (reached .stands .steps) (h .steps) s′ s (omega (arith, l)) there (h .here))))
-        (decide-le (h .steps) (reached .stands .steps))))
-
-    -- the loop reaches as much with a word of it as its stop
-    passed-word : (w : ℕ) → x .from ≤ w → w < x .run .covered → ReachedBy n bytes w x u
+    -- and the loop reaches as much with any word of it as its stop.
+    pub passed-word : (w : ℕ) → x .from ≤ w → w < x .run .covered → ReachedBy n bytes w x u
     passed-word w l k = record {
       stands = reached .stands;
       ends = subst (Ends n bytes w x u (reached .stands .steps)) (sym e) (
@@ -128,23 +126,67 @@ module _ (n : ℕ) (bytes : List ℕ) (r : Run) (o : Opens) (t : List NodeRecord
           covered = p .covered;
           low = l;
           depth = p .depth;
-          shallow
-              = p .shallow;
+          shallow = p .shallow;
           later = p .later;
         },
       );
     }
 
+  -- Where it halts without a fault, all is covered that the stream covers.
+  pub halted-all : x .halted ≡ true → reading n bytes .fault ≡ none → reading n bytes .state .covered ≡ x .run .covered
+  halted-all e clean = let k = subst (Ends n bytes stop x u (reached .stands .steps)) e (reached .ends) in go (x .faulty) (k .1)
+    where
+      go : (b : Bool) → HaltsAt n bytes s′ b (x .cause) (x .byte) → reading n bytes .state .covered ≡ x .run .covered
+      go true k = never-some (record { cause = causeOf (x .cause); byte = x .byte })
+          (sym clean ∙ ap (λ (y : Reading). y .fault) (at-fault n bytes (reached .stands .steps) s′ (causeOf (x .cause)) (x .byte) there k))
+      go false k = ap (λ (y : Reading). y .state .covered) (at-end n bytes (reached .stands .steps) s′ there k)
+
+-- x: what the loop reaches from where r stands, with r's covered count as its stop
+module _ (n : ℕ) (bytes : List ℕ) (r : Run) (o : Opens) (t : List NodeRecord) (h : Stands n bytes r o t) (x : ReadReached) (u : List NodeRecord)
+    (reached : ReachedBy n bytes (r .covered) x u) where
+  abbrev s : State
+  s = stateAt r o t
+
+  abbrev after : State
+  after = stateAt (x .run) (x .opens) u
+
+  module _ (e : x .halted ≡ false) where
+    abbrev last : PassedLast n bytes (x .run .context) (reached .stands .steps) (r .covered) (x .from) (x .deep)
+    last = past n bytes (r .covered) x u reached e .1
+
+    -- What is passed begins at the covered count,
+    pub passed-from : x .from ≡ r .covered
+    passed-from = ⊎-elim
+        (λ (l : h .steps ≤ last .before). omega
+        (arith, last .low, last .covered, at-grows n bytes (h .steps) (last .before) s (last .state) l (h .here) (last .here)))
+        (λ (l : last .before < h .steps). absurd (omega (
+          arith,
+          past n bytes (r .covered) x u reached e .0,
+          at-grows n bytes (suc (last .before)) (h .steps) after s (omega (arith, l)) (there-last n bytes (r .covered) x u reached e)
+              (h .here),
+        )))
+        (decide-le (h .steps) (last .before))
+
+    -- and the table lasts from where r stands, if it has one.
+    passed-lasts : isStart (contextOf (r .context)) ≡ false → Lasts (tableOf t (r .size)) (tableOf u (x .run .size))
+    passed-lasts later =
+        subst (λ (b : Bool). Lasts (tableOf t (r .size)) (cond b [] (tableOf u (x .run .size)))) (last .later)
+        (subst (λ (b : Bool). Lasts (cond b [] (tableOf t (r .size))) (after .table)) later (⊎-elim
+        (λ (l : h .steps ≤ reached .stands .steps). at-lasts n bytes (h .steps) (reached .stands .steps) s after l (h .here) (reached .stands .here))
+        (λ (l : reached .stands .steps < h .steps).
+        absurd (omega (
+          arith,
+          past n bytes (r .covered) x u reached e .0,
+          at-grows n bytes (reached .stands .steps) (h .steps) after s (omega (arith, l)) (reached .stands .here) (h .here),
+        )))
+        (decide-le (h .steps) (reached .stands .steps))))
+
   -- Where it halts without a fault, no more words are covered.
   pub halted-covers : x .halted ≡ true → reading n bytes .fault ≡ none → reading n bytes .state .covered ≡ r .covered
-  halted-covers e clean = let k = subst (Ends n bytes (r .covered) x u (reached .stands .steps)) e (reached .ends) in go (x .faulty) (k .0) (k .1)
-    where
-      go : (b : Bool) → x .run .covered ≤ r .covered → HaltsAt n bytes s′ b (x .cause) (x .byte) → reading n bytes .state .covered ≡ r .covered
-      go true l k = never-some (record { cause = causeOf (x .cause); byte = x .byte })
-          (sym clean ∙ ap (λ (y : Reading). y .fault) (at-fault n bytes (reached .stands .steps) s′ (causeOf (x .cause)) (x .byte) there k))
-      go false l k =
-          let i = at-end n bytes (reached .stands .steps) s′ there k in
-          omega (arith, l, at-most n bytes (h .steps) s s′ (h .here) i, ap (λ (y : Reading). y .state .covered) i)
+  halted-covers e clean =
+      let k = subst (Ends n bytes (r .covered) x u (reached .stands .steps)) e (reached .ends) in
+      let i = halted-all n bytes (r .covered) x u reached e clean in
+      omega (arith, i, k .0, stands-all n bytes r o t h)
 
 -- ---- A word's decision -----------------------------------------------------------------------
 
@@ -159,24 +201,22 @@ decision-back undecided = refl
 decision-back (decided false) = refl
 decision-back (decided true) = refl
 
--- a stream covers what is covered after some steps
-at-all : (n : ℕ) (bytes : List ℕ) (f : ℕ) (s : State) → At n bytes f s → s .covered ≤ trace n bytes .reading .state .covered
-at-all n bytes f s h =
-    let q = tied-on f n bytes .good in
-    omega (
-      arith,
-      grown-count n (traceOn f n bytes startTrace) _ q (grown-on (suc (length bytes)) n bytes (traceOn f n bytes startTrace) q),
-      ap
-          (λ (t : Trace). t .reading .state .covered) (trace-onward n bytes f),
-      ap (λ (x : Reading). x .state .covered) h,
-    )
-
 verdict-decision : (n : ℕ) (bytes : List ℕ) (w : ℕ) (d : Decision) → w < trace n bytes .reading .state .covered → verdict n (trace n bytes) w
     ≡ verdictOf d → decision n bytes w ≡ d
 unfolding decision
 verdict-decision n bytes w d l e =
     let v : verdictOf (decisionOf n (trace n bytes) w) ≡ verdictOf d = rw (lt-ltb w (trace n bytes .reading .state .covered) l) at e in
     sym (decision-back (decisionOf n (trace n bytes) w)) ∙ ap decisionIn v ∙ decision-back d
+
+-- EVERY WORD THAT IS PASSED is decided by the table.
+pub passed-decides : (n : ℕ) (bytes : List ℕ) (stop : ℕ) (x : ReadReached) (u : List NodeRecord) → ReachedBy n bytes stop x u → x .halted ≡ false
+    → (w : ℕ) → x .from ≤ w → w < x .run .covered
+    → decision n bytes w ≡ complemented (edgeAt x .complement) (tableWalk (tableOf u (x .run .size)) (x .deep + 1) (edgeAt x .number)
+    (options (n - x .deep) (w - x .from)))
+passed-decides n bytes stop x u reached e w l k =
+    verdict-decision n bytes w _
+    (omega (arith, k, at-all n bytes (reached .stands .steps) (stateAt (x .run) (x .opens) u) (reached .stands .here)))
+    (word-passed n bytes w x u (passed-word n bytes stop x u reached e w l k) e)
 
 -- ---- The next block --------------------------------------------------------------------------
 
@@ -191,8 +231,7 @@ first-stands n bytes t h = stands-first n bytes t h
 -- It covers no more words than the stream does.
 pub stands-read : (n : ℕ) (bytes : List ℕ) (c : ReadCursor) (t : List NodeRecord) → StandsAt n bytes c t
     → c .run .covered ≤ reading n bytes .state .covered
-stands-read n bytes c t h =
-    omega (arith, at-all n bytes (h .steps) (stateAt (c .run) (c .opens) t) (h .here), trace-covered n bytes)
+stands-read n bytes c t h = stands-all n bytes (c .run) (c .opens) t h
 
 -- b, u: the next block of a cursor that stands where reading does, and the table after it
 module _ (n : ℕ) (bytes : List ℕ) (few : n ≤ optionLimit) (c : ReadCursor) (t : List NodeRecord) (h : StandsAt n bytes c t) (b : ReadBlock)
@@ -225,30 +264,30 @@ module _ (n : ℕ) (bytes : List ℕ) (few : n ≤ optionLimit) (c : ReadCursor)
     -- has the words of a node inside so many open ones,
     pub block-covers : b .cursor .run .covered ≡ b .from + 2 ^ (n - b .deep)
     block-covers = subst (λ (y : ReadBlock). y .cursor .run .covered ≡ y .from + 2 ^ (n - y .deep)) (sym same-block)
-        (passed-covers n bytes (c .run) (c .opens) t h (z .reached) (z .table) reached on)
+        (passed-covers n bytes (c .run .covered) (z .reached) (z .table) reached on)
 
     -- no more than there are options,
     pub block-deep : b .deep ≤ n
     block-deep =
         subst (λ (y : ReadBlock). y .deep ≤ n) (sym same-block)
-        (passed-nested n bytes (c .run) (c .opens) t h (z .reached) (z .table) reached on)
+        (passed-nested n bytes (c .run .covered) (z .reached) (z .table) reached on)
 
     -- after some nodes of as many words,
     pub block-aligned : (k : ℕ) × (b .from ≡ k * 2 ^ (n - b .deep))
     block-aligned =
         subst (λ (y : ReadBlock). Multiple (n - y .deep) (y .from)) (sym same-block)
-        (passed-aligned n bytes (c .run) (c .opens) t h (z .reached) (z .table) reached on)
+        (passed-aligned n bytes (c .run .covered) (z .reached) (z .table) reached on)
 
     -- The cursor after it has a table, which is ordered and lasts from the cursor before, if that has one;
     pub block-later : isStart (contextOf (b .cursor .run .context)) ≡ false
     block-later =
         subst (λ (y : ReadBlock). isStart (contextOf (y .cursor .run .context)) ≡ false) (sym same-block)
-        (passed-later n bytes (c .run) (c .opens) t h (z .reached) (z .table) reached on)
+        (passed-later n bytes (c .run .covered) (z .reached) (z .table) reached on)
 
     pub block-ordered : Ordered (tableOf u (b .cursor .run .size))
     block-ordered =
         subst (λ (y : Next). Ordered (tableOf (y .table) (y .block .cursor .run .size))) (sym same)
-        (passed-ordered n bytes (c .run) (c .opens) t h (z .reached) (z .table) reached on)
+        (passed-ordered n bytes (c .run .covered) (z .reached) (z .table) reached on)
 
     pub block-lasts : isStart (contextOf (c .run .context)) ≡ false → Lasts (tableOf t (c .run .size)) (tableOf u (b .cursor .run .size))
     block-lasts later =
@@ -260,7 +299,7 @@ module _ (n : ℕ) (bytes : List ℕ) (few : n ≤ optionLimit) (c : ReadCursor)
     block-sits =
         subst (λ (y : Next). 0 < y .block .number
         → y .block .deep + 1 ≤ node (tableOf (y .table) (y .block .cursor .run .size)) (y .block .number) .level) (sym same)
-        (passed-sits n bytes (c .run) (c .opens) t h (z .reached) (z .table) reached on)
+        (passed-sits n bytes (c .run .covered) (z .reached) (z .table) reached on)
 
     -- and EVERY WORD OF IT is decided by the table.
     pub block-decides : (w : ℕ) → b .from ≤ w → w < b .cursor .run .covered
@@ -270,15 +309,8 @@ module _ (n : ℕ) (bytes : List ℕ) (few : n ≤ optionLimit) (c : ReadCursor)
         subst (λ (y : Next). decision n bytes w ≡ complemented (y .block .complement)
         (tableWalk (tableOf (y .table) (y .block .cursor .run .size)) (y .block .deep + 1) (y .block .number)
         (options (n - y .block .deep) (w - y .block .from)))) (sym same)
-        (let l′ : z .reached .from ≤ w = omega (arith, l, ap (λ (y : ReadBlock). y .from) same-block) in
-        let k′ : w < z .reached .run .covered = omega (arith, k, ap (λ (y : ReadBlock). y .cursor .run .covered) same-block) in
-        verdict-decision n bytes w _ (omega (
-          arith,
-          k′,
-          at-all n bytes (reached .stands .steps)
-              (stateAt (z .reached .run) (z .reached .opens) (z .table)) (reached .stands .here),
-        ))
-        (word-passed n bytes w (z .reached) (z .table) (passed-word n bytes (c .run) (c .opens) t h (z .reached) (z .table) reached on w l′ k′) on))
+        (passed-decides n bytes (c .run .covered) (z .reached) (z .table) reached on w (omega (arith, l, ap (λ (y : ReadBlock). y .from) same-block))
+        (omega (arith, k, ap (λ (y : ReadBlock). y .cursor .run .covered) same-block)))
 
   -- Where no block is left of a stream without a fault, its words are covered.
   pub block-last : b .halted ≡ true → reading n bytes .fault ≡ none → reading n bytes .state .covered ≡ c .run .covered

@@ -7,6 +7,7 @@ use Rattle.theory_reading.specs.Causes.{Result, refused, done, causeRow}
 use Rattle.theory_reading.specs.Calls as R
 use Rattle.c_answers.specs.declared.RuleChecked.{RuleChecked}
 use Rattle.c_answers.specs.declared.RuleDecided.{RuleDecided}
+use Rattle.c_answers.specs.declared.RuleFound.{RuleFound}
 use Rattle.c_answers.specs.declared.RuleFilled.{RuleFilled}
 
 abbrev pub extentNumber : R.Extent → ℕ
@@ -23,6 +24,17 @@ verdictNumber R.isNo = 0
 verdictNumber R.isYes = 1
 verdictNumber R.notYet = 2
 
+abbrev pub nextNumber : R.NextWord → ℕ
+nextNumber R.noWord = 0
+nextNumber (R.word v) = 1
+nextNumber R.notKnown = 2
+
+-- the word that was found
+abbrev pub nextFound : R.NextWord → ℕ
+nextFound R.noWord = 0
+nextFound (R.word v) = v
+nextFound R.notKnown = 0
+
 abbrev pub checkedNumbers : Result R.Checked → RuleChecked
 checkedNumbers (refused r) = record { cause = causeRow (r .cause) .number; stream = r .stream; byte = r .byte; covered = 0; size = 0; extent = 0 }
 checkedNumbers (done x) = record { cause = 0; stream = 0; byte = 0; covered = x .covered; size = x .size; extent = extentNumber (x .extent) }
@@ -30,6 +42,10 @@ checkedNumbers (done x) = record { cause = 0; stream = 0; byte = 0; covered = x 
 abbrev pub decidedNumbers : Result R.Verdict → RuleDecided
 decidedNumbers (refused r) = record { cause = causeRow (r .cause) .number; stream = r .stream; byte = r .byte; verdict = 0; spare = 0 }
 decidedNumbers (done v) = record { cause = 0; stream = 0; byte = 0; verdict = verdictNumber v; spare = 0 }
+
+abbrev pub foundNumbers : Result R.NextWord → RuleFound
+foundNumbers (refused r) = record { cause = causeRow (r .cause) .number; stream = r .stream; byte = r .byte; word = 0; answer = 0; spare = 0 }
+foundNumbers (done x) = record { cause = 0; stream = 0; byte = 0; word = nextFound x; answer = nextNumber x; spare = 0 }
 
 abbrev pub filledNumbers : Result ℕ → RuleFilled
 filledNumbers (refused r) = record { cause = causeRow (r .cause) .number; stream = r .stream; byte = r .byte; covered = 0 }

@@ -5,13 +5,17 @@ ghost use Rattle.theory_reading.specs.Causes.{causeRow};
 ghost use Rattle.elements.specs.Abstraction.{causeOf};
 ghost use Rattle.checker.specs.Answers.{checkingOf};
 ghost use Rattle.decider.specs.Answers.{verdictsOf, decidingOf};
+ghost use Rattle.finder.specs.Answers.{nextOf, findingOf};
 ghost use Rattle.filler.specs.Answers.{fillingOf};
 ghost use Rattle.c_answers.specs.Numbers.{verdictNumber, checkedNumbers, decidedNumbers, filledNumbers};
+ghost use Rattle.c_answers.specs.Numbers.{nextNumber, nextFound, foundNumbers};
 use checker::Checking;
 use decider::Deciding;
 use decider::Verdict;
 use elements::Cause;
 use filler::Filling;
+use finder::Finding;
+use finder::NextWord;
 
 #[repr(C)]
 pub struct RuleChecked {
@@ -29,6 +33,16 @@ pub struct RuleDecided {
     pub stream: u32,
     pub byte: u64,
     pub verdict: u32,
+    pub spare: u32,
+}
+
+#[repr(C)]
+pub struct RuleFound {
+    pub cause: u32,
+    pub stream: u32,
+    pub byte: u64,
+    pub word: u64,
+    pub answer: u32,
     pub spare: u32,
 }
 
@@ -125,6 +139,54 @@ pub fn decided_numbers(a: Deciding) -> RuleDecided
             stream: 0,
             byte: 0,
             verdict: verdict_number(v),
+            spare: 0,
+        },
+    }
+}
+
+fn answer_number(x: NextWord) -> u32
+    ensures { λ r. ⌜ r ≡ nextNumber (nextOf x) ⌝ }
+{
+    match x {
+        NextWord::NoWord => 0,
+        NextWord::Word(_) => 1,
+        NextWord::NotKnown => 2,
+    }
+}
+
+// The word that was found, 0 if none was.
+fn found_word(x: NextWord) -> u64
+    ensures { λ r. ⌜ r ≡ nextFound (nextOf x) ⌝ }
+{
+    match x {
+        NextWord::NoWord => 0,
+        NextWord::Word(w) => w,
+        NextWord::NotKnown => 0,
+    }
+}
+
+// What finding the next admitted word answers.
+pub fn found_numbers(a: Finding) -> RuleFound
+    ensures { λ r. ⌜ r ≡ foundNumbers (findingOf a) ⌝ }
+{
+    match a {
+        Finding::Refused(f) => {
+            let c = f.cause;
+            RuleFound {
+                cause: cause_number(c),
+                stream: f.stream,
+                byte: f.byte as u64,
+                word: 0,
+                answer: 0,
+                spare: 0,
+            }
+        }
+        Finding::Done(x) => RuleFound {
+            cause: 0,
+            stream: 0,
+            byte: 0,
+            word: found_word(x),
+            answer: answer_number(x),
             spare: 0,
         },
     }

@@ -1,22 +1,25 @@
--- WHAT IS CLAIMED of each call. A statement's premise is the contract of the call, as the code's `ensures` has it: `Checks`, `Decides` and `Fills` of
--- reading's Calls, `Writes` and `Combines` of writing's: c, the answer with all lent memory, is what document 01's definition gives. Three records have the three
--- demands, each statement under a line of plain words; their values at the end prove them by citation. Terms has the terms, Examples a run of each,
--- Further what else is proved. R: a record of a work table to read with, S: one of a table to write with; z, o: those that are zero.
+-- WHAT IS CLAIMED of each call. A statement's premise is the contract of the call, as the code's `ensures` has it: `Checks`, `Decides`, `FindsNext` and
+-- `Fills` of reading's Calls, `Writes` and `Combines` of writing's: c, the answer with all lent memory, is what the definition after documents 01 and 02
+-- gives. Three records have the three demands of document 01, with the call of R-1 among the others, and one has what R-1 asks beside them; each
+-- statement stands under a line of plain words; their values at the end prove them by citation. Terms has the terms, Examples a run of each, Further
+-- what else is proved. R: a record of a work table to read with, S: one of a table to write with; z, o: those that are zero.
 -- x, y: input streams; t, u, v: work tables; out: what the output held. Assumes nothing.
 use mathlib.Core.Path.{_≡_, sym, ap, _∙_, subst⁻¹}
-use mathlib.Core.Bool.{Bool}
+use mathlib.Core.Logic.{_⊎_, _↔_}
+use mathlib.Core.Bool.{Bool, true}
 use mathlib.Core.List.{List, [], _∷_, _++_}
 use mathlib.Core.Option.{none, some}
 use Prim.Native.Nat.{ℕ, _/_, _%_, _≤_, _<_, _^_, min}
 use lib.ListN.{length, take, getD}
-use Rattle.theory_lists.specs.Lists.{All}
+use Rattle.theory_lists.specs.Lists.{All, has}
 use Rattle.theory_lists.specs.Prefixes.{Begins}
-use Rattle.theory_reading.specs.Limits.{tableLimit}
-use Rattle.theory_reading.specs.Causes.{Refusal, refused, done}
+use Rattle.theory_reading.specs.Limits.{optionLimit, tableLimit}
+use Rattle.theory_reading.specs.Causes.{Refusal, Result, refused, done}
 use Rattle.theory_reading.specs.Element.{over}
 use Rattle.theory_reading.specs.Reading.{Fault, reading}
 use Rattle.theory_reading.specs.Deciding.{decided, undecided, decision}
 use Rattle.theory_reading.specs.Calls.{Checked, extent, Read, check, Checks, Verdict, verdictOf, decide, Decides, digitOf, Fill, fill, Fills}
+use Rattle.theory_reading.specs.Calls.{NextWord, notKnown, findNext, FindsNext}
 use Rattle.theory_reading.specs.Covered as C
 use Rattle.theory_reading.specs.Covered.{covered}
 use Rattle.theory_reading.specs.Settled as F
@@ -24,11 +27,12 @@ use Rattle.theory_reading.specs.FaultRank.{Counts, fault-counts}
 use Rattle.theory_reading.specs.CallLaws as L
 use Rattle.theory_writing.specs.Run.{runText, whole, Answer}
 use Rattle.theory_writing.specs.Calls.{truthAt, Write, write, Writes, Combine, combine, Combines}
-use Rattle.claims.specs.Terms.{TurnedDown, checkLines, decideLines, fillLines, writeLines, combineLines}
-use Rattle.claims.specs.Terms.{TableLeft, OutputLeft, Gets, Operated, ReadAs, Complete}
+use Rattle.claims.specs.Terms.{TurnedDown, checkLines, decideLines, findLines, fillLines, writeLines, combineLines}
+use Rattle.claims.specs.Terms.{TableLeft, OutputLeft, Gets, Operated, ReadAs, Complete, NextIs, Lists, RisingWords}
 use Rattle.claims.specs.Refused as T
 use Rattle.claims.specs.LentMemory as M
 use Rattle.claims.specs.Runs as U
+use Rattle.claims.specs.NextWords as N
 
 -- ---- Demand 1 --------------------------------------------------------------------------------
 
@@ -42,6 +46,8 @@ pub record Demand1 {R S : Type 0} (z : R) (o : S) : Type 0 where
       → TurnedDown (x ∷ []) (checkLines n x (length t)) (c .answer)
   pub decide-refused : (n : ℕ) (x : List ℕ) (w : ℕ) (t : List R) (c : Read Verdict R) → Decides z n x w t c
       → TurnedDown (x ∷ []) (decideLines n x w (length t)) (c .answer)
+  pub find-refused : (n : ℕ) (x : List ℕ) (w : ℕ) (t : List R) (c : Read NextWord R) → FindsNext z n x w t c
+      → TurnedDown (x ∷ []) (findLines n x w (length t)) (c .answer)
   pub fill-refused : (n : ℕ) (x truths : List ℕ) (t : List R) (c : Fill R) → Fills z n x truths t c
       → TurnedDown (x ∷ []) (fillLines n x truths (length t)) (c .answer)
   pub write-refused : (n size : ℕ) (truths out : List ℕ) (v : List S) (c : Write S) → Writes o n size truths out v c
@@ -56,6 +62,8 @@ pub record Demand1 {R S : Type 0} (z : R) (o : S) : Type 0 where
   pub check-table : (n : ℕ) (x : List ℕ) (t : List R) (c : Read Checked R) → Checks z n x t c
       → TableLeft z (c .answer) t (c .table)
   pub decide-table : (n : ℕ) (x : List ℕ) (w : ℕ) (t : List R) (c : Read Verdict R) → Decides z n x w t c
+      → TableLeft z (c .answer) t (c .table)
+  pub find-table : (n : ℕ) (x : List ℕ) (w : ℕ) (t : List R) (c : Read NextWord R) → FindsNext z n x w t c
       → TableLeft z (c .answer) t (c .table)
   pub fill-table : (n : ℕ) (x truths : List ℕ) (t : List R) (c : Fill R) → Fills z n x truths t c
       → TableLeft z (c .answer) t (c .table)
@@ -88,6 +96,9 @@ pub record Demand2 {R S : Type 0} (z : R) (o : S) : Type 0 where
   -- Deciding answers yes, no or not yet as the diagram decides the word.
   pub deciding : (n : ℕ) (x : List ℕ) (w : ℕ) (t : List R) (r : Verdict) (c : Read Verdict R) → Decides z n x w t c
       → c .answer ≡ done r → r ≡ verdictOf (decision n x w)
+  -- Finding the next admitted word from w on answers the least one, or none, or not known, as the diagram decides the words.
+  pub finding : (n : ℕ) (x : List ℕ) (w : ℕ) (t : List R) (r : NextWord) (c : Read NextWord R) → FindsNext z n x w t c
+      → c .answer ≡ done r → NextIs n x w r
   -- Filling answers the covered count; word w is binary digit w mod 8 of byte w / 8, and 0 from the covered count on.
   pub filling : (n : ℕ) (x truths : List ℕ) (t : List R) (r : ℕ) (c : Fill R) → Fills z n x truths t c
       → c .answer ≡ done r
@@ -154,15 +165,32 @@ pub record Demand3 {R S : Type 0} (z : R) (o : S) : Type 0 where
       → run .answer ≡ done r → run′ .answer ≡ done r′
       → Together n op x y (x ++ x₊) (y ++ y₊) r r′ (take (r .written) (run .output)) (take (r′ .written) (run′ .output))
 
+-- ---- Document 02, R-1 ------------------------------------------------------------------------
+
+pub record Request1 {R : Type 0} (z : R) : Type 0 where
+  -- "Listing from 0 must give every covered admitted word once, rising." The words rise, so none comes twice.
+  pub listing-rises : (n : ℕ) (x vs : List ℕ) → Lists z n x 0 vs → RisingWords vs
+  -- They are the covered admitted words and nothing else, whether the stream is complete or cut.
+  pub listing-words : (n : ℕ) (x vs : List ℕ) → Lists z n x 0 vs → (v : ℕ)
+      → (has v vs ≡ true) ↔ ((v < covered n x) × (decision n x v ≡ decided true))
+  -- Every stream without fault has a listing.
+  pub listing-exists : (n : ℕ) (x : List ℕ) → n ≤ optionLimit → reading n x .fault ≡ none → (vs : List ℕ) × Lists z n x 0 vs
+  -- Of two calls for one word, neither refused, where the second's stream is the first's with any bytes after it: the first's answer is "not known",
+  -- or the second's is the same.
+  pub lengthening : (n : ℕ) (x x₊ : List ℕ) (w : ℕ) (t t′ : List R) (r r′ : NextWord) (c c′ : Read NextWord R)
+      → FindsNext z n x w t c → FindsNext z n (x ++ x₊) w t′ c′ → c .answer ≡ done r → c′ .answer ≡ done r′ → (r ≡ notKnown) ⊎ (r′ ≡ r)
+
 -- ---- The proofs ------------------------------------------------------------------------------
 
 pub demand-1 : {R S : Type 0} (z : R) (o : S) → Demand1 z o
-unfolding check decide fill write combine
+unfolding check decide findNext fill write combine
 demand-1 {R} {S} z o = record {
   check-refused = λ n x t c e. subst⁻¹ (λ (c : Read Checked R). TurnedDown (x ∷ []) (checkLines n x (length t)) (c .answer)) e
       (T.check-lines n x (length t));
   decide-refused = λ n x w t c e.
       subst⁻¹ (λ (c : Read Verdict R). TurnedDown (x ∷ []) (decideLines n x w (length t)) (c .answer)) e (T.decide-lines n x w (length t));
+  find-refused = λ n x w t c e.
+      subst⁻¹ (λ (c : Read NextWord R). TurnedDown (x ∷ []) (findLines n x w (length t)) (c .answer)) e (T.find-lines n x w (length t));
   fill-refused = λ n x truths t c e.
       subst⁻¹ (λ (c : Fill R). TurnedDown (x ∷ []) (fillLines n x truths (length t)) (c .answer)) e (T.fill-lines n x truths (length t));
   write-refused = λ n size truths out v c e.
@@ -173,6 +201,7 @@ demand-1 {R} {S} z o = record {
   lowest-fault = λ n x f e. (F.fault-inside n x f e, F.fault-lowest n x f e, fault-counts n x f e);
   check-table = λ n x t c e. subst⁻¹ (λ (c : Read Checked R). TableLeft z (c .answer) t (c .table)) e (M.check-table z n x t);
   decide-table = λ n x w t c e. subst⁻¹ (λ (c : Read Verdict R). TableLeft z (c .answer) t (c .table)) e (M.decide-table z n x w t);
+  find-table = λ n x w t c e. subst⁻¹ (λ (c : Read NextWord R). TableLeft z (c .answer) t (c .table)) e (M.find-table z n x w t);
   fill-table = λ n x truths t c e. subst⁻¹ (λ (c : Fill R). TableLeft z (c .answer) t (c .table)) e (M.fill-table z n x truths t);
   write-table = λ n size truths out v c e. subst⁻¹ (λ (c : Write S). TableLeft o (c .answer) v (c .table)) e (M.write-table o n size truths out v);
   combine-tables = λ n op size x y out t u v c e.
@@ -195,6 +224,7 @@ demand-2 {R} {S} z o = record {
   complete-covers = C.complete-covers;
   checking = λ n x t r c e a. T.check-by n x (length t) .unless r .0 (sym (ap (λ (c : Read Checked R). c .answer) e) ∙ a) .1;
   deciding = λ n x w t r c e a. T.decide-decided z n x w t r (sym (ap (λ (c : Read Verdict R). c .answer) e) ∙ a);
+  finding = λ n x w t r c e a. N.found n x z w t r (sym (ap (λ (c : Read NextWord R). c .answer) e) ∙ a);
   filling = λ n x truths t r c e.
       subst⁻¹ (λ (c : Fill R). c .answer ≡ done r → (r ≡ covered n x) × All (λ b. b < 256) (c .truths)
       × ((w : ℕ) → w < 2 ^ n → getD (c .truths) (w / 8) 0 / 2 ^ (w % 8) % 2 ≡ digitOf (verdictOf (decision n x w)))) e (M.filled z n x truths t r);
@@ -251,4 +281,14 @@ demand-3 {R} {S} z o = record {
         accepted = (U.run-read n op size x y out r _ s .accepted, U.run-read n op size (x ++ x₊) (y ++ y₊) out′ r′ _ s′ .accepted);
         decides = U.runs-decide n op size x y x₊ y₊ out out′ r r′ _ _ s s′ l;
       }));
+}
+
+pub request-1 : {R : Type 0} (z : R) → Request1 z
+request-1 {R} z = record {
+  listing-rises = λ n x. N.lists-rise z n x 0;
+  listing-words = N.lists-words z;
+  listing-exists = N.lists-exist z;
+  lengthening = λ n x x₊ w t t′ r r′ c c′ e e′ a a′.
+      let answer : Read NextWord R → Result NextWord = λ c. c .answer in
+      N.lengthened n x x₊ w r r′ (N.found n x z w t r (sym (ap answer e) ∙ a)) (N.found n (x ++ x₊) z w t′ r′ (sym (ap answer e′) ∙ a′));
 }

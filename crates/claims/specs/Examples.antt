@@ -1,20 +1,24 @@
 -- The demands on runs, by computation: their premises are met, and what they say is what document 01 says there. The run is its program's example,
 -- the OR of two rules over three options with table size 4. Assumes nothing.
 use mathlib.Core.Path.{_≡_, refl}
+use mathlib.Core.Logic.{_⊎_, inl, inr, _↔_}
+use mathlib.Core.Bool.{true}
 use mathlib.Core.List.{List, [], _∷_, map}
-use Prim.Native.Nat.{ℕ, _+_}
+use Prim.Native.Nat.{ℕ, _+_, _<_}
 use native.Mathlib.Omega.{arith}
 use lib.ListN.{take, replicate}
+use Rattle.theory_lists.specs.Lists.{has}
 use Rattle.theory_reading.specs.Limits.{optionLimit, tableLimit}
 use Rattle.theory_reading.specs.Bytes.{text}
 use Rattle.theory_reading.specs.Causes.{optionCount, operatorCode, sizeToWrite, wordRange, truthTable, notInTable, tooDeep, refused, done, refusal}
 use Rattle.theory_reading.specs.Reading.{reading}
-use Rattle.theory_reading.specs.Calls.{complete, cut, check, isNo, isYes, decide, fill}
+use Rattle.theory_reading.specs.Deciding.{decided, decision}
+use Rattle.theory_reading.specs.Calls.{complete, cut, check, isNo, isYes, decide, NextWord, word, notKnown, findNext, fill}
 use Rattle.theory_reading.specs.Covered.{covered}
 use Rattle.theory_writing.specs.Run.{whole, inputEnded, outputFull}
 use Rattle.theory_writing.specs.Calls.{write, Combine, combine}
-use Rattle.claims.specs.Terms.{First, AllUnmet, combineLines, Operated, ReadAs, Complete}
-use Rattle.claims.specs.Claims.{demand-1, demand-2, Together, demand-3}
+use Rattle.claims.specs.Terms.{First, AllUnmet, combineLines, Operated, ReadAs, Complete, NextIs, Answers, Lists, RisingWords}
+use Rattle.claims.specs.Claims.{demand-1, demand-2, Together, demand-3, request-1}
 
 -- a work table of 1,024 records, which are numbers here; all held 7, and zero is 0
 abbrev table : List ℕ
@@ -83,6 +87,10 @@ many-options = refl
 word-eight : decide 0 3 first 8 table ≡ record { answer = refused (refusal wordRange 0 0); table = table }
 unfolding decide text
 word-eight = refl
+
+word-eight-next : findNext 0 3 first 8 table ≡ record { answer = refused (refusal wordRange 0 0); table = table }
+unfolding findNext text
+word-eight-next = refl
 
 two-bytes : fill 0 3 first (1 ∷ 2 ∷ []) table ≡ record { answer = refused (refusal truthTable 0 0); table = table; truths = 1 ∷ 2 ∷ [] }
 unfolding fill text
@@ -182,3 +190,58 @@ begun-combined : Together 3 14 first begun first second
 unfolding combine text
 begun-combined = demand-3 {R = ℕ} {S = ℕ} 0 0 .runs 3 14 4 first begun [] rest (text "............") output
     table table table table table table _ _ _ _ refl refl (omega arith) refl refl
+
+-- ---- Document 02, R-1 ------------------------------------------------------------------------
+
+-- what the OR admits, from each word on; and demand 2 of the call for word 2
+combined-next : map (λ w. findNext 0 3 written w table .answer) (0 ∷ 1 ∷ 2 ∷ 3 ∷ 4 ∷ 5 ∷ 6 ∷ 7 ∷ [])
+    ≡ map (λ v. done (word v)) (1 ∷ 1 ∷ 3 ∷ 3 ∷ 5 ∷ 5 ∷ 6 ∷ 7 ∷ [])
+unfolding combine findNext text
+combined-next = refl
+
+combined-found : NextIs 3 written 2 (word 3)
+unfolding combine findNext text
+combined-found = demand-2 {R = ℕ} {S = ℕ} 0 0 .finding 3 written 2 table _ _ refl refl
+
+-- a call with this work table
+ask : (x : List ℕ) (w : ℕ) (r : NextWord) → findNext 0 3 x w table .answer ≡ done r → Answers {R = ℕ} 0 3 x w r
+ask x w r e = record { table = table; call = findNext 0 3 x w table; made = refl; gives = e }
+
+abbrev admitted : List ℕ
+admitted = 1 ∷ 3 ∷ 5 ∷ 6 ∷ 7 ∷ []
+
+-- LISTING the OR ends past the last word
+combined-lists : Lists {R = ℕ} 0 3 written 0 admitted
+unfolding combine findNext text
+combined-lists = (
+  ask written 0 _ refl,
+  (ask written 2 _ refl, (ask written 4 _ refl, (ask written 6 _ refl, (ask written 7 _ refl, inl (omega arith))))),
+)
+
+-- so these words rise, and are those that it admits
+combined-rises : RisingWords admitted
+combined-rises = request-1 {R = ℕ} 0 .listing-rises 3 written admitted combined-lists
+
+combined-words : (v : ℕ) → (has v admitted ≡ true) ↔ ((v < covered 3 written) × (decision 3 written v ≡ decided true))
+combined-words = request-1 {R = ℕ} 0 .listing-words 3 written admitted combined-lists
+
+-- the second rule cut after 12 bytes covers four words: listing ends where a call answers not known
+begun-lists : Lists {R = ℕ} 0 3 begun 0 (1 ∷ 3 ∷ [])
+unfolding findNext text
+begun-lists = (ask begun 0 _ refl, (ask begun 2 _ refl, inr (inr (ask begun 4 _ refl))))
+
+begun-words : (v : ℕ) → (has v (1 ∷ 3 ∷ []) ≡ true) ↔ ((v < covered 3 begun) × (decision 3 begun v ≡ decided true))
+begun-words = request-1 {R = ℕ} 0 .listing-words 3 begun (1 ∷ 3 ∷ []) begun-lists
+
+-- THE PAIR: with the rest the word 3 stands for 2, and what was not known from 4 on is 5
+begun-next : map (λ x. findNext 0 3 x 2 table .answer) (begun ∷ second ∷ []) ≡ done (word 3) ∷ done (word 3) ∷ []
+unfolding findNext text
+begun-next = refl
+
+begun-not-known : map (λ x. findNext 0 3 x 4 table .answer) (begun ∷ second ∷ []) ≡ done notKnown ∷ done (word 5) ∷ []
+unfolding findNext text
+begun-not-known = refl
+
+begun-lengthened : (word 3 ≡ notKnown) ⊎ (word 3 ≡ word 3)
+unfolding findNext text
+begun-lengthened = request-1 {R = ℕ} 0 .lengthening 3 begun rest 2 table table _ _ _ _ refl refl refl refl

@@ -1,6 +1,5 @@
--- WHAT ELSE IS PROVED of the definitions, beside the three demands (Claims): the examples marked P, cause 7 and the grammar, longer streams, the
--- queue, words that are not covered. Each statement stands under a line of plain
--- words and is proved by a citation. Assumes nothing.
+-- WHAT ELSE IS PROVED of the definitions, beside the demands (Claims): the examples marked P, cause 7 and the grammar, longer streams, the next admitted
+-- word, the queue, words that are not covered. Each statement stands under a line of plain words and is proved by a citation. Assumes nothing.
 use mathlib.Core.Path.{_≡_, ap, _∙_}
 use mathlib.Core.Logic.{_↔_}
 use mathlib.Core.Bool.{Bool, true, false}
@@ -9,12 +8,14 @@ use mathlib.Core.Option.{none, some}
 use Prim.Native.Nat.{ℕ, suc, _≤_, _<_, _^_}
 use lib.ListN.{length, take}
 use Rattle.theory_lists.specs.Lists.{has, Distinct}
+use Rattle.theory_lists.specs.Prefixes.{Begins}
 use Rattle.theory_reading.specs.Causes.{wrongByte}
 use Rattle.theory_reading.specs.Grammar.{IsStream, Viable}
 use Rattle.theory_reading.specs.Nodes.{hasParent}
 use Rattle.theory_reading.specs.Element.{over, fault, ranOut}
 use Rattle.theory_reading.specs.Reading.{Fault, Reading, reading}
 use Rattle.theory_reading.specs.Deciding.{decided, decision}
+use Rattle.theory_reading.specs.Calls.{NextWord}
 use Rattle.theory_reading.specs.Covered as C
 use Rattle.theory_reading.specs.Covered.{covered}
 use Rattle.theory_reading.specs.Prefix as P
@@ -27,6 +28,8 @@ use Rattle.theory_writing.specs.PaperCases.{Case, rows, Holds}
 use Rattle.theory_writing.specs.Queue as Q
 use Rattle.theory_writing.specs.Grows as W
 use Rattle.theory_writing.specs.Output as O
+use Rattle.claims.specs.Terms.{NextIs, Lists}
+use Rattle.claims.specs.NextWords as N
 
 -- ---- The examples marked P -------------------------------------------------------------------
 
@@ -71,6 +74,16 @@ longer-streams n x u = (
   C.covered-grows n x u,
   λ w d. C.decision-stands n x u w d,
 )
+
+-- ---- The next admitted word ------------------------------------------------------------------
+
+-- What is said of an answer holds of one answer alone.
+pub one-answer : (n : ℕ) (x : List ℕ) (w : ℕ) (r r′ : NextWord) → NextIs n x w r → NextIs n x w r′ → r ≡ r′
+one-answer = N.next-one
+
+-- The listing of a longer stream begins with that of the shorter one.
+pub longer-listings : {R : Type 0} (z : R) (n : ℕ) (x u vs vs′ : List ℕ) → Lists z n x 0 vs → Lists z n (x ++ u) 0 vs′ → Begins vs vs′
+longer-listings z n x u = N.lists-begin z n x u 0
 
 -- ---- Writing ---------------------------------------------------------------------------------
 

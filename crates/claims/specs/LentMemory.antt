@@ -11,7 +11,7 @@ use Rattle.theory_reading.specs.Limits.{truthTableLeast}
 use Rattle.theory_reading.specs.LimitLaws.{truth-bytes}
 use Rattle.theory_reading.specs.Causes.{Result, refused, done, tableAfter, unlessRefused}
 use Rattle.theory_reading.specs.Deciding.{decision, trace}
-use Rattle.theory_reading.specs.Calls.{check, checkAnswer, decide, decideAnswer, digitOf, verdictOf, bytesFrom, fill, fillAnswer}
+use Rattle.theory_reading.specs.Calls.{check, checkAnswer, decide, decideAnswer, findNext, findAnswer, digitOf, verdictOf, bytesFrom, fill, fillAnswer}
 use Rattle.theory_reading.specs.CallLaws.{keeps-output, keeps-table, zeroes-table, zeroes-done, filled-word, filled-length, filled-bytes}
 use Rattle.theory_reading.specs.Covered.{covered}
 use Rattle.theory_writing.specs.Run.{runCovered, Answer, answerOf, outputAfter}
@@ -33,6 +33,10 @@ check-table z n x t = table-left z (checkAnswer n x (length t)) t
 pub decide-table : {R : Type 0} (z : R) (n : ℕ) (x : List ℕ) (w : ℕ) (t : List R) → let c = decide z n x w t in TableLeft z (c .answer) t (c .table)
 unfolding decide
 decide-table z n x w t = table-left z (decideAnswer n x w (length t)) t
+
+pub find-table : {R : Type 0} (z : R) (n : ℕ) (x : List ℕ) (w : ℕ) (t : List R) → let c = findNext z n x w t in TableLeft z (c .answer) t (c .table)
+unfolding findNext
+find-table z n x w t = table-left z (findAnswer n x w (length t)) t
 
 pub fill-table : {R : Type 0} (z : R) (n : ℕ) (x old : List ℕ) (t : List R) → let c = fill z n x old t in TableLeft z (c .answer) t (c .table)
 unfolding fill

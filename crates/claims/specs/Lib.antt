@@ -8,6 +8,7 @@ pub mod Terms
 pub mod Refused
 pub mod LentMemory
 pub mod Runs
+pub mod NextWords
 pub mod Claims
 pub mod Further
 pub mod Examples

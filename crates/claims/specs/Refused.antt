@@ -14,11 +14,11 @@ use borrow.Author.Tests.{ltb-true, ltb-false, leb-true, leb-false, eqb-true, eqb
 use Rattle.theory_lists.specs.Lists.{decide-eq, decide-le}
 use Rattle.theory_reading.specs.Limits.{optionLimit, tableLimit, truthTableLeast, truthTableMost}
 use Rattle.theory_reading.specs.Causes.{optionCount, operatorCode, sizeToWrite, workTable, wordRange, truthTable}
-use Rattle.theory_reading.specs.Causes.{causeRow, Refusal, refusal, Result, refused, done, Test, test, atCall, firstMet}
+use Rattle.theory_reading.specs.Causes.{causeRow, Refusal, refusal, Result, refused, done, Test, test, atCall, firstMet, gate}
 use Rattle.theory_reading.specs.Reading.{Fault, Reading, reading}
 use Rattle.theory_reading.specs.Settled.{never-some, fault-inside, fault-place, fault-leaves}
 use Rattle.theory_reading.specs.Calls.{manyOptions, shortTable, notTruthTable, wrongLength, unlessFault}
-use Rattle.theory_reading.specs.Calls.{checkedOf, checkAnswer, Verdict, verdictOf, verdict, decideAnswer, decide, fillAnswer}
+use Rattle.theory_reading.specs.Calls.{checkedOf, checkAnswer, Verdict, verdictOf, verdict, decideAnswer, decide, nextWord, findAnswer, fillAnswer}
 use Rattle.theory_reading.specs.Deciding.{decision, trace}
 use Rattle.theory_reading.specs.CallLaws.{decide-decision}
 use Rattle.theory_reading.specs.Prefix.{trace-reading}
@@ -26,7 +26,7 @@ use Rattle.theory_writing.specs.Run.{Input, runCovered, answerOf}
 use Rattle.theory_writing.specs.Calls.{largeSize, writeText, writeAnswer, largeOperator, unlessFaults, inputOf, combineText, shortTables}
 use Rattle.theory_writing.specs.Calls.{combineAnswer}
 use Rattle.claims.specs.Terms.{Line, meets, faults, Met, First, AllUnmet, Lowest, NamesCall, NamesPlace, TurnedDown}
-use Rattle.claims.specs.Terms.{checkLines, decideLines, notThreeToSixteen, fillLines, writeLines, combineLines}
+use Rattle.claims.specs.Terms.{checkLines, decideLines, findLines, notThreeToSixteen, fillLines, writeLines, combineLines}
 
 -- ---- Answers ---------------------------------------------------------------------------------
 
@@ -234,18 +234,34 @@ pub check-lines : (n : ℕ) (x : List ℕ) (records : ℕ) → TurnedDown (x ∷
 check-lines n x records = turned-down (x ∷ []) _ _ _ ((refl, refl, refl, refl), ((refl, refl, refl, refl), one-stream n x))
     (omega arith, (omega arith, tt)) (check-by n x records)
 
-pub decide-lines : (n : ℕ) (x : List ℕ) (w records : ℕ) → TurnedDown (x ∷ []) (decideLines n x w records) (decideAnswer n x w records)
-unfolding decideAnswer
-decide-lines n x w records =
-    let v = verdict n (trace n x) w in
+-- a call that answers v for a word w
+word-by : {A : Type 0} (n : ℕ) (x : List ℕ) (w records : ℕ) (v : A) → By (decideLines n x w records) v
+    (gate (manyOptions n ∷ shortTable records ∷ test (atCall wordRange) (leb (2 ^ n) w) ∷ []) (unlessFault 1 (trace n x .reading .fault) (done v)))
+unfolding gate
+word-by n x w records v =
     let f : trace n x .reading .fault ≡ reading n x .fault = ap (λ (r : Reading). r .fault) (trace-reading n x) in
     let rest = subst⁻¹ (λ (o : Option Fault). By (faults n 1 x ∷ []) v (unlessFault 1 o (done v))) f (fault-line n 1 x [] v (done v) (by-none v)) in
-    turned-down (x ∷ []) _ v _ ((refl, refl, refl, refl), ((refl, refl, refl, refl), ((refl, refl, refl, refl), one-stream n x)))
-    (omega arith, (omega arith, (omega arith, tt)))
-    (tests-lines (manyOptions n ∷ shortTable records ∷ test (atCall wordRange) (leb (2 ^ n) w) ∷ []) _ v _
-    (above (atCall optionCount) optionLimit n, (above (atCall workTable) records tableLimit, (from (atCall wordRange) (2 ^ n) w, rest))))
+    tests-lines (manyOptions n ∷ shortTable records ∷ test (atCall wordRange) (leb (2 ^ n) w) ∷ []) _ v _
+    (above (atCall optionCount) optionLimit n, (above (atCall workTable) records tableLimit, (from (atCall wordRange) (2 ^ n) w, rest)))
 
--- what it answers is what the stream decides
+word-lines : {A : Type 0} (n : ℕ) (x : List ℕ) (w records : ℕ) (v : A) (a : Result A) → By (decideLines n x w records) v a
+    → TurnedDown (x ∷ []) (decideLines n x w records) a
+word-lines n x w records v a =
+    turned-down (x ∷ []) _ v a ((refl, refl, refl, refl), ((refl, refl, refl, refl), ((refl, refl, refl, refl), one-stream n x)))
+    (omega arith, (omega arith, (omega arith, tt)))
+
+pub decide-lines : (n : ℕ) (x : List ℕ) (w records : ℕ) → TurnedDown (x ∷ []) (decideLines n x w records) (decideAnswer n x w records)
+unfolding decideAnswer
+decide-lines n x w records = word-lines n x w records _ _ (word-by n x w records (verdict n (trace n x) w))
+
+pub find-by : (n : ℕ) (x : List ℕ) (w records : ℕ) → By (findLines n x w records) (nextWord n (trace n x) w) (findAnswer n x w records)
+unfolding findAnswer
+find-by n x w records = word-by n x w records (nextWord n (trace n x) w)
+
+pub find-lines : (n : ℕ) (x : List ℕ) (w records : ℕ) → TurnedDown (x ∷ []) (findLines n x w records) (findAnswer n x w records)
+find-lines n x w records = word-lines n x w records _ _ (find-by n x w records)
+
+-- what deciding answers is what the stream decides
 pub decide-decided : {R : Type 0} (z : R) (n : ℕ) (x : List ℕ) (w : ℕ) (t : List R) (r : Verdict) → decide z n x w t .answer ≡ done r
     → r ≡ verdictOf (decision n x w)
 unfolding decide

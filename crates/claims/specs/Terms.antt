@@ -1,18 +1,20 @@
--- The terms in which the demands are stated (Claims): how a call is turned down, what lent memory holds after it, and what written bytes decide.
--- Assumes nothing.
+-- The terms in which the demands are stated (Claims): how a call is turned down, what lent memory holds after it, what written bytes decide, and what
+-- finding and listing admitted words give. Assumes nothing.
 use mathlib.Core.Path.{_≡_}
 use mathlib.Core.Logic.{_≢_, _⊎_, _↔_}
-use mathlib.Core.Bool.{Bool}
+use mathlib.Core.Bool.{Bool, true, false}
 use mathlib.Core.List.{List, [], _∷_}
 use mathlib.Core.Option.{none, some}
-use Prim.Native.Nat.{ℕ, _-_, _/_, _≤_, _<_, _^_, min}
+use Prim.Native.Nat.{ℕ, _+_, _-_, _/_, _≤_, _<_, _^_, min}
 use lib.ListN.{length, take, drop, getD}
+use Rattle.theory_lists.specs.Lists.{All}
 use Rattle.theory_reading.specs.Limits.{optionLimit, tableLimit, truthTableLeast, truthTableMost}
 use Rattle.theory_reading.specs.Causes.{optionCount, operatorCode, sizeToWrite, workTable, wordRange, truthTable}
 use Rattle.theory_reading.specs.Causes.{call, place, keepsAll, keepsOutput, causeRow, Refusal, atCall, Result, refused, done, cleared}
 use Rattle.theory_reading.specs.Element.{over}
 use Rattle.theory_reading.specs.Reading.{reading}
 use Rattle.theory_reading.specs.Deciding.{decided, decision}
+use Rattle.theory_reading.specs.Calls.{Read, NextWord, word, noWord, notKnown, FindsNext}
 use Rattle.theory_reading.specs.Covered.{covered}
 use Rattle.theory_writing.specs.Run.{operate, Answer, endingOf}
 
@@ -88,6 +90,10 @@ decideLines n x w records =
     ∷ meets (atCall wordRange) (2 ^ n ≤ w)  -- 5
     ∷ faults n 1 x  -- 7 to 13
     ∷ []
+
+-- document 02, R-1: "Causes 1, 4, 5 and 7 to 13 apply", as to deciding
+abbrev pub findLines : ℕ → List ℕ → ℕ → ℕ → List Line
+findLines n x w records = decideLines n x w records
 
 -- "truth table n not 3 to 16"
 abbrev pub notThreeToSixteen : ℕ → Type 0
@@ -167,3 +173,34 @@ pub record ReadAs (n c : ℕ) (Right : ℕ → Bool → Type 0) (bytes : List �
 -- The bytes have come to the point, and cover every word.
 abbrev pub Complete : ℕ → List ℕ → Type 0
 Complete n bytes = (reading n bytes .state .place .context ≡ over) × (covered n bytes ≡ 2 ^ n)
+
+-- ---- The next admitted word (document 02, R-1) -----------------------------------------------
+
+-- The stream x decides each word from w on, below v, and with no.
+abbrev pub DecidedNo : ℕ → List ℕ → ℕ → ℕ → Type 0
+DecidedNo n x w v = (u : ℕ) → w ≤ u → u < v → decision n x u ≡ decided false
+
+-- What an answer to the word w says: "the least admitted word not below w"; "none", all words being covered and none from w on admitted;
+-- "not known", some word not being covered and no covered one from w on admitted.
+abbrev pub NextIs : ℕ → List ℕ → ℕ → NextWord → Type 0
+NextIs n x w (word v) = (w ≤ v) × (v < covered n x) × (decision n x v ≡ decided true) × DecidedNo n x w v
+NextIs n x w noWord = (covered n x ≡ 2 ^ n) × DecidedNo n x w (2 ^ n)
+NextIs n x w notKnown = (covered n x < 2 ^ n) × DecidedNo n x w (covered n x)
+
+-- A call for the word w, with whatever work table, answers r.
+pub record Answers {R : Type 0} (z : R) (n : ℕ) (x : List ℕ) (w : ℕ) (r : NextWord) : Type 0 where
+  pub table : List R
+  pub call : Read NextWord R
+  pub made : FindsNext z n x w table call
+  pub gives : call .answer ≡ done r
+
+-- "Listing" from w on gives these words: a call for w gives the first, and listing goes on one past it; it ends past the last word, and where a call
+-- answers none or not known.
+abbrev pub Lists : {R : Type 0} → R → ℕ → List ℕ → ℕ → List ℕ → Type 0
+Lists z n x w [] = (2 ^ n ≤ w) ⊎ (Answers z n x w noWord ⊎ Answers z n x w notKnown)
+Lists z n x w (v ∷ vs) = Answers z n x w (word v) × Lists z n x (v + 1) vs
+
+-- Each word is below all that come after it.
+abbrev pub RisingWords : List ℕ → Type 0
+RisingWords [] = Unit {0}
+RisingWords (v ∷ vs) = All (λ u. v < u) vs × RisingWords vs

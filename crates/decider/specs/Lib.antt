@@ -1,3 +1,2 @@
 pub mod Answers
-pub mod WalkLaws
 pub mod DecideCorrect

@@ -111,7 +111,7 @@ module _ (n : ℕ) (bytes : List ℕ) (r : Run) (o : Opens) (t : List NodeRecord
     pub words-fit : (m : ℕ) → n ≤ truthTableMost → m ≡ n - x .deep → (m ≤ truthTableMost)
         × ((x .deep + 1 + m ≤ openLimit + optionLimit) × (x .from + 2 ^ m ≤ truthLimit))
     words-fit m few e =
-        let b : x .from + 2 ^ m ≡ x .run .covered = sym (passed-covers n bytes r o t (h .stands) x u reached halts
+        let b : x .from + 2 ^ m ≡ x .run .covered = sym (passed-covers n bytes (r .covered) x u reached halts
         ∙ ap (λ (d : ℕ). x .from + 2 ^ d) (sym e)) in (
           omega (arith, few, e),
           (

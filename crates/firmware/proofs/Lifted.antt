@@ -1,5 +1,6 @@
 -- Generated: what callers cite of the lifted functions.
--- From 7fbb203811fee7fd, as b91a58ed3d572388.
+-- From 0c52cd1f2588af46, as 51175208ea457fc0.
 pub mod rule_check
 pub mod rule_decide
+pub mod rule_next
 pub mod rule_fill

@@ -6,9 +6,10 @@ use Rattle.theory_reading.specs.Causes.{Result}
 use Rattle.theory_reading.specs.Calls as R
 use Rattle.node_records.specs.Records.{noRecord}
 use Rattle.node_records.specs.declared.NodeRecord.{NodeRecord}
-use Rattle.c_answers.specs.Numbers.{checkedNumbers, decidedNumbers, filledNumbers}
+use Rattle.c_answers.specs.Numbers.{checkedNumbers, decidedNumbers, foundNumbers, filledNumbers}
 use Rattle.c_answers.specs.declared.RuleChecked.{RuleChecked}
 use Rattle.c_answers.specs.declared.RuleDecided.{RuleDecided}
+use Rattle.c_answers.specs.declared.RuleFound.{RuleFound}
 use Rattle.c_answers.specs.declared.RuleFilled.{RuleFilled}
 
 -- an answer, with the work table after the call
@@ -22,6 +23,9 @@ checkGiven n bytes t = let c = R.check noRecord n bytes t in record { answer = c
 abbrev pub decideGiven : ℕ → List ℕ → ℕ → List NodeRecord → Given RuleDecided
 decideGiven n bytes w t = let c = R.decide noRecord n bytes w t in record { answer = decidedNumbers (c .answer); table = c .table }
 
+abbrev pub nextGiven : ℕ → List ℕ → ℕ → List NodeRecord → Given RuleFound
+nextGiven n bytes w t = let c = R.findNext noRecord n bytes w t in record { answer = foundNumbers (c .answer); table = c .table }
+
 -- The numbers of what a call answers.
 pub check-numbers : (r : RuleChecked) (a : Result R.Checked) (z : List NodeRecord) (n : ℕ) (bytes : List ℕ) (t : List NodeRecord) → r ≡ checkedNumbers a
     → record { answer = a; table = z } ≡ R.check noRecord n bytes t
@@ -34,6 +38,12 @@ pub decide-numbers : (r : RuleDecided) (a : Result R.Verdict) (z : List NodeReco
     → record { answer = r; table = z } ≡ decideGiven n bytes w t
 decide-numbers r a z n bytes w t e h = ap (λ (x : RuleDecided). record { answer = x; table = z }) e
     ∙ ap (λ (x : R.Read R.Verdict NodeRecord). record { answer = decidedNumbers (x .answer); table = x .table }) h
+
+pub next-numbers : (r : RuleFound) (a : Result R.NextWord) (z : List NodeRecord) (n : ℕ) (bytes : List ℕ) (w : ℕ) (t : List NodeRecord) → r
+    ≡ foundNumbers a → record { answer = a; table = z } ≡ R.findNext noRecord n bytes w t
+    → record { answer = r; table = z } ≡ nextGiven n bytes w t
+next-numbers r a z n bytes w t e h = ap (λ (x : RuleFound). record { answer = x; table = z }) e
+    ∙ ap (λ (x : R.Read R.NextWord NodeRecord). record { answer = foundNumbers (x .answer); table = x .table }) h
 
 -- likewise with the truth table
 pub record GivenWords : Type 0 where

@@ -1,5 +1,5 @@
 -- Generated: what callers cite of the lifted functions.
--- From 829506afb8e8d79e, as 00dfe1b51a958ecd.
+-- From cbbf837f6d54603c, as 00dfe1b51a958ecd.
 pub mod is_stale
 pub mod alike_number
 pub mod is_barred

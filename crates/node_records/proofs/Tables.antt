@@ -1,4 +1,4 @@
 -- Generated: the records of lent slices.
--- From 406e085bb27e047f, as c798757ce7f4171c.
+-- From e7659091a73d15ca, as c798757ce7f4171c.
 pub mod NodeRecord
 pub mod WriterRecord

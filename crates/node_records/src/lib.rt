@@ -6,6 +6,7 @@ ghost use Prim.Native.Nat.{min};
 ghost use Rattle.theory_lists.specs.Lists.{differ};
 ghost use Rattle.node_records.specs.Edges.{firstEdge, secondEdge};
 ghost use Rattle.node_records.specs.Records.{noRecord, noWriterRecord};
+ghost use Rattle.node_records.specs.Words.{someYes, someBelow, withWords};
 
 // ---- Limits, by the names of the definitions
 
@@ -38,7 +39,7 @@ pub fn bit(c: bool) -> u32
 // ---- Records
 
 // A record of a work table for reading: the level (0: none), the children, whether the edge to the second is complemented (0: it is not), how often the
-// number was given out, and how many records have it as a child.
+// number was given out, how many records have it as a child, and whether some word below the node is yes and whether some is no (0: none is).
 #[repr(C)]
 pub struct NodeRecord {
     pub level: u32,
@@ -47,6 +48,8 @@ pub struct NodeRecord {
     pub complement: u32,
     pub stamp: u32,
     pub parents: u32,
+    pub admits: u32,
+    pub refuses: u32,
 }
 
 // A record of a work table for writing: a number's node as above; the numbers after and before it in the recycling queue, and in its bucket of the unique
@@ -77,6 +80,8 @@ pub fn no_record() -> NodeRecord
         complement: 0,
         stamp: 0,
         parents: 0,
+        admits: 0,
+        refuses: 0,
     }
 }
 
@@ -147,5 +152,55 @@ pub fn second_edge(x: NodeRecord, i: u32, e: Edge) -> Edge
     Edge {
         number: x.second,
         complement: differs(x.complement != 0, e.complement),
+    }
+}
+
+// ---- What a record says of the words below its node
+
+// Some word below what e stands for is yes; x: the record of its number
+pub fn some_yes(x: NodeRecord, e: Edge) -> bool
+    ensures { λ r. ⌜ r ≡ someYes x e ⌝ }
+{
+    let c = e.complement;
+    if e.number == 0 {
+        return c;
+    }
+    if c {
+        return x.refuses != 0;
+    }
+    x.admits != 0
+}
+
+// Some word below the node of x is yes, turned about if c; a, b: the records of its children
+fn some_below(x: NodeRecord, a: NodeRecord, b: NodeRecord, c: bool) -> bool
+    ensures { λ r. ⌜ r ≡ someBelow x a b c ⌝ }
+{
+    let e = Edge {
+        number: x.first,
+        complement: c,
+    };
+    if some_yes(a, e) {
+        return true;
+    }
+    let f = Edge {
+        number: x.second,
+        complement: differs(x.complement != 0, c),
+    };
+    some_yes(b, f)
+}
+
+// The record x with what the records a and b of its children say
+pub fn with_words(x: NodeRecord, a: NodeRecord, b: NodeRecord) -> NodeRecord
+    ensures { λ y. ⌜ y ≡ withWords x a b ⌝ }
+{
+    NodeRecord {
+        level: x.level,
+        first: x.first,
+        second: x.second,
+        complement: x.complement,
+        stamp: x.stamp,
+        parents: x.parents,
+        admits: bit(some_below(x, a, b, false)),
+        refuses: bit(some_below(x, a, b, true)),
     }
 }

@@ -3,7 +3,7 @@ use mathlib.Core.Path.{_≡_, refl, sym, ap, ap₂, _∙_, subst}
 use mathlib.Core.Bool.{Bool, true, false, cond, not, _&&_, _||_, true≢false, false≢true}
 use mathlib.Core.List.{List, [], _∷_}
 use mathlib.Core.Option.{none, some}
-use Prim.{tt}
+use Prim.{Unit, tt}
 use Prim.Native.Nat.{ℕ, zero, suc, _+_, _<_, _≤_}
 use native.Mathlib.Omega.{arith}
 use lib.Dec.{ltb, eqb}
@@ -90,16 +90,17 @@ numberIn E.Closing = 0
 numberIn (E.Storing k) = k
 numberIn E.End = 0
 
--- The record that a storing puts, d nodes being open. x: the row of the number before
+-- The record that a storing puts, d nodes being open, but for what it says of the words below. x: the row of the number before
 abbrev pub recordTo : Run → ℕ → NodeRecord → NodeRecord
 recordTo r d x = record {
   level = d + 1;
   first = r .pair .first .number;
   second = r .pair .second .number;
   complement = cond (r .pair .complement) 1 0;
-  stamp =
-      nextStamp (x .stamp);
+  stamp = nextStamp (x .stamp);
   parents = x .parents;
+  admits = 0;
+  refuses = 0;
 }
 
 -- The lent table after an element of the number k: a storing puts a record, a size clears its records. r: the run before; y: what was taken
@@ -212,6 +213,16 @@ Legal r E.Closing y = Plain y
 Legal r (E.Storing k) y = (k ≡ 0 → ⊥) × ((k ≤ r .size) × (y .stores ≡ true))
 Legal r E.End y = Plain y
 
+-- a number to store has no parent, and is no child of the node; x: its record
+abbrev Free : Run → Element → NodeRecord → Type 0
+Free r E.Opening x = Unit {0}
+Free r (E.Number v) x = Unit {0}
+Free r E.Constant x = Unit {0}
+Free r E.Turn x = Unit {0}
+Free r E.Closing x = Unit {0}
+Free r (E.Storing k) x = (x .parents ≡ 0) × ((r .pair .first .number ≡ k → ⊥) × (r .pair .second .number ≡ k → ⊥))
+Free r E.End x = Unit {0}
+
 -- what is taken: at a fault the run stays and nothing is stored
 abbrev Effect : Run → Context → Element → Taken → Bool → Type 0
 Effect r m e y true = (y .run ≡ r) × Plain y
@@ -259,6 +270,27 @@ module _ (n : ℕ) (r : Run) (d : ℕ) (o : Open) (g : ℕ) (x : NodeRecord) (at
       (λ _. effect-cond E.Closing (isKeptOf (r .last)) _ _ (λ _. (refl, (refl, (refl, refl)))) (λ _. (refl, (refl, refl)))))
   effect (E.Storing k) = effect-storing k
   effect E.End = (refl, (refl, (refl, refl)))
+
+  -- what is stored without a fault is free
+  free-taken : (e : Element) → takenOf n r d o g e x at m .faulty ≡ false → Free r e x
+  free-taken E.Opening f = tt
+  free-taken (E.Number v) f = tt
+  free-taken E.Constant f = tt
+  free-taken E.Turn f = tt
+  free-taken E.Closing f = tt
+  free-taken (E.Storing k) f = go (eqb k 0 || ltb (r .size) k) (eqb (x .parents) 0) (eqb (r .pair .first .number) k) (eqb (r .pair .second .number) k)
+      refl refl refl f
+    where
+      go : (a b c d : Bool) → eqb (x .parents) 0 ≡ b → eqb (r .pair .first .number) k ≡ c → eqb (r .pair .second .number) k ≡ d
+          → cond (a || (not b || (c || d))) (failsOf r BadNumber (r .at + 1))
+          (record { run = storedRun r k x at m; faulty = false; cause = WrongByte; byte = 0; sizes = false; stores = true }) .faulty ≡ false
+          → Free r (E.Storing k) x
+      go true b c d p q s f = absurd (true≢false f)
+      go false false c d p q s f = absurd (true≢false f)
+      go false true true d p q s f = absurd (true≢false f)
+      go false true false true p q s f = absurd (true≢false f)
+      go false true false false p q s f = (eqb-true (x .parents) 0 p, (eqb-false (r .pair .first .number) k q, eqb-false (r .pair .second .number) k s))
+  free-taken E.End f = tt
 
   -- the place after what is taken
   abbrev Onto : Taken → Type 0
@@ -408,19 +440,20 @@ size-small r (E.Storing k) y h l = h
 size-small r E.End y h l = h
 
 held-next : (r : Run) (o : Opens) (d : ℕ) (e : Element) (y : Taken) (t : List NodeRecord) → Kept r o t → y .faulty ≡ false → Legal r e y
+    → Free r e (recordIn r t e)
     → Held (updatedBy r d e (recordIn r t e) y t) (sizeTo r e)
-held-next r o d E.Opening y t kept f l = kept .held
-held-next r o d (E.Number v) y t kept f l = rw f (go (isStart (contextOf (r .context))) (l .0))
+held-next r o d E.Opening y t kept f l x = kept .held
+held-next r o d (E.Number v) y t kept f l x = rw f (go (isStart (contextOf (r .context))) (l .0))
   where
     go : (b : Bool) → (b ≡ true → v ≤ tableLimit) → Held (cond b (clearTo noRecord t v) t) (cond b v (r .size))
     go true k = let i : v ≤ tableLimit = k refl in held-clear t v (omega (arith, kept .room, i))
     go false k = kept .held
-held-next r o d E.Constant y t kept f l = kept .held
-held-next r o d E.Turn y t kept f l = kept .held
-held-next r o d E.Closing y t kept f l = kept .held
-held-next r o d (E.Storing k) y t kept f l = rw (l .1 .1) (held-store t (r .size) k (recordTo r d (getIn t (r .size) k)) (kept .held) (kept .small)
-    (l .0) (l .1 .0) refl)
-held-next r o d E.End y t kept f l = kept .held
+held-next r o d E.Constant y t kept f l x = kept .held
+held-next r o d E.Turn y t kept f l x = kept .held
+held-next r o d E.Closing y t kept f l x = kept .held
+held-next r o d (E.Storing k) y t kept f l x = rw (l .1 .1) (held-store t (r .size) k (recordTo r d (getIn t (r .size) k)) (kept .held) (kept .small)
+    (l .0) (l .1 .0) refl (x .0) (x .1 .0) (x .1 .1))
+held-next r o d E.End y t kept f l x = kept .held
 
 -- ---- The open nodes --------------------------------------------------------------------------
 
@@ -639,7 +672,8 @@ module _ (n : ℕ) (bytes : List ℕ) (r : Run) (o : Opens) (t : List NodeRecord
         room = omega (arith, kept .room, length-updated r (o .depth) (x .number) (getIn t (r .size) (x .number)) y t);
         small = subst (λ (z : ℕ). z ≤ tableLimit) (sym (effect-well .1 .0)) (size-small r e y (kept .small) (effect-well .1 .1));
         held = subst (Held lent) (sym (effect-well .1 .0)) (subst (λ (u : List NodeRecord). Held u (sizeTo r e)) (sym updated-here)
-            (held-next r o (o .depth) e y t kept f (effect-well .1 .1)));
+            (held-next r o (o .depth) e y t kept f (effect-well .1 .1) (subst (Free r e) record-here (free-taken n r (o .depth) (lowOf o) (firstDigit s b)
+            (getIn t (r .size) (x .number)) (x .at) (x .context) e f))));
         nodes = length-set (set (o .nodes) (highAt (o .depth)) insideOpen) (lowAt (o .depth)) (x .low)
             ∙ length-set (o .nodes) (highAt (o .depth)) insideOpen ∙ kept .nodes;
         deep = subst (λ (u : NextTokenView). u .depth ≤ openLimit) (sym seen)

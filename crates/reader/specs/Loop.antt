@@ -55,7 +55,11 @@ stands-first n bytes t h = record {
   kept = record {
     room = h;
     small = omega arith;
-    held = record { room = omega arith; counts = λ k i l. absurd (i (omega (arith, l))) };
+    held = record {
+      room = omega arith;
+      counts = λ k i l. absurd (i (omega (arith, l)));
+      words = λ k i l m. absurd (i (omega (arith, l)));
+    };
     nodes = length-replicate openLimit insideOpen;
     deep = omega arith;
     begin = λ _. refl;

@@ -366,7 +366,7 @@ fn barred(t: &[NodeRecord], r: Run, b: u8) -> bool
     y.stamp != c.stamp
 }
 
-// The record that a storing puts, d nodes being open. x: the record before
+// The record that a storing puts, d nodes being open; `store` has what it says of the words below. x: the record before
 fn record_of(r: Run, d: u32, x: NodeRecord) -> NodeRecord
     requires { ⌜ d ≤ openLimit ⌝ }
     ensures { λ y. ⌜ y ≡ recordTo r d x ⌝ }
@@ -381,6 +381,8 @@ fn record_of(r: Run, d: u32, x: NodeRecord) -> NodeRecord
         complement: bit(p.complement),
         stamp: next_stamp(x.stamp),
         parents: x.parents,
+        admits: 0,
+        refuses: 0,
     }
 }
 

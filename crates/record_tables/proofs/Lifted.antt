@@ -1,5 +1,5 @@
 -- Generated: what callers cite of the lifted functions.
--- From d7a7898001502198, as 704011e744e9e46f.
+-- From eca6a65df644a89c, as 704011e744e9e46f.
 pub mod get_record
 pub mod put_record
 pub mod clear_records

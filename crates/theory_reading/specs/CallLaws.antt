@@ -22,7 +22,7 @@ use Rattle.theory_reading.specs.Prefix.{trace-reading}
 use Rattle.theory_reading.specs.Covered.{covered, trace-covered, uncovered-undecided}
 
 -- the test against the covered count says nothing more than the decision
-verdict-decision : (n : ℕ) (bytes : List ℕ) (w : ℕ) → w < 2 ^ n → verdict n (trace n bytes) w ≡ verdictOf (decision n bytes w)
+pub verdict-decision : (n : ℕ) (bytes : List ℕ) (w : ℕ) → w < 2 ^ n → verdict n (trace n bytes) w ≡ verdictOf (decision n bytes w)
 unfolding decision
 verdict-decision n bytes w h = go (ltb w (trace n bytes .reading .state .covered)) refl
   where

@@ -25,6 +25,7 @@ pub mod Passing
 pub mod StampBound
 pub mod ParentCounts
 pub mod Filling
+pub mod NextWord
 pub mod Reaching
 pub mod Aligned
 pub mod Lasting

@@ -1,5 +1,5 @@
 -- Generated: what callers cite of the lifted functions.
--- From e1bec613391eec56, as 940547a0de86cccf.
+-- From ad3273883a0cd883, as 940547a0de86cccf.
 pub mod unlink
 pub mod link_last
 pub mod free

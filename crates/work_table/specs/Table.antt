@@ -11,6 +11,7 @@ use lib.Dec.{ltb, eqb}
 use lib.ListN.{getD, set}
 use Rattle.theory_lists.specs.Lists.{decide-eq}
 use Rattle.node_records.specs.Records.{noRecord}
+use Rattle.node_records.specs.Words.{withWords}
 use Rattle.record_tables.specs.Entries.{entryAt, putEntry}
 use Rattle.node_records.specs.declared.NodeRecord.{NodeRecord}
 
@@ -31,17 +32,23 @@ countedRecord x more = record {
   complement = x .complement;
   stamp = x .stamp;
   parents = countedTo (x .parents) more;
+  admits = x .admits;
+  refuses = x .refuses;
 }
 
 -- likewise of the number k in a table of z numbers
 abbrev pub countAt : List NodeRecord → ℕ → ℕ → Bool → List NodeRecord
 countAt t z k more = cond (eqb k 0 || ltb z k) t (set t (k - 1) (countedRecord (getD t (k - 1) noRecord) more))
 
+-- the record x with what its children in a table of z numbers say of the words below
+abbrev pub wordedIn : List NodeRecord → ℕ → NodeRecord → NodeRecord
+wordedIn t z x = withWords x (getIn t z (x .first)) (getIn t z (x .second))
+
 -- the number k is given to x: the children of the record that had it lose a parent, those of x get one
 unfoldable pub storeAt : List NodeRecord → ℕ → ℕ → NodeRecord → List NodeRecord
 storeAt t z k x =
     let old = getIn t z k in
-    countAt (countAt (countAt (countAt (putEntry t k x) z (old .first) false) z (old .second) false) z (x .first) true) z (x .second) true
+    countAt (countAt (countAt (countAt (putEntry t k (wordedIn t z x)) z (old .first) false) z (old .second) false) z (x .first) true) z (x .second) true
 
 -- ---- One record ------------------------------------------------------------------------------
 
@@ -60,17 +67,17 @@ module _ (t : List NodeRecord) where
   get-entry z k l = ⊎-elim (λ (e : k ≡ 0). rw e refl) (λ (h : k ≡ 0 → ⊥). rw (ne-eqb k 0 h, le-ltb z k l) refl) (decide-eq k 0)
 
 -- what `store` does, call by call
-pub store-correct : (t b c d e f : List NodeRecord) (z k : ℕ) (x old : NodeRecord) → old ≡ getIn t z k → b ≡ putEntry t k x
+pub store-correct : (t b c d e f : List NodeRecord) (z k : ℕ) (x old y : NodeRecord) → old ≡ getIn t z k → y ≡ wordedIn t z x → b ≡ putEntry t k y
     → c ≡ countAt b z (old .first) false → d ≡ countAt c z (old .second) false
     → e ≡ countAt d z (x .first) true → f ≡ countAt e z (x .second) true → f ≡ storeAt t z k x
 unfolding storeAt
-store-correct t b c d e f z k x old oe be ce de ee fe =
+store-correct t b c d e f z k x old y oe ye be ce de ee fe =
     fe
     ∙ ap (λ (l : List NodeRecord). countAt l z (x .second) true) (ee
     ∙ ap (λ (l : List NodeRecord). countAt l z (x .first) true) (de
     ∙ ap (λ (l : List NodeRecord). countAt l z (old .second) false) (ce
-    ∙ ap (λ (l : List NodeRecord). countAt l z (old .first) false) be)))
-    ∙ ap (λ (o : NodeRecord). countAt (countAt (countAt (countAt (putEntry t k x) z (o .first) false) z (o .second) false) z (x .first) true) z
+    ∙ ap (λ (l : List NodeRecord). countAt l z (old .first) false) (be ∙ ap (putEntry t k) ye))))
+    ∙ ap (λ (o : NodeRecord). countAt (countAt (countAt (countAt (putEntry t k (wordedIn t z x)) z (o .first) false) z (o .second) false) z (x .first) true) z
     (x .second) true) oe
 
 pub count-none : (t : List NodeRecord) (z k : ℕ) (more : Bool) → k ≡ 0 → t ≡ countAt t z k more

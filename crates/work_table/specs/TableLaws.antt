@@ -18,8 +18,9 @@ use Rattle.theory_reading.specs.Nodes.{Node, newNode, noNode, node}
 use Rattle.theory_reading.specs.ParentCounts.{edges, parents, parents-set, parents-most, parents-fresh, edges-parents}
 use Rattle.node_records.specs.declared.NodeRecord.{NodeRecord}
 use Rattle.node_records.specs.Records.{noRecord}
+use Rattle.node_records.specs.Words.{withWords}
 use Rattle.record_tables.specs.Entries.{putEntry, clearTo, entry-put-none, entry-put-here}
-use Rattle.work_table.specs.Table.{getIn, countedTo, countedRecord, countAt, storeAt}
+use Rattle.work_table.specs.Table.{getIn, countedTo, countedRecord, countAt, wordedIn, storeAt}
 use Rattle.work_table.specs.Table.{get-above, get-here, count-none, count-above, count-here}
 
 -- ---- The records as the theory's table -------------------------------------------------------
@@ -133,15 +134,20 @@ length-count t z k b = count-ways k z
     (λ n l. ap length (sym (count-above t z k b l)))
     (λ n l. ap length (sym (count-here t z k b n l)) ∙ length-set t (k - 1) (countedRecord (getD t (k - 1) noRecord) b))
 
--- the number's own count
+-- the number's own record
+counted-record : (t : List NodeRecord) (z k : ℕ) (b : Bool) → z ≤ length t → (k ≡ 0 → ⊥) → k ≤ z → getIn (countAt t z k b) z k
+    ≡ countedRecord (getIn t z k) b
+counted-record t z k b r n h =
+    let i : k - 1 < length t = omega (arith, r, n, h) in
+    sym (get-here (countAt t z k b) z k n h)
+    ∙ ap (λ (u : List NodeRecord). getD u (k - 1) noRecord) (sym (count-here t z k b n h))
+    ∙ getD-set-same t (k - 1) (countedRecord (getD t (k - 1) noRecord) b) noRecord i
+    ∙ ap (λ (x : NodeRecord). countedRecord x b) (get-here t z k n h)
+
+-- and its count
 counted-here : (t : List NodeRecord) (z k : ℕ) (b : Bool) → z ≤ length t → (k ≡ 0 → ⊥) → k ≤ z → getIn (countAt t z k b) z k .parents
     ≡ countedTo (getIn t z k .parents) b
-counted-here t z k b r n h =
-    let i : k - 1 < length t = omega (arith, r, n, h) in
-    ap (λ (x : NodeRecord). x .parents) (sym (get-here (countAt t z k b) z k n h))
-    ∙ ap (λ (u : List NodeRecord). getD u (k - 1) noRecord .parents) (sym (count-here t z k b n h))
-    ∙ ap (λ (a : NodeRecord). a .parents) (getD-set-same t (k - 1) (countedRecord (getD t (k - 1) noRecord) b) noRecord i)
-    ∙ ap (λ (x : NodeRecord). countedTo (x .parents) b) (get-here t z k n h)
+counted-here t z k b r n h = ap (λ (x : NodeRecord). x .parents) (counted-record t z k b r n h)
 
 -- another number keeps its record
 counted-other : (t : List NodeRecord) (z k j : ℕ) (b : Bool) → (k ≡ j → ⊥) → getIn (countAt t z k b) z j ≡ getIn t z j
@@ -181,35 +187,102 @@ count-less t z k j r n h l = ⊎-elim here other (decide-eq k j)
         in
         omega (arith, o, p)
 
+-- ---- What records say of the words below -----------------------------------------------------
+
+-- the record x says what the records a and b of its children say
+abbrev pub Right : NodeRecord → NodeRecord → NodeRecord → Type 0
+Right x a b = (x .admits ≡ withWords x a b .admits) × (x .refuses ≡ withWords x a b .refuses)
+
+-- so does that of k, where f gives each number its record
+abbrev pub RightAt : (ℕ → NodeRecord) → ℕ → Type 0
+RightAt f k = Right (f k) (f (f k .first)) (f (f k .second))
+
+-- a record without its count of parents, which says nothing of words
+abbrev bare : NodeRecord → NodeRecord
+bare x = record {
+  level = x .level;
+  first = x .first;
+  second = x .second;
+  complement = x .complement;
+  stamp = x .stamp;
+  parents = 0;
+  admits = x .admits;
+  refuses = x .refuses;
+}
+
+right-bare : (f g : ℕ → NodeRecord) → ((i : ℕ) → bare (f i) ≡ bare (g i)) → (k : ℕ) → RightAt g k → RightAt f k
+right-bare f g same k h =
+    let own : Right (bare (f k)) (bare (g (f k .first))) (bare (g (f k .second))) =
+    subst (λ (x : NodeRecord). Right x (bare (g (x .first))) (bare (g (x .second)))) (sym (same k)) h in
+    let first : Right (bare (f k)) (bare (f (f k .first))) (bare (g (f k .second))) =
+    subst (λ (a : NodeRecord). Right (bare (f k)) a (bare (g (f k .second)))) (sym (same (f k .first))) own in
+    subst (λ (b : NodeRecord). Right (bare (f k)) (bare (f (f k .first))) b) (sym (same (f k .second))) first
+
+-- a count changes nothing else
+bare-count : (t : List NodeRecord) (z k j : ℕ) (b : Bool) → z ≤ length t → bare (getIn (countAt t z k b) z j) ≡ bare (getIn t z j)
+bare-count t z k j b r = count-ways k z
+    (λ e. ap (λ (u : List NodeRecord). bare (getIn u z j)) (sym (count-none t z k b e)))
+    (λ n l. ap (λ (u : List NodeRecord). bare (getIn u z j)) (sym (count-above t z k b l)))
+    (λ n l. ⊎-elim
+    (λ (e : k ≡ j). subst (λ (i : ℕ). bare (getIn (countAt t z k b) z i) ≡ bare (getIn t z i)) e (ap bare (counted-record t z k b r n l)))
+    (λ (d : k ≡ j → ⊥). ap bare (counted-other t z k j b d))
+    (decide-eq k j))
+
+-- the record that is put, with what its children say, is right, and the others stay so: none has k as its child
+right-put : (t : List NodeRecord) (z k : ℕ) (x : NodeRecord) → z ≤ length t → (k ≡ 0 → ⊥) → k ≤ z → (x .first ≡ k → ⊥) → (x .second ≡ k → ⊥)
+    → ((j : ℕ) → (getIn t z j .first ≡ k → ⊥) × (getIn t z j .second ≡ k → ⊥))
+    → (j : ℕ) → ((k ≡ j → ⊥) → RightAt (getIn t z) j) → RightAt (getIn (putEntry t k (wordedIn t z x)) z) j
+right-put t z k x r n h p q alone j old = ⊎-elim here other (decide-eq k j)
+  where
+    -- the children of a record have theirs
+    children : (w : NodeRecord) → (w .first ≡ k → ⊥) → (w .second ≡ k → ⊥) → Right w (getIn t z (w .first)) (getIn t z (w .second))
+        → Right w (getIn (putEntry t k (wordedIn t z x)) z (w .first)) (getIn (putEntry t k (wordedIn t z x)) z (w .second))
+    children w a b m =
+        subst (λ (c : NodeRecord). Right w c (getIn (putEntry t k (wordedIn t z x)) z (w .second)))
+        (sym (get-other t z k (w .first) (wordedIn t z x) (λ e. a (sym e))))
+        (subst (Right w (getIn t z (w .first))) (sym (get-other t z k (w .second) (wordedIn t z x) (λ e. b (sym e)))) m)
+
+    here : k ≡ j → RightAt (getIn (putEntry t k (wordedIn t z x)) z) j
+    here e = subst (RightAt (getIn (putEntry t k (wordedIn t z x)) z)) e
+        (subst (λ (w : NodeRecord). Right w (getIn (putEntry t k (wordedIn t z x)) z (w .first)) (getIn (putEntry t k (wordedIn t z x)) z (w .second)))
+        (sym (get-put t z k (wordedIn t z x) r n h)) (children (wordedIn t z x) p q (refl, refl)))
+
+    other : (k ≡ j → ⊥) → RightAt (getIn (putEntry t k (wordedIn t z x)) z) j
+    other d =
+        subst (λ (w : NodeRecord). Right w (getIn (putEntry t k (wordedIn t z x)) z (w .first)) (getIn (putEntry t k (wordedIn t z x)) z (w .second)))
+        (sym (get-other t z k j (wordedIn t z x) d)) (children (getIn t z j) (alone j .0) (alone j .1) (old d))
+
 -- ---- Storing ---------------------------------------------------------------------------------
 
--- What code keeps true of the lent table: there is a record for each number, and its count of parents is right.
+-- What code keeps true of the lent table: there is a record for each number, its count of parents is right, and a node's record says of the words below it
+-- what its children's say.
 pub record Held (t : List NodeRecord) (z : ℕ) : Type 0 where
   pub room : z ≤ length t
   pub counts : (k : ℕ) → (k ≡ 0 → ⊥) → k ≤ z → getIn t z k .parents ≡ parents (tableOf t z) k
+  pub words : (k : ℕ) → (k ≡ 0 → ⊥) → k ≤ z → (getIn t z k .level ≡ 0 → ⊥) → RightAt (getIn t z) k
 
 -- A storing keeps the length.
 pub length-store : (t : List NodeRecord) (z k : ℕ) (x : NodeRecord) → length (storeAt t z k x) ≡ length t
 unfolding storeAt
 length-store t z k x =
-    let t₀ = putEntry t k x in
+    let t₀ = putEntry t k (wordedIn t z x) in
     let t₁ = countAt t₀ z (getIn t z k .first) false in
     let t₂ = countAt t₁ z (getIn t z k .second) false in
     let t₃ = countAt t₂ z (x .first) true in
     length-count t₃ z (x .second) true ∙ length-count t₂ z (x .first) true ∙ length-count t₁ z (getIn t z k .second) false
-    ∙ length-count t₀ z (getIn t z k .first) false ∙ length-put t k x
+    ∙ length-count t₀ z (getIn t z k .first) false ∙ length-put t k (wordedIn t z x)
 
 -- A storing sets the record of the number in the theory's table.
 pub store-table : (t : List NodeRecord) (z k : ℕ) (x : NodeRecord) → (k ≡ 0 → ⊥) → k ≤ z → tableOf (storeAt t z k x) z
     ≡ set (tableOf t z) k (recordNode x)
 unfolding storeAt
 store-table t z k x n h =
-    let t₀ = putEntry t k x in
+    let t₀ = putEntry t k (wordedIn t z x) in
     let t₁ = countAt t₀ z (getIn t z k .first) false in
     let t₂ = countAt t₁ z (getIn t z k .second) false in
     let t₃ = countAt t₂ z (x .first) true in
     table-count t₃ z (x .second) true ∙ table-count t₂ z (x .first) true ∙ table-count t₁ z (getIn t z k .second) false
-    ∙ table-count t₀ z (getIn t z k .first) false ∙ table-put t z k x n h
+    ∙ table-count t₀ z (getIn t z k .first) false ∙ table-put t z k (wordedIn t z x) n h
 
 -- the counts after two parents less and two more
 count-four : (t : List NodeRecord) (z a b c d j : ℕ) → z ≤ length t → (j ≡ 0 → ⊥) → j ≤ z
@@ -234,38 +307,75 @@ edges-most : (j : ℕ) (y : Node) → edges j y ≤ 2
 unfolding parents
 edges-most j y = omega (arith, parents-most (y ∷ []) j)
 
--- A storing keeps the counts right, if the new record starts with the count of the old one.
-pub held-store : (t : List NodeRecord) (z k : ℕ) (x : NodeRecord) → Held t z → z ≤ tableLimit → (k ≡ 0 → ⊥) → k ≤ z → x .parents ≡ getIn t z k .parents
-    → Held (storeAt t z k x) z
+-- a storing changes no record but the number's and, of others, the counts
+bare-store : (t : List NodeRecord) (z k : ℕ) (x : NodeRecord) → z ≤ length t → (j : ℕ) → bare (getIn (storeAt t z k x) z j)
+    ≡ bare (getIn (putEntry t k (wordedIn t z x)) z j)
 unfolding storeAt
-held-store t z k x held small n h same = record { room = omega (arith, held .room, length-store t z k x); counts = right }
+bare-store t z k x r j =
+    let t₀ = putEntry t k (wordedIn t z x) in
+    let t₁ = countAt t₀ z (getIn t z k .first) false in
+    let t₂ = countAt t₁ z (getIn t z k .second) false in
+    let t₃ = countAt t₂ z (x .first) true in
+    let r₀ : z ≤ length t₀ = omega (arith, r, length-put t k (wordedIn t z x)) in
+    let r₁ : z ≤ length t₁ = omega (arith, r₀, length-count t₀ z (getIn t z k .first) false) in
+    let r₂ : z ≤ length t₂ = omega (arith, r₁, length-count t₁ z (getIn t z k .second) false) in
+    let r₃ : z ≤ length t₃ = omega (arith, r₂, length-count t₂ z (x .first) true) in
+    bare-count t₃ z (x .second) j true r₃ ∙ bare-count t₂ z (x .first) j true r₂ ∙ bare-count t₁ z (getIn t z k .second) j false r₁
+    ∙ bare-count t₀ z (getIn t z k .first) j false r₀
+
+-- a number without parents is no record's child
+no-child : (t : List NodeRecord) (z k : ℕ) → Held t z → (k ≡ 0 → ⊥) → k ≤ z → getIn t z k .parents ≡ 0
+    → (j : ℕ) → (getIn t z j .first ≡ k → ⊥) × (getIn t z j .second ≡ k → ⊥)
+no-child t z k held n h none j =
+    let e : edges k (recordNode (getIn t z j)) ≡ 0 = omega (
+      arith,
+      ap (edges k) (table-node t z j),
+      edges-parents (tableOf t z) j k n,
+      held .counts k n h,
+      none,
+    ) in
+    (λ i. absurd (omega (arith, e, ap bit (eq-eqb (getIn t z j .first) k i))), λ i. absurd (omega (arith, e, ap bit (eq-eqb (getIn t z j .second) k i))))
+
+-- A STORING KEEPS THEM TRUE, if the number has no parents, nor is its own child, and the new record starts with the count of the old one.
+pub held-store : (t : List NodeRecord) (z k : ℕ) (x : NodeRecord) → Held t z → z ≤ tableLimit → (k ≡ 0 → ⊥) → k ≤ z → x .parents ≡ getIn t z k .parents
+    → getIn t z k .parents ≡ 0 → (x .first ≡ k → ⊥) → (x .second ≡ k → ⊥) → Held (storeAt t z k x) z
+unfolding storeAt
+held-store t z k x held small n h same none p q =
+    record { room = omega (arith, held .room, length-store t z k x); counts = right; words = said }
   where
-    put : (j : ℕ) → (j ≡ 0 → ⊥) → j ≤ z → getIn (putEntry t k x) z j .parents ≡ parents (tableOf t z) j
+    put : (j : ℕ) → (j ≡ 0 → ⊥) → j ≤ z → getIn (putEntry t k (wordedIn t z x)) z j .parents ≡ parents (tableOf t z) j
     put j m l = ⊎-elim here other (decide-eq k j) ∙ held .counts j m l
       where
-        here : k ≡ j → getIn (putEntry t k x) z j .parents ≡ getIn t z j .parents
-        here e = subst (λ (i : ℕ). getIn (putEntry t k x) z i .parents ≡ getIn t z i .parents) e
-            (ap (λ (y : NodeRecord). y .parents) (get-put t z k x (held .room) n h) ∙ same)
+        here : k ≡ j → getIn (putEntry t k (wordedIn t z x)) z j .parents ≡ getIn t z j .parents
+        here e = subst (λ (i : ℕ). getIn (putEntry t k (wordedIn t z x)) z i .parents ≡ getIn t z i .parents) e
+            (ap (λ (y : NodeRecord). y .parents) (get-put t z k (wordedIn t z x) (held .room) n h) ∙ same)
 
-        other : (k ≡ j → ⊥) → getIn (putEntry t k x) z j .parents ≡ getIn t z j .parents
-        other d = ap (λ (y : NodeRecord). y .parents) (get-other t z k j x d)
+        other : (k ≡ j → ⊥) → getIn (putEntry t k (wordedIn t z x)) z j .parents ≡ getIn t z j .parents
+        other d = ap (λ (y : NodeRecord). y .parents) (get-other t z k j (wordedIn t z x) d)
 
     right : (j : ℕ) → (j ≡ 0 → ⊥) → j ≤ z → getIn (storeAt t z k x) z j .parents ≡ parents (tableOf (storeAt t z k x) z) j
     right j m l =
         let long : length (tableOf t z) ≡ suc z = table-length t z (held .room) in
         let old : edges j (node (tableOf t z) k) ≡ edges j (recordNode (getIn t z k)) = ap (edges j) (table-node t z k) in
-        let p : getIn (putEntry t k x) z j .parents ≡ parents (tableOf t z) j = put j m l in
-        let most : getIn (putEntry t k x) z j .parents + 2 < 4294967295 = omega (arith, p, parents-most (tableOf t z) j, long, small, few-parents) in
-        let enough : edges j (recordNode (getIn t z k)) ≤ getIn (putEntry t k x) z j .parents = omega (arith, p, old, edges-parents (tableOf t z) k j m)
-        in
+        let p : getIn (putEntry t k (wordedIn t z x)) z j .parents ≡ parents (tableOf t z) j = put j m l in
+        let most : getIn (putEntry t k (wordedIn t z x)) z j .parents + 2 < 4294967295 = omega
+        (arith, p, parents-most (tableOf t z) j, long, small, few-parents) in
+        let enough : edges j (recordNode (getIn t z k)) ≤ getIn (putEntry t k (wordedIn t z x)) z j .parents = omega
+        (arith, p, old, edges-parents (tableOf t z) k j m) in
         let moved : getIn (storeAt t z k x) z j .parents + edges j (recordNode (getIn t z k))
-        ≡ getIn (putEntry t k x) z j .parents + edges j (recordNode x)
-        = count-four (putEntry t k x) z (getIn t z k .first) (getIn t z k .second) (x .first) (x .second) j (omega (arith, held .room, length-put t k x))
+        ≡ getIn (putEntry t k (wordedIn t z x)) z j .parents + edges j (recordNode x)
+        = count-four (putEntry t k (wordedIn t z x)) z (getIn t z k .first) (getIn t z k .second) (x .first) (x .second) j
+        (omega (arith, held .room, length-put t k (wordedIn t z x)))
         m l enough (edges-most j (recordNode x)) most in
         let sets : parents (set (tableOf t z) k (recordNode x)) j + edges j (node (tableOf t z) k)
         ≡ parents (tableOf t z) j + edges j (recordNode x) = parents-set (tableOf t z) k j (recordNode x) (omega (arith, long, h)) in
         let e : getIn (storeAt t z k x) z j .parents ≡ parents (set (tableOf t z) k (recordNode x)) j = omega (arith, p, old, moved, sets) in
         e ∙ ap (λ (u : List Node). parents u j) (sym (store-table t z k x n h))
+
+    said : (j : ℕ) → (j ≡ 0 → ⊥) → j ≤ z → (getIn (storeAt t z k x) z j .level ≡ 0 → ⊥) → RightAt (getIn (storeAt t z k x) z) j
+    said j m l real = right-bare (getIn (storeAt t z k x) z) (getIn (putEntry t k (wordedIn t z x)) z) (bare-store t z k x (held .room)) j
+        (right-put t z k x (held .room) n h p q (no-child t z k held n h none) j (λ d. held .words j m l (λ e. real
+        (ap (λ (y : NodeRecord). y .level) (bare-store t z k x (held .room) j ∙ ap bare (get-other t z k j (wordedIn t z x) d)) ∙ e))))
 
 -- ---- Clearing --------------------------------------------------------------------------------
 
@@ -286,15 +396,22 @@ clear-table t z h =
     ∙ map-replicate recordNode (min z (length t)) noRecord
     ∙ ap (λ (k : ℕ). replicate k noNode) e)
 
--- In a cleared table the counts are right.
+-- In a cleared table they are true.
 pub held-clear : (t : List NodeRecord) (z : ℕ) → z ≤ length t → Held (clearTo noRecord t z) z
-held-clear t z h = record { room = omega (arith, h, length-clear t z); counts = right }
+held-clear t z h = record {
+  room = omega (arith, h, length-clear t z);
+  counts = right;
+  words = λ k n l real. absurd (real (ap (λ (x : NodeRecord). x .level) (none k n l)));
+}
   where
-    right : (k : ℕ) → (k ≡ 0 → ⊥) → k ≤ z → getIn (clearTo noRecord t z) z k .parents ≡ parents (tableOf (clearTo noRecord t z) z) k
-    right k n l =
+    none : (k : ℕ) → (k ≡ 0 → ⊥) → k ≤ z → getIn (clearTo noRecord t z) z k ≡ noRecord
+    none k n l =
         let i : k - 1 < length (replicate (min z (length t)) noRecord) = omega (arith, clear-room t z h, n, l) in
         let j : k - 1 < min z (length t) = omega (arith, h, n, l) in
-        ap (λ (x : NodeRecord). x .parents) (sym (get-here (clearTo noRecord t z) z k n l))
-        ∙ ap (λ (a : NodeRecord). a .parents) (List·getD-append (replicate (min z (length t)) noRecord) (drop z t) noRecord (k - 1) i
-        ∙ getD-replicate (min z (length t)) (k - 1) noRecord noRecord j)
+        sym (get-here (clearTo noRecord t z) z k n l)
+        ∙ List·getD-append (replicate (min z (length t)) noRecord) (drop z t) noRecord (k - 1) i
+        ∙ getD-replicate (min z (length t)) (k - 1) noRecord noRecord j
+
+    right : (k : ℕ) → (k ≡ 0 → ⊥) → k ≤ z → getIn (clearTo noRecord t z) z k .parents ≡ parents (tableOf (clearTo noRecord t z) z) k
+    right k n l = ap (λ (x : NodeRecord). x .parents) (none k n l)
         ∙ sym (ap (λ (u : List Node). parents u k) (clear-table t z h) ∙ parents-fresh (suc z) k n)

@@ -3,6 +3,7 @@ ghost use mathlib.Core.Path.{_≡_};
 ghost use Rattle.work_table.specs.Table.{getIn, countedTo, countedRecord, countAt, storeAt};
 use node_records::NodeRecord;
 use node_records::no_record;
+use node_records::with_words;
 use record_tables::get_record;
 use record_tables::put_record;
 
@@ -39,6 +40,8 @@ fn counted(x: NodeRecord, more: bool) -> NodeRecord
         complement: x.complement,
         stamp: x.stamp,
         parents: count_of(x.parents, more),
+        admits: x.admits,
+        refuses: x.refuses,
     }
 }
 
@@ -51,12 +54,13 @@ fn count(t: &mut [NodeRecord], z: u32, k: u32, more: bool)
     }
 }
 
-// The number k is given to the record x.
+// The number k is given to the record x, which gets what its children say of the words below.
 pub fn store(t: &mut [NodeRecord], z: u32, k: u32, x: NodeRecord)
     ensures { λ _. ⌜ now (t .exit) ≡ storeAt (now (t .entry)) z k x ⌝ }
 {
     let old = get(t, z, k);
-    put_record(t, k, x);
+    let y = with_words(x, get(t, z, x.first), get(t, z, x.second));
+    put_record(t, k, y);
     count(t, z, old.first, false);
     count(t, z, old.second, false);
     count(t, z, x.first, true);

@@ -1,5 +1,5 @@
 -- Generated: what callers cite of next_block.
--- From 28e99fe23ec52091, as d4292ea779adde04.
+-- From 71391a4dd03baf5b, as d4292ea779adde04.
 use Rattle.blocks.proofs.Block
 use Rattle.blocks.proofs.Block.Laws
 use Rattle.node_records.proofs.Tables.NodeRecord as NodeRecordT

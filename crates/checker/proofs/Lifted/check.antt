@@ -1,5 +1,5 @@
 -- Generated: what callers cite of check.
--- From 63d72f6f0770cf76, as 50c2c5557cae8864.
+-- From 81b96f92f05e5f86, as 50c2c5557cae8864.
 use Rattle.checker.proofs.Checking
 use Rattle.checker.proofs.Checking.Laws
 use Rattle.node_records.proofs.Tables.NodeRecord as NodeRecordT

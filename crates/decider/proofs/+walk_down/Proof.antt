@@ -10,7 +10,7 @@ use borrow.Fn.PlainCycle.{Measures, is, falls, and}
 use Rattle.theory_reading.specs.Calls.{verdictOf}
 use Rattle.theory_reading.specs.Deciding.{options}
 use Rattle.work_table.specs.TableLaws.{tableOf}
-use Rattle.decider.specs.WalkLaws.{walk-terminal, walk-over, walk-low, walk-high}
+use Rattle.work_table.specs.WalkLaws.{walk-terminal, walk-over, walk-low, walk-high}
 use borrow.Author.Needs.{needs}
 use Rattle.decider.proofs.+walk_down.{statement}
 use Rattle.decider.proofs.+walk_down.Proof.Tie.{close}

@@ -1,5 +1,5 @@
 -- Generated: what callers cite of decide.
--- From 1ebb1372e730ab7b, as b10020fd486763b0.
+-- From db5e741eb581e789, as b10020fd486763b0.
 use Rattle.decider.proofs.Deciding
 use Rattle.decider.proofs.Deciding.Laws
 use Rattle.node_records.proofs.Tables.NodeRecord as NodeRecordT

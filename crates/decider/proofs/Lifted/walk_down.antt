@@ -1,5 +1,5 @@
 -- Generated: what callers cite of walk_down.
--- From 1ebb1372e730ab7b, as ac93e68fc56f6463.
+-- From db5e741eb581e789, as ac93e68fc56f6463.
 use Rattle.decider.proofs.Verdict
 use Rattle.decider.proofs.Verdict.Laws
 use Rattle.node_records.proofs.Edge

@@ -1,5 +1,5 @@
 -- Generated: what callers cite of word_at.
--- From 1ebb1372e730ab7b, as 32424e28fd57fb5f.
+-- From db5e741eb581e789, as 32424e28fd57fb5f.
 use Rattle.decider.proofs.Verdict
 use Rattle.decider.proofs.Verdict.Laws
 use Rattle.node_records.proofs.Tables.NodeRecord as NodeRecordT

@@ -1,5 +1,5 @@
 -- Generated: what callers cite of fill.
--- From 5323325ea17b17bb, as 694380fcd722a84c.
+-- From f6531645029ebcc1, as 694380fcd722a84c.
 use Rattle.filler.proofs.Filling
 use Rattle.filler.proofs.Filling.Laws
 use Rattle.node_records.proofs.Tables.NodeRecord as NodeRecordT

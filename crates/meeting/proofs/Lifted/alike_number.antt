@@ -1,5 +1,5 @@
 -- Generated: what callers cite of alike_number.
--- From 829506afb8e8d79e, as 0c92b8a6897a25ef.
+-- From cbbf837f6d54603c, as 0c92b8a6897a25ef.
 use Rattle.meeting.proofs.Half
 use Rattle.meeting.proofs.Half.Laws
 use Rattle.node_records.proofs.Tables.WriterRecord as WriterRecordT

@@ -1,5 +1,5 @@
 -- Generated: what callers cite of give.
--- From 829506afb8e8d79e, as c0b2eac9535f7a37.
+-- From cbbf837f6d54603c, as c0b2eac9535f7a37.
 use Rattle.meeting.proofs.Half
 use Rattle.meeting.proofs.Half.Laws
 use Rattle.meeting.proofs.Progress

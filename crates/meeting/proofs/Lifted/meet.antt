@@ -1,5 +1,5 @@
 -- Generated: what callers cite of meet.
--- From 829506afb8e8d79e, as 94dd884ebe80d30e.
+-- From cbbf837f6d54603c, as 94dd884ebe80d30e.
 use Rattle.meeting.proofs.Half
 use Rattle.meeting.proofs.Half.Laws
 use Rattle.meeting.proofs.Progress

@@ -1,5 +1,5 @@
 -- Generated: the record NodeRecord as the element of a lent slice.
--- From 406e085bb27e047f, as 36f73f76f6278228.
+-- From e7659091a73d15ca, as e4c970c3f8143744.
 use borrow.Fn.Kinds
 use borrow.Kind.Value
 use borrow.Rule.Local
@@ -29,7 +29,7 @@ abbrev pub behind : Syntax.Ty
 behind = Memory.pointee (Own.the-row .written)
 
 abbrev pub default : Value′.NodeRecord
-default = record { level = 0; first = 0; second = 0; complement = 0; stamp = 0; parents = 0 }
+default = record { level = 0; first = 0; second = 0; complement = 0; stamp = 0; parents = 0; admits = 0; refuses = 0 }
 
 abbrev pub whole : Row.Row
 whole = Rows.whole row

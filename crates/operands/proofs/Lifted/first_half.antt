@@ -1,5 +1,5 @@
 -- Generated: what callers cite of first_half.
--- From c96b3483c86718f2, as 9f2d24c9e9fe47e3.
+-- From 0209d886595e68de, as 9f2d24c9e9fe47e3.
 use Rattle.blocks.proofs.Block
 use Rattle.blocks.proofs.Block.Laws
 use Rattle.node_records.proofs.Tables.NodeRecord as NodeRecordT

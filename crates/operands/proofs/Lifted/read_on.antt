@@ -1,5 +1,5 @@
 -- Generated: what callers cite of read_on.
--- From c96b3483c86718f2, as ab06fa62ef1bb76b.
+-- From 0209d886595e68de, as ab06fa62ef1bb76b.
 use Rattle.blocks.proofs.Block
 use Rattle.blocks.proofs.Block.Laws
 use Rattle.node_records.proofs.Tables.NodeRecord as NodeRecordT

@@ -1,5 +1,5 @@
 -- Generated: what callers cite of second_operand.
--- From c96b3483c86718f2, as 4c8ac3d5a9a46877.
+-- From 0209d886595e68de, as 4c8ac3d5a9a46877.
 use Rattle.blocks.proofs.Block
 use Rattle.blocks.proofs.Block.Laws
 use Rattle.node_records.proofs.Tables.NodeRecord as NodeRecordT

@@ -1,5 +1,5 @@
 -- Generated: what callers cite of iterate.
--- From 8a511ed7e7f2e43d, as cafb03adc92754ba.
+-- From 9ee42f47e9b6bdb7, as cafb03adc92754ba.
 use Rattle.elements.proofs.Open
 use Rattle.elements.proofs.Open.Laws
 use Rattle.node_records.proofs.Tables.NodeRecord as NodeRecordT

@@ -1,5 +1,5 @@
 -- Generated: what callers cite of read_on.
--- From 8a511ed7e7f2e43d, as 1be2582a82b695fc.
+-- From 9ee42f47e9b6bdb7, as 1be2582a82b695fc.
 use Rattle.node_records.proofs.Tables.NodeRecord as NodeRecordT
 use Rattle.reader.proofs.Cursor
 use Rattle.reader.proofs.Cursor.Laws

@@ -1,5 +1,5 @@
 -- Generated: what callers cite of run_on.
--- From 8a511ed7e7f2e43d, as 0e528a21febe38bc.
+-- From 9ee42f47e9b6bdb7, as 0e528a21febe38bc.
 use Rattle.node_records.proofs.Tables.NodeRecord as NodeRecordT
 use Rattle.reader.proofs.Reached
 use Rattle.reader.proofs.Reached.Laws

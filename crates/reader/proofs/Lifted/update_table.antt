@@ -1,5 +1,5 @@
 -- Generated: what callers cite of update_table.
--- From 8a511ed7e7f2e43d, as a16bc0c31bca255f.
+-- From 9ee42f47e9b6bdb7, as a16bc0c31bca255f.
 use Rattle.node_records.proofs.NodeRecord
 use Rattle.node_records.proofs.NodeRecord.Laws
 use Rattle.node_records.proofs.Tables.NodeRecord as NodeRecordT

@@ -1,5 +1,5 @@
 -- Generated: what callers cite of clear_writer_records.
--- From d7a7898001502198, as b8ee5f15e44f2e9a.
+-- From eca6a65df644a89c, as b8ee5f15e44f2e9a.
 use Rattle.node_records.proofs.Tables.WriterRecord as WriterRecordT
 use borrow.Fn.Kinds
 use borrow.Kind.MutSlice

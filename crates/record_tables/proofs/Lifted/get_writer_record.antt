@@ -1,5 +1,5 @@
 -- Generated: what callers cite of get_writer_record.
--- From d7a7898001502198, as 745925c79f004a46.
+-- From eca6a65df644a89c, as 745925c79f004a46.
 use Rattle.node_records.proofs.Tables.WriterRecord as WriterRecordT
 use borrow.Fn.Kinds
 use borrow.Kind.ShrSlice

@@ -1,5 +1,5 @@
 -- Generated: what callers cite of bucket_insert.
--- From e1bec613391eec56, as 6e54c3be5a627f1d.
+-- From ad3273883a0cd883, as 6e54c3be5a627f1d.
 use Rattle.node_records.proofs.Tables.WriterRecord as WriterRecordT
 use borrow.Fn.Kinds
 use borrow.Kind.MutSlice

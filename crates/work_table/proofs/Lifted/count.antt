@@ -1,5 +1,5 @@
 -- Generated: what callers cite of count.
--- From 82c50cd2a59a6be4, as 8b771bca0af39523.
+-- From bf5d1afb4f82fee3, as 8b771bca0af39523.
 use Rattle.node_records.proofs.Tables.NodeRecord as NodeRecordT
 use borrow.Fn.Kinds
 use borrow.Kind.MutSlice

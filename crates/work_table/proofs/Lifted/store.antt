@@ -1,5 +1,5 @@
 -- Generated: what callers cite of store.
--- From 82c50cd2a59a6be4, as 02607af4ba8ead46.
+-- From bf5d1afb4f82fee3, as 02607af4ba8ead46.
 use Rattle.node_records.proofs.NodeRecord
 use Rattle.node_records.proofs.NodeRecord.Laws
 use Rattle.node_records.proofs.Tables.NodeRecord as NodeRecordT

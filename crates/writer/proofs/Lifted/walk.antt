@@ -1,5 +1,5 @@
 -- Generated: what callers cite of walk.
--- From 96e9cd744a7ff944, as 8c2ee719e8b5d002.
+-- From 1b3cca3231d934c7, as 8c2ee719e8b5d002.
 use Rattle.meeting.proofs.Progress
 use Rattle.meeting.proofs.Progress.Laws
 use Rattle.meeting.proofs.Walked

@@ -1,5 +1,5 @@
 -- Generated: the derivation of a body.
--- From 5f16bb0f6d510e29, as 999583dc7237fdae.
+-- From 8a00f2b1f4d6cf99, as f7fb4756f14c08b4.
 use Prim.Native.Nat
 use Rattle.edges.proofs.TableEdge
 use Rattle.edges.proofs.TableEdge.Laws
@@ -79,7 +79,8 @@ abbrev y0 : Syntax.Ty
 y0 = Syntax.tyInt Syntax.w32
 abbrev y1 : Syntax.Ty
 y1 = Syntax.tyStruct (110 ∷ 111 ∷ 100 ∷ 101 ∷ 95 ∷ 114 ∷ 101 ∷ 99 ∷ 111 ∷ 114 ∷ 100 ∷ 115 ∷ 58 ∷ 58 ∷ 78 ∷ 111 ∷ 100 ∷ 101 ∷ 82 ∷ 101 ∷ 99 ∷ 111 ∷ 114 ∷ 100 ∷
-    []) (Syntax.tcons y0 (Syntax.tcons y0 (Syntax.tcons y0 (Syntax.tcons y0 (Syntax.tcons y0 (Syntax.tcons y0 Syntax.tnil))))))
+    []) (Syntax.tcons y0 (Syntax.tcons y0 (Syntax.tcons y0 (Syntax.tcons y0 (Syntax.tcons y0 (Syntax.tcons y0 (Syntax.tcons y0 (Syntax.tcons y0
+    Syntax.tnil))))))))
 abbrev y2 : Syntax.Ty
 y2 = Syntax.tyStruct (111 ∷ 112 ∷ 101 ∷ 114 ∷ 97 ∷ 116 ∷ 105 ∷ 111 ∷ 110 ∷ 95 ∷ 99 ∷ 97 ∷ 99 ∷ 104 ∷ 101 ∷ 58 ∷ 58 ∷ 75 ∷ 101 ∷ 121 ∷ []) (Syntax.tcons y0
     (Syntax.tcons y0 (Syntax.tcons y0 (Syntax.tcons y0 (Syntax.tcons y0 (Syntax.tcons y0 Syntax.tnil))))))

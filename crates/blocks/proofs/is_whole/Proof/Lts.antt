@@ -1,5 +1,5 @@
 -- Generated: the derivation of a body.
--- From 28e99fe23ec52091, as 894d9a09381f4bde.
+-- From 71391a4dd03baf5b, as d893f1db6a54eed4.
 use Prim.Native.Nat
 use Rattle.elements.proofs.Context
 use Rattle.elements.proofs.Context.Laws
@@ -90,7 +90,8 @@ y5 = Syntax.tyStruct (114 ∷ 101 ∷ 97 ∷ 100 ∷ 101 ∷ 114 ∷ 58 ∷ 58 �
     (Syntax.tcons y0 (Syntax.tcons y4 (Syntax.tcons Syntax.tyBool Syntax.tnil)))))))
 abbrev y6 : Syntax.Ty
 y6 = Syntax.tyStruct (110 ∷ 111 ∷ 100 ∷ 101 ∷ 95 ∷ 114 ∷ 101 ∷ 99 ∷ 111 ∷ 114 ∷ 100 ∷ 115 ∷ 58 ∷ 58 ∷ 78 ∷ 111 ∷ 100 ∷ 101 ∷ 82 ∷ 101 ∷ 99 ∷ 111 ∷ 114 ∷ 100 ∷
-    []) (Syntax.tcons y0 (Syntax.tcons y0 (Syntax.tcons y0 (Syntax.tcons y0 (Syntax.tcons y0 (Syntax.tcons y0 Syntax.tnil))))))
+    []) (Syntax.tcons y0 (Syntax.tcons y0 (Syntax.tcons y0 (Syntax.tcons y0 (Syntax.tcons y0 (Syntax.tcons y0 (Syntax.tcons y0 (Syntax.tcons y0
+    Syntax.tnil))))))))
 abbrev y7 : Syntax.Ty
 y7 = Syntax.tyRef (Syntax.named 0) Syntax.imm NodeRecordT.behind
 abbrev y8 : Syntax.Ty

@@ -1,5 +1,5 @@
 -- Generated: the needs of is_whole at its contract, and how its theorem closes.
--- From 28e99fe23ec52091, as 29617e4edd7fc3e7.
+-- From 71391a4dd03baf5b, as 29617e4edd7fc3e7.
 use borrow.Fn.Run
 use borrow.Fn.Written
 use contract.Running.{givenOf, tablesOf}

@@ -1,5 +1,5 @@
 -- Generated: the derivation of a body.
--- From 28e99fe23ec52091, as 20e0008c54bbbd7d.
+-- From 71391a4dd03baf5b, as 20e0008c54bbbd7d.
 use Prim.Native.Nat
 use Rattle.blocks.proofs.Block
 use Rattle.blocks.proofs.Block.Laws

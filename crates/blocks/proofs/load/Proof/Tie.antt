@@ -1,5 +1,5 @@
 -- Generated: the needs of load at its contract, and how its theorem closes.
--- From 28e99fe23ec52091, as 02ed3f81d1f0bd0a.
+-- From 71391a4dd03baf5b, as 02ed3f81d1f0bd0a.
 use borrow.Fn.Run
 use borrow.Fn.Written
 use contract.Running.{givenOf, tablesOf}

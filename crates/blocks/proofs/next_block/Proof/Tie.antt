@@ -1,5 +1,5 @@
 -- Generated: the needs of next_block at its contract, and how its theorem closes.
--- From 28e99fe23ec52091, as 0ac61af526c668b2.
+-- From 71391a4dd03baf5b, as 0ac61af526c668b2.
 use borrow.Fn.Run
 use borrow.Fn.Written
 use contract.Running.{givenOf, tablesOf}

@@ -1,5 +1,5 @@
 -- Generated: the derivation of a body.
--- From 63d72f6f0770cf76, as 3cf0db9d37652b7e.
+-- From 81b96f92f05e5f86, as 3cf0db9d37652b7e.
 use Prim.Native.Nat
 use Rattle.checker.proofs.Checking
 use Rattle.checker.proofs.Checking.Laws

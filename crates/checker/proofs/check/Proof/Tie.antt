@@ -1,5 +1,5 @@
 -- Generated: the needs of check at its contract, and how its theorem closes.
--- From 63d72f6f0770cf76, as 40e8c590c6fefda5.
+-- From 81b96f92f05e5f86, as 40e8c590c6fefda5.
 use borrow.Fn.Run
 use borrow.Fn.Written
 use contract.Running.{givenOf, tablesOf}

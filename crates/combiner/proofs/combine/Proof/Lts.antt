@@ -1,5 +1,5 @@
 -- Generated: the derivation of a body.
--- From 53e075ab766def62, as 490ad490e083beef.
+-- From 185595387c5a0c0f, as 490ad490e083beef.
 use Prim.Native.Nat
 use Rattle.blocks.proofs.Loaded
 use Rattle.blocks.proofs.Loaded.Laws

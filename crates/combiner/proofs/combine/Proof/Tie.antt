@@ -1,5 +1,5 @@
 -- Generated: the needs of combine at its contract, and how its theorem closes.
--- From 53e075ab766def62, as 48a6d7fe7779f0ac.
+-- From 185595387c5a0c0f, as 48a6d7fe7779f0ac.
 use borrow.Fn.Run
 use borrow.Fn.Written
 use contract.Running.{givenOf, tablesOf}

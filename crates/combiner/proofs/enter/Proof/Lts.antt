@@ -1,5 +1,5 @@
 -- Generated: the derivation of a body.
--- From 53e075ab766def62, as 489713826c202711.
+-- From 185595387c5a0c0f, as 489713826c202711.
 use Prim.Native.Nat
 use Rattle.blocks.proofs.Block
 use Rattle.blocks.proofs.Block.Laws

@@ -1,5 +1,5 @@
 -- Generated: the derivation of a body.
--- From 1ebb1372e730ab7b, as 71d8a598b472b915.
+-- From db5e741eb581e789, as 08c7e9f0740990df.
 use Prim.Native.Nat
 use Rattle.decider.proofs.Verdict
 use Rattle.decider.proofs.Verdict.Laws
@@ -66,7 +66,8 @@ abbrev y0 : Syntax.Ty
 y0 = Syntax.tyInt Syntax.w32
 abbrev y1 : Syntax.Ty
 y1 = Syntax.tyStruct (110 ∷ 111 ∷ 100 ∷ 101 ∷ 95 ∷ 114 ∷ 101 ∷ 99 ∷ 111 ∷ 114 ∷ 100 ∷ 115 ∷ 58 ∷ 58 ∷ 78 ∷ 111 ∷ 100 ∷ 101 ∷ 82 ∷ 101 ∷ 99 ∷ 111 ∷ 114 ∷ 100 ∷
-    []) (Syntax.tcons y0 (Syntax.tcons y0 (Syntax.tcons y0 (Syntax.tcons y0 (Syntax.tcons y0 (Syntax.tcons y0 Syntax.tnil))))))
+    []) (Syntax.tcons y0 (Syntax.tcons y0 (Syntax.tcons y0 (Syntax.tcons y0 (Syntax.tcons y0 (Syntax.tcons y0 (Syntax.tcons y0 (Syntax.tcons y0
+    Syntax.tnil))))))))
 abbrev y2 : Syntax.Ty
 y2 = Syntax.tyInt Syntax.w64
 abbrev y3 : Syntax.Ty

@@ -1,5 +1,5 @@
 -- Generated: the derivation of a body.
--- From 1ebb1372e730ab7b, as 60238eb4be7eaeb7.
+-- From db5e741eb581e789, as 60238eb4be7eaeb7.
 use Prim.Native.Nat
 use Rattle.checker.proofs.Refusal
 use Rattle.checker.proofs.Refusal.Laws

@@ -1,5 +1,5 @@
 -- Generated: the needs of decide at its contract, and how its theorem closes.
--- From 1ebb1372e730ab7b, as 5110386adc0870a9.
+-- From db5e741eb581e789, as 5110386adc0870a9.
 use borrow.Fn.Run
 use borrow.Fn.Written
 use contract.Running.{givenOf, tablesOf}

@@ -1,5 +1,5 @@
 -- Generated: the derivation of a body.
--- From 1ebb1372e730ab7b, as 4a02790e721bb980.
+-- From db5e741eb581e789, as 4a02790e721bb980.
 use Prim.Native.Nat
 use Rattle.decider.proofs.Verdict
 use Rattle.decider.proofs.Verdict.Laws

@@ -1,5 +1,5 @@
 -- Generated: the needs of rule_combine at its contract, and how its theorem closes.
--- From 8b812be87fdbf484, as 30b7ffad4f501c26.
+-- From fad99c51fa1825a7, as 30b7ffad4f501c26.
 use borrow.Fn.Run
 use borrow.Fn.Written
 use contract.Running.{givenOf, tablesOf}

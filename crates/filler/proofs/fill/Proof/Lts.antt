@@ -1,5 +1,5 @@
 -- Generated: the derivation of a body.
--- From 5323325ea17b17bb, as d43e030a8eaa6fe1.
+-- From f6531645029ebcc1, as d43e030a8eaa6fe1.
 use Prim.Native.Nat
 use Rattle.checker.proofs.Refusal
 use Rattle.checker.proofs.Refusal.Laws

@@ -1,5 +1,5 @@
 -- Generated: the needs of fill at its contract, and how its theorem closes.
--- From 5323325ea17b17bb, as 667c35cce546ed1f.
+-- From f6531645029ebcc1, as 667c35cce546ed1f.
 use borrow.Fn.Run
 use borrow.Fn.Written
 use contract.Running.{givenOf, tablesOf}

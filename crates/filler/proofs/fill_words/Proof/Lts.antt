@@ -1,5 +1,5 @@
 -- Generated: the derivation of a body.
--- From 5323325ea17b17bb, as 9a3d2b8fa220687c.
+-- From f6531645029ebcc1, as 9a3d2b8fa220687c.
 use Prim.Native.Nat
 use Rattle.elements.proofs.Context
 use Rattle.elements.proofs.Context.Laws

@@ -1,5 +1,5 @@
 -- Generated: the needs of fill_words at its contract, and how its theorem closes.
--- From 5323325ea17b17bb, as 67b5e952d69c218a.
+-- From f6531645029ebcc1, as 67b5e952d69c218a.
 use borrow.Fn.Run
 use borrow.Fn.Written
 use contract.Running.{givenOf, tablesOf}

@@ -1,5 +1,5 @@
 -- Generated: the derivation of a body.
--- From 7fbb203811fee7fd, as 20e8fa6842fd7cbd.
+-- From 0c52cd1f2588af46, as 20e8fa6842fd7cbd.
 use Prim.Native.Nat
 use Rattle.c_answers.proofs.RuleChecked
 use Rattle.c_answers.proofs.RuleChecked.Laws

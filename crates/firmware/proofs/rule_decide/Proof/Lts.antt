@@ -1,5 +1,5 @@
 -- Generated: the derivation of a body.
--- From 7fbb203811fee7fd, as 8388502530452e82.
+-- From 0c52cd1f2588af46, as 8388502530452e82.
 use Prim.Native.Nat
 use Rattle.c_answers.proofs.RuleDecided
 use Rattle.c_answers.proofs.RuleDecided.Laws

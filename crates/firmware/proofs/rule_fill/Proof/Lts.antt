@@ -1,5 +1,5 @@
 -- Generated: the derivation of a body.
--- From 7fbb203811fee7fd, as c4e5f306202c1b75.
+-- From 0c52cd1f2588af46, as c4e5f306202c1b75.
 use Prim.Native.Nat
 use Rattle.c_answers.proofs.RuleFilled
 use Rattle.c_answers.proofs.RuleFilled.Laws

@@ -1,5 +1,5 @@
 -- Generated: the derivation of a body.
--- From 30f8799abca49456, as 76294037d6738c39.
+-- From e4aa2fca922e7372, as 76294037d6738c39.
 use Prim.Native.Nat
 use Rattle.meeting.proofs.Writing
 use Rattle.meeting.proofs.Writing.Laws

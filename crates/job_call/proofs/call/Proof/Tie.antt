@@ -1,5 +1,5 @@
 -- Generated: the needs of call at its contract, and how its theorem closes.
--- From 30f8799abca49456, as aa70cfabb3e33cf4.
+-- From e4aa2fca922e7372, as aa70cfabb3e33cf4.
 use borrow.Fn.Run
 use borrow.Fn.Written
 use contract.Running.{givenOf, tablesOf}

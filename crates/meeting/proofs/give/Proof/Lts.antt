@@ -1,5 +1,5 @@
 -- Generated: the derivation of a body.
--- From 829506afb8e8d79e, as 7320ea13d23ea94c.
+-- From cbbf837f6d54603c, as 7320ea13d23ea94c.
 use Prim.Native.Nat
 use Rattle.meeting.proofs.Half
 use Rattle.meeting.proofs.Half.Laws

@@ -1,5 +1,5 @@
 -- Generated: the needs of give at its contract, and how its theorem closes.
--- From 829506afb8e8d79e, as eccf619adec05880.
+-- From cbbf837f6d54603c, as eccf619adec05880.
 use borrow.Fn.Run
 use borrow.Fn.Written
 use contract.Running.{givenOf, tablesOf}

@@ -1,5 +1,5 @@
 -- Generated: the derivation of a body.
--- From 829506afb8e8d79e, as 814fb6290b9cad17.
+-- From cbbf837f6d54603c, as 814fb6290b9cad17.
 use Prim.Native.Nat
 use Rattle.meeting.proofs.Half
 use Rattle.meeting.proofs.Half.Laws

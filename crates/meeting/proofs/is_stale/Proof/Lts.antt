@@ -1,5 +1,5 @@
 -- Generated: the derivation of a body.
--- From 829506afb8e8d79e, as 4ea27fbe683977c7.
+-- From cbbf837f6d54603c, as 4ea27fbe683977c7.
 use Prim.Native.Nat
 use Rattle.meeting.proofs.Half
 use Rattle.meeting.proofs.Half.Laws

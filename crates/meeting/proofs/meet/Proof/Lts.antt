@@ -1,5 +1,5 @@
 -- Generated: the derivation of a body.
--- From 829506afb8e8d79e, as 96d69a5d4536d80e.
+-- From cbbf837f6d54603c, as 96d69a5d4536d80e.
 use Prim.Native.Nat
 use Rattle.meeting.proofs.Half
 use Rattle.meeting.proofs.Half.Laws

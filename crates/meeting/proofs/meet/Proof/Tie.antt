@@ -1,5 +1,5 @@
 -- Generated: the needs of meet at its contract, and how its theorem closes.
--- From 829506afb8e8d79e, as dd7ac5e3c882aca1.
+-- From cbbf837f6d54603c, as dd7ac5e3c882aca1.
 use borrow.Fn.Run
 use borrow.Fn.Written
 use contract.Running.{givenOf, tablesOf}

@@ -1,5 +1,5 @@
 -- Generated: the needs of second at its contract, and how its theorem closes.
--- From 829506afb8e8d79e, as bddb3a71f56e5500.
+-- From cbbf837f6d54603c, as bddb3a71f56e5500.
 use borrow.Fn.Run
 use borrow.Fn.Written
 use contract.Running.{givenOf, tablesOf}

@@ -1,5 +1,5 @@
 -- Generated: the needs of begin at its contract, and how its theorem closes.
--- From c96b3483c86718f2, as 9bb74a9d1e915609.
+-- From 0209d886595e68de, as 9bb74a9d1e915609.
 use borrow.Fn.Run
 use borrow.Fn.Written
 use contract.Running.{givenOf, tablesOf}

@@ -1,5 +1,5 @@
 -- Generated: the derivation of a body.
--- From 8a511ed7e7f2e43d, as 23c504759f17bea3.
+-- From 9ee42f47e9b6bdb7, as 49489043343f635c.
 use Prim.Native.Nat
 use Rattle.elements.proofs.Context
 use Rattle.elements.proofs.Context.Laws
@@ -88,7 +88,8 @@ y3 = Syntax.tyStruct (114 ∷ 101 ∷ 97 ∷ 100 ∷ 101 ∷ 114 ∷ 58 ∷ 58 �
     Syntax.tnil)))
 abbrev y4 : Syntax.Ty
 y4 = Syntax.tyStruct (110 ∷ 111 ∷ 100 ∷ 101 ∷ 95 ∷ 114 ∷ 101 ∷ 99 ∷ 111 ∷ 114 ∷ 100 ∷ 115 ∷ 58 ∷ 58 ∷ 78 ∷ 111 ∷ 100 ∷ 101 ∷ 82 ∷ 101 ∷ 99 ∷ 111 ∷ 114 ∷ 100 ∷
-    []) (Syntax.tcons y1 (Syntax.tcons y1 (Syntax.tcons y1 (Syntax.tcons y1 (Syntax.tcons y1 (Syntax.tcons y1 Syntax.tnil))))))
+    []) (Syntax.tcons y1 (Syntax.tcons y1 (Syntax.tcons y1 (Syntax.tcons y1 (Syntax.tcons y1 (Syntax.tcons y1 (Syntax.tcons y1 (Syntax.tcons y1
+    Syntax.tnil))))))))
 abbrev y5 : Syntax.Ty
 y5 = Syntax.tyRef (Syntax.named 0) Syntax.imm NodeRecordT.behind
 abbrev y6 : Syntax.Ty

@@ -1,5 +1,5 @@
 -- Generated: the needs of barred at its contract, and how its theorem closes.
--- From 8a511ed7e7f2e43d, as f7857992d9cdac8e.
+-- From 9ee42f47e9b6bdb7, as f7857992d9cdac8e.
 use borrow.Fn.Run
 use borrow.Fn.Written
 use contract.Running.{givenOf, tablesOf}

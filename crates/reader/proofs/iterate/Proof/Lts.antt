@@ -1,5 +1,5 @@
 -- Generated: the derivation of a body.
--- From 8a511ed7e7f2e43d, as 0143190a4fbeef68.
+-- From 9ee42f47e9b6bdb7, as 7059245db7f5a62d.
 use Prim.Native.Nat
 use Rattle.elements.proofs.Cause
 use Rattle.elements.proofs.Cause.Laws
@@ -130,7 +130,8 @@ y9 = Syntax.tyEnum (101 ∷ 108 ∷ 101 ∷ 109 ∷ 101 ∷ 110 ∷ 116 ∷ 115 
     y3 Syntax.tnil) (Syntax.ttcons Syntax.tnil Syntax.ttnil)))))))
 abbrev y10 : Syntax.Ty
 y10 = Syntax.tyStruct (110 ∷ 111 ∷ 100 ∷ 101 ∷ 95 ∷ 114 ∷ 101 ∷ 99 ∷ 111 ∷ 114 ∷ 100 ∷ 115 ∷ 58 ∷ 58 ∷ 78 ∷ 111 ∷ 100 ∷ 101 ∷ 82 ∷ 101 ∷ 99 ∷ 111 ∷ 114 ∷ 100
-    ∷ []) (Syntax.tcons y3 (Syntax.tcons y3 (Syntax.tcons y3 (Syntax.tcons y3 (Syntax.tcons y3 (Syntax.tcons y3 Syntax.tnil))))))
+    ∷ []) (Syntax.tcons y3 (Syntax.tcons y3 (Syntax.tcons y3 (Syntax.tcons y3 (Syntax.tcons y3 (Syntax.tcons y3 (Syntax.tcons y3 (Syntax.tcons y3
+    Syntax.tnil))))))))
 abbrev y11 : Syntax.Ty
 y11 = Syntax.tyStruct (114 ∷ 101 ∷ 97 ∷ 100 ∷ 101 ∷ 114 ∷ 58 ∷ 58 ∷ 80 ∷ 97 ∷ 105 ∷ 114 ∷ []) (Syntax.tcons Syntax.tyBool (Syntax.tcons y4 (Syntax.tcons y4
     Syntax.tnil)))

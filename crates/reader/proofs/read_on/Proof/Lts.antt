@@ -1,5 +1,5 @@
 -- Generated: the derivation of a body.
--- From 8a511ed7e7f2e43d, as 5feed7e02b46a60c.
+-- From 9ee42f47e9b6bdb7, as 5feed7e02b46a60c.
 use Prim.Native.Nat
 use Rattle.elements.proofs.Cause
 use Rattle.elements.proofs.Cause.Laws

@@ -1,5 +1,5 @@
 -- Generated: the derivation of a body.
--- From 8a511ed7e7f2e43d, as 446d0b59cc00d62b.
+-- From 9ee42f47e9b6bdb7, as 446d0b59cc00d62b.
 use Prim.Native.Nat
 use Rattle.elements.proofs.Cause
 use Rattle.elements.proofs.Cause.Laws

@@ -1,5 +1,5 @@
 -- Generated: the needs of run_on at its contract, and how its theorem closes.
--- From 8a511ed7e7f2e43d, as 3bb6c35c23de01d3.
+-- From 9ee42f47e9b6bdb7, as 3bb6c35c23de01d3.
 use borrow.Fn.Run
 use borrow.Fn.Written
 use contract.Running.{givenOf, tablesOf}

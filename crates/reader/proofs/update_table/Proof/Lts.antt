@@ -1,5 +1,5 @@
 -- Generated: the derivation of a body.
--- From 8a511ed7e7f2e43d, as 8a5f5c49855fbafa.
+-- From 9ee42f47e9b6bdb7, as adc343649199b7e2.
 use Prim.Native.Nat
 use Rattle.node_records.proofs.NodeRecord
 use Rattle.node_records.proofs.NodeRecord.Laws
@@ -71,7 +71,8 @@ abbrev y3 : Syntax.Ty
 y3 = Syntax.tyInt Syntax.w32
 abbrev y4 : Syntax.Ty
 y4 = Syntax.tyStruct (110 ∷ 111 ∷ 100 ∷ 101 ∷ 95 ∷ 114 ∷ 101 ∷ 99 ∷ 111 ∷ 114 ∷ 100 ∷ 115 ∷ 58 ∷ 58 ∷ 78 ∷ 111 ∷ 100 ∷ 101 ∷ 82 ∷ 101 ∷ 99 ∷ 111 ∷ 114 ∷ 100 ∷
-    []) (Syntax.tcons y3 (Syntax.tcons y3 (Syntax.tcons y3 (Syntax.tcons y3 (Syntax.tcons y3 (Syntax.tcons y3 Syntax.tnil))))))
+    []) (Syntax.tcons y3 (Syntax.tcons y3 (Syntax.tcons y3 (Syntax.tcons y3 (Syntax.tcons y3 (Syntax.tcons y3 (Syntax.tcons y3 (Syntax.tcons y3
+    Syntax.tnil))))))))
 abbrev y5 : Syntax.Ty
 y5 = Syntax.tyRef (Syntax.named 0) Syntax.mut NodeRecordT.behind
 abbrev y6 : Syntax.Ty

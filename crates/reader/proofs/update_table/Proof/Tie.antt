@@ -1,5 +1,5 @@
 -- Generated: the needs of update_table at its contract, and how its theorem closes.
--- From 8a511ed7e7f2e43d, as 0a7c55da6beaaac8.
+-- From 9ee42f47e9b6bdb7, as 0a7c55da6beaaac8.
 use borrow.Fn.Run
 use borrow.Fn.Written
 use contract.Running.{givenOf, tablesOf}

@@ -1,5 +1,5 @@
 -- Generated: the derivation of a body.
--- From d7a7898001502198, as 938ce61c126f7a33.
+-- From eca6a65df644a89c, as 796829b4a8f17edb.
 use Prim.Native.Nat
 use Rattle.node_records.proofs.Tables.NodeRecord as NodeRecordT
 use borrow.Author.Called
@@ -121,7 +121,7 @@ b6 = Syntax.exit 1
 abbrev b7 : Syntax.Body
 b7 = Syntax.cond (Syntax.copy (Syntax.place 7 [])) b5 b6
 abbrev b8 : Syntax.Body
-b8 = Syntax.assign (Syntax.place 8 []) (Syntax.op2 (Syntax.mul Syntax.unsigned) (Syntax.copy (Syntax.place 5 [])) (Syntax.int Syntax.w64 24))
+b8 = Syntax.assign (Syntax.place 8 []) (Syntax.op2 (Syntax.mul Syntax.unsigned) (Syntax.copy (Syntax.place 5 [])) (Syntax.int Syntax.w64 32))
 abbrev b9 : Syntax.Body
 b9 = Syntax.assign (Syntax.place 9 []) (Syntax.op2 Syntax.offset (Syntax.copy (Syntax.place 1 ((Syntax.field 0) ∷ []))) (Syntax.copy (Syntax.place 8 [])))
 abbrev b10 : Syntax.Body
@@ -277,13 +277,13 @@ module _ (claims· : Claims) where
   abbrev s8 : Typed.Mo T11 → Typed.Mo T12
   s8 = Scalar.n-room T11 7 Syntax.tyBool
   abbrev s9 : Typed.Asks T9 T13
-  s9 = Scalar.k-op2 T9 (Syntax.mul Syntax.unsigned) (Scalar.oAt 5 y0 (Row.valS (Row.sInt Syntax.w64))) (Scalar.oInt Syntax.w64 24) 8 (Rows'.sc-here (Row.sInt
+  s9 = Scalar.k-op2 T9 (Syntax.mul Syntax.unsigned) (Scalar.oAt 5 y0 (Row.valS (Row.sInt Syntax.w64))) (Scalar.oInt Syntax.w64 32) 8 (Rows'.sc-here (Row.sInt
       Syntax.w64)) (Row.sInt Syntax.w64 .of)
   abbrev s10 : Typed.Asks T13 T14
   s10 = Scalar.k-op2 T13 Syntax.offset (Scalar.oFld 1 ((Syntax.field 0) ∷ []) y1 0 Reads.ptrVal) (Scalar.oAt 8 y0 (Row.valS (Row.sInt Syntax.w64))) 9
       (Rows'.sc-here Row.sPtr) (Row.sPtr .of)
   abbrev s11 : Typed.Asks T14 T15
-  s11 = Move.k-sl-set-from NodeRecordT.row T14 1 9 4 0 y1 Row.off NodeRecordT.whole (Shared.bySize 24) (λ u. u .1 .1 .1 .1 .1 .0) (λ x. x) (λ x. x) (λ x. x) λ
+  s11 = Move.k-sl-set-from NodeRecordT.row T14 1 9 4 0 y1 Row.off NodeRecordT.whole (Shared.bySize 32) (λ u. u .1 .1 .1 .1 .1 .0) (λ x. x) (λ x. x) (λ x. x) λ
       x. x
   abbrev s12 : Typed.Mo T15 → Typed.Mo T16
   s12 = Scalar.n-room T15 8 y0
@@ -466,8 +466,8 @@ module _ (claims· : Claims) where
               Syntax.w64))) d7
           d9 : Typed.Typed 𝓤 H A 𝓣 E G14 b12 Δ3 at9
           d9 = Typed.s-seq 𝓤 H A W 𝓣 E G14 G15 b10 b11 Δ3 (Typed.ask s11) at8 (Move.t-sl-set-from 𝓤 H A W E NodeRecordT.row 𝓣 Path'.refl (λ ρ. Unit) G14 1 9 4
-              0 y1 K0 NodeRecordT.value NodeRecordT.value NodeRecordT.whole (Shared.bySize 24) (λ u. u .1 .1 .1 .1 .1 .0) (λ x. x) (λ x. x) (λ x. x) (λ x. x)
-              (λ i o. Elements.at-mul o 24 i) Path'.refl Path'.refl (Own.told-none 𝓤 H A (G14 .slots)) (Reads.as-is 𝓤 H A (Mut.mslice NodeRecordT.row y1 0))
+              0 y1 K0 NodeRecordT.value NodeRecordT.value NodeRecordT.whole (Shared.bySize 32) (λ u. u .1 .1 .1 .1 .1 .0) (λ x. x) (λ x. x) (λ x. x) (λ x. x)
+              (λ i o. Elements.at-mul o 32 i) Path'.refl Path'.refl (Own.told-none 𝓤 H A (G14 .slots)) (Reads.as-is 𝓤 H A (Mut.mslice NodeRecordT.row y1 0))
               (Reads.as-is 𝓤 H A (Rows'.sc-here Row.sPtr)) (Yields.yields-copy 𝓤 H A W (λ ρ. Unit) NodeRecordT.row Path'.refl (NodeRecordT.copies .copy 𝓤 H A
               W) NodeRecordT.whole (λ x. x) (λ x. x) (λ ρ told. Local.mem-whole 𝓤 H A W NodeRecordT.row ρ) λ ρ told. Local.whole-mem 𝓤 H A W NodeRecordT.row
               ρ) Path'.refl tt Path'.refl Path'.refl) d8
@@ -478,7 +478,7 @@ module _ (claims· : Claims) where
               (Reads.room-gone 𝓤 H A Syntax.tyPtr) (Scalar.holds-sc 𝓤 H A W Row.sPtr) Path'.refl (λ u. Path'.refl) λ u. tt) d9
           d11 : Typed.Typed 𝓤 H A 𝓣 E G9 b14 Δ3 at11
           d11 = Typed.s-seq 𝓤 H A W 𝓣 E G9 G13 b8 b13 Δ3 (Typed.ask s9) at10 (Scalar.t-op2 𝓤 H A W E 𝓣 G9 (Syntax.mul Syntax.unsigned) (Scalar.oAt 5 y0
-              (Row.valS (Row.sInt Syntax.w64))) (Scalar.oInt Syntax.w64 24) 8 (Rows'.sc-here (Row.sInt Syntax.w64)) y0 (Row.valS (Row.sInt Syntax.w64))
+              (Row.valS (Row.sInt Syntax.w64))) (Scalar.oInt Syntax.w64 32) 8 (Rows'.sc-here (Row.sInt Syntax.w64)) y0 (Row.valS (Row.sInt Syntax.w64))
               (Row.sInt Syntax.w64 .of) (Scalar.reads-sc 𝓤 H A W (Row.sInt Syntax.w64), Path'.refl) tt (Reads.room-gone 𝓤 H A y0) (Scalar.holds-sc 𝓤 H A W
               (Row.sInt Syntax.w64)) Path'.refl (λ u. Path'.refl) λ u. tt) d10
           d12 : Typed.Typed 𝓤 H A 𝓣 E G8 b15 Δ3 at12

@@ -1,5 +1,5 @@
 -- Generated: the needs of clear_records at its contract, and how its theorem closes.
--- From d7a7898001502198, as 7501b2a8ecfe58bf.
+-- From eca6a65df644a89c, as 7501b2a8ecfe58bf.
 use borrow.Fn.Run
 use borrow.Fn.Written
 use contract.Running.{givenOf, tablesOf}

@@ -1,5 +1,5 @@
 -- Generated: the derivation of a body.
--- From d7a7898001502198, as f68dfcd189f57027.
+-- From eca6a65df644a89c, as f68dfcd189f57027.
 use Prim.Native.Nat
 use Rattle.node_records.proofs.Tables.WriterRecord as WriterRecordT
 use borrow.Author.Called

@@ -1,5 +1,5 @@
 -- Generated: the needs of clear_writer_records at its contract, and how its theorem closes.
--- From d7a7898001502198, as a5a774e119bd2208.
+-- From eca6a65df644a89c, as a5a774e119bd2208.
 use borrow.Fn.Run
 use borrow.Fn.Written
 use contract.Running.{givenOf, tablesOf}

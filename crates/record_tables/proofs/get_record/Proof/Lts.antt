@@ -1,5 +1,5 @@
 -- Generated: the derivation of a body.
--- From d7a7898001502198, as 66a9f3ccd0a1a6c5.
+-- From eca6a65df644a89c, as 5484fef9f3dac335.
 use Prim.Native.Nat
 use Rattle.node_records.proofs.Tables.NodeRecord as NodeRecordT
 use borrow.Author.Called
@@ -132,7 +132,7 @@ b13 = Syntax.skip
 abbrev b14 : Syntax.Body
 b14 = Syntax.cond (Syntax.copy (Syntax.place 4 [])) b12 b13
 abbrev b15 : Syntax.Body
-b15 = Syntax.assign (Syntax.place 6 []) (Syntax.op2 (Syntax.mul Syntax.unsigned) (Syntax.copy (Syntax.place 3 [])) (Syntax.int Syntax.w64 24))
+b15 = Syntax.assign (Syntax.place 6 []) (Syntax.op2 (Syntax.mul Syntax.unsigned) (Syntax.copy (Syntax.place 3 [])) (Syntax.int Syntax.w64 32))
 abbrev b16 : Syntax.Body
 b16 = Syntax.assign (Syntax.place 7 []) (Syntax.op2 Syntax.offset (Syntax.copy (Syntax.place 1 ((Syntax.field 0) ∷ []))) (Syntax.copy (Syntax.place 6 [])))
 abbrev b17 : Syntax.Body
@@ -304,13 +304,13 @@ module _ (claims· : Claims) where
   abbrev s15 : Typed.Mo T14 → Typed.Mo T19
   s15 = Scalar.n-room T14 4 Syntax.tyBool
   abbrev s16 : Typed.Asks T13 T20
-  s16 = Scalar.k-op2 T13 (Syntax.mul Syntax.unsigned) (Scalar.oAt 3 y0 (Row.valS (Row.sInt Syntax.w64))) (Scalar.oInt Syntax.w64 24) 6 (Rows'.sc-here
+  s16 = Scalar.k-op2 T13 (Syntax.mul Syntax.unsigned) (Scalar.oAt 3 y0 (Row.valS (Row.sInt Syntax.w64))) (Scalar.oInt Syntax.w64 32) 6 (Rows'.sc-here
       (Row.sInt Syntax.w64)) (Row.sInt Syntax.w64 .of)
   abbrev s17 : Typed.Asks T20 T21
   s17 = Scalar.k-op2 T20 Syntax.offset (Scalar.oFld 1 ((Syntax.field 0) ∷ []) y2 0 Reads.ptrVal) (Scalar.oAt 6 y0 (Row.valS (Row.sInt Syntax.w64))) 7
       (Rows'.sc-here Row.sPtr) (Row.sPtr .of)
   abbrev s18 : Typed.Both T21 T22
-  s18 = Move.k-shs-copy-out NodeRecordT.row T21 1 7 8 0 y2 Row.off NodeRecordT.whole (Shared.bySize 24) (λ u. u .1 .1 .1 .0) (λ x. x) NodeRecordT.default (λ
+  s18 = Move.k-shs-copy-out NodeRecordT.row T21 1 7 8 0 y2 Row.off NodeRecordT.whole (Shared.bySize 32) (λ u. u .1 .1 .1 .0) (λ x. x) NodeRecordT.default (λ
       x. Unit) (λ x. x) λ x. x
   abbrev s19 : Typed.Mo T22 → Typed.Mo T23
   s19 = Scalar.n-room T22 6 y0
@@ -549,8 +549,8 @@ module _ (claims· : Claims) where
           d23 : Typed.Typed 𝓤 H A 𝓣 E G21 b21 Δ0 at23
           d23 = Typed.s-seq 𝓤 H A W 𝓣 E G21 G22 b17 b20 Δ0 (Typed.both s18) at22 (Move.t-shs-copy-out 𝓤 H A W E NodeRecordT.row 𝓣 Path'.refl
               (NodeRecordT.copies .copy 𝓤 H A W) (Copies.halved 𝓤 H A W NodeRecordT.copies) (λ ρ. Unit) G21 1 7 8 0 y2 K0 NodeRecordT.value NodeRecordT.value
-              NodeRecordT.whole (Shared.bySize 24) (λ u. u .1 .1 .1 .0) (λ x. x) NodeRecordT.default (λ x. Unit) (λ x. x) (λ x. x) (λ i o. Elements.at-mul o
-              24 i) Path'.refl Path'.refl (Own.told-none 𝓤 H A (G21 .slots)) (DerefMove.learns-nothing 𝓤 H A NodeRecordT.row) (Reads.as-is 𝓤 H A (Rows'.sslice
+              NodeRecordT.whole (Shared.bySize 32) (λ u. u .1 .1 .1 .0) (λ x. x) NodeRecordT.default (λ x. Unit) (λ x. x) (λ x. x) (λ i o. Elements.at-mul o
+              32 i) Path'.refl Path'.refl (Own.told-none 𝓤 H A (G21 .slots)) (DerefMove.learns-nothing 𝓤 H A NodeRecordT.row) (Reads.as-is 𝓤 H A (Rows'.sslice
               NodeRecordT.row y2 0)) (Reads.as-is 𝓤 H A (Rows'.sc-here Row.sPtr)) (Reads.room-gone 𝓤 H A NodeRecordT.value) (Yields.makes-mem 𝓤 H A W (λ ρ.
               Unit) NodeRecordT.row Path'.refl NodeRecordT.whole (λ x. x) λ ρ told. Local.whole-mem 𝓤 H A W NodeRecordT.row ρ) Path'.refl tt Path'.refl
               Path'.refl) d22
@@ -561,7 +561,7 @@ module _ (claims· : Claims) where
               (Reads.room-gone 𝓤 H A Syntax.tyPtr) (Scalar.holds-sc 𝓤 H A W Row.sPtr) Path'.refl (λ u. Path'.refl) λ u. tt) d23
           d25 : Typed.Typed 𝓤 H A 𝓣 E G13 b23 Δ0 at25
           d25 = Typed.s-seq 𝓤 H A W 𝓣 E G13 G20 b15 b22 Δ0 (Typed.ask s16) at24 (Scalar.t-op2 𝓤 H A W E 𝓣 G13 (Syntax.mul Syntax.unsigned) (Scalar.oAt 3 y0
-              (Row.valS (Row.sInt Syntax.w64))) (Scalar.oInt Syntax.w64 24) 6 (Rows'.sc-here (Row.sInt Syntax.w64)) y0 (Row.valS (Row.sInt Syntax.w64))
+              (Row.valS (Row.sInt Syntax.w64))) (Scalar.oInt Syntax.w64 32) 6 (Rows'.sc-here (Row.sInt Syntax.w64)) y0 (Row.valS (Row.sInt Syntax.w64))
               (Row.sInt Syntax.w64 .of) (Scalar.reads-sc 𝓤 H A W (Row.sInt Syntax.w64), Path'.refl) tt (Reads.room-gone 𝓤 H A y0) (Scalar.holds-sc 𝓤 H A W
               (Row.sInt Syntax.w64)) Path'.refl (λ u. Path'.refl) λ u. tt) d24
           d26 : Typed.Typed 𝓤 H A 𝓣 E G12 b24 Δ0 at26

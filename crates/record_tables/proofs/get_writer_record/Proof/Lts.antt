@@ -1,5 +1,5 @@
 -- Generated: the derivation of a body.
--- From d7a7898001502198, as b8053cd667ca4028.
+-- From eca6a65df644a89c, as b8053cd667ca4028.
 use Prim.Native.Nat
 use Rattle.node_records.proofs.Tables.WriterRecord as WriterRecordT
 use borrow.Author.Called

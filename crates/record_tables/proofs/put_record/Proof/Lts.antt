@@ -1,5 +1,5 @@
 -- Generated: the derivation of a body.
--- From d7a7898001502198, as c6913abd5f13bf98.
+-- From eca6a65df644a89c, as 009adcf984f8007e.
 use Prim.Native.Nat
 use Rattle.node_records.proofs.Tables.NodeRecord as NodeRecordT
 use borrow.Author.Tests
@@ -125,7 +125,7 @@ b13 = Syntax.skip
 abbrev b14 : Syntax.Body
 b14 = Syntax.cond (Syntax.copy (Syntax.place 5 [])) b12 b13
 abbrev b15 : Syntax.Body
-b15 = Syntax.assign (Syntax.place 7 []) (Syntax.op2 (Syntax.mul Syntax.unsigned) (Syntax.copy (Syntax.place 4 [])) (Syntax.int Syntax.w64 24))
+b15 = Syntax.assign (Syntax.place 7 []) (Syntax.op2 (Syntax.mul Syntax.unsigned) (Syntax.copy (Syntax.place 4 [])) (Syntax.int Syntax.w64 32))
 abbrev b16 : Syntax.Body
 b16 = Syntax.assign (Syntax.place 8 []) (Syntax.op2 Syntax.offset (Syntax.copy (Syntax.place 1 ((Syntax.field 0) ∷ []))) (Syntax.copy (Syntax.place 7 [])))
 abbrev b17 : Syntax.Body
@@ -305,13 +305,13 @@ module _ where
   abbrev s17 : Typed.Mo T15 → Typed.Mo T21
   s17 = Scalar.n-room T15 5 Syntax.tyBool
   abbrev s18 : Typed.Asks T14 T22
-  s18 = Scalar.k-op2 T14 (Syntax.mul Syntax.unsigned) (Scalar.oAt 4 y0 (Row.valS (Row.sInt Syntax.w64))) (Scalar.oInt Syntax.w64 24) 7 (Rows'.sc-here
+  s18 = Scalar.k-op2 T14 (Syntax.mul Syntax.unsigned) (Scalar.oAt 4 y0 (Row.valS (Row.sInt Syntax.w64))) (Scalar.oInt Syntax.w64 32) 7 (Rows'.sc-here
       (Row.sInt Syntax.w64)) (Row.sInt Syntax.w64 .of)
   abbrev s19 : Typed.Asks T22 T23
   s19 = Scalar.k-op2 T22 Syntax.offset (Scalar.oFld 1 ((Syntax.field 0) ∷ []) y2 0 Reads.ptrVal) (Scalar.oAt 7 y0 (Row.valS (Row.sInt Syntax.w64))) 8
       (Rows'.sc-here Row.sPtr) (Row.sPtr .of)
   abbrev s20 : Typed.Asks T23 T24
-  s20 = Move.k-sl-set-from NodeRecordT.row T23 1 8 3 0 y2 Row.off NodeRecordT.whole (Shared.bySize 24) (λ u. u .1 .1 .1 .1 .0) (λ x. x) (λ x. x) (λ x. x) λ x.
+  s20 = Move.k-sl-set-from NodeRecordT.row T23 1 8 3 0 y2 Row.off NodeRecordT.whole (Shared.bySize 32) (λ u. u .1 .1 .1 .1 .0) (λ x. x) (λ x. x) (λ x. x) λ x.
       x
   abbrev s21 : Typed.Mo T24 → Typed.Mo T25
   s21 = Scalar.n-room T24 3 NodeRecordT.value
@@ -556,8 +556,8 @@ module _ where
               W NodeRecordT.row NodeRecordT.value Path'.refl)) d23
           d25 : Typed.Typed 𝓤 H A 𝓣 E G23 b21 Δ0 at25
           d25 = Typed.s-seq 𝓤 H A W 𝓣 E G23 G24 b17 b20 Δ0 (Typed.ask s20) at24 (Move.t-sl-set-from 𝓤 H A W E NodeRecordT.row 𝓣 Path'.refl (λ ρ. Unit) G23 1 8
-              3 0 y2 K0 NodeRecordT.value NodeRecordT.value NodeRecordT.whole (Shared.bySize 24) (λ u. u .1 .1 .1 .1 .0) (λ x. x) (λ x. x) (λ x. x) (λ x. x)
-              (λ i o. Elements.at-mul o 24 i) Path'.refl Path'.refl (Own.told-none 𝓤 H A (G23 .slots)) (Reads.as-is 𝓤 H A (Mut.mslice NodeRecordT.row y2 0))
+              3 0 y2 K0 NodeRecordT.value NodeRecordT.value NodeRecordT.whole (Shared.bySize 32) (λ u. u .1 .1 .1 .1 .0) (λ x. x) (λ x. x) (λ x. x) (λ x. x)
+              (λ i o. Elements.at-mul o 32 i) Path'.refl Path'.refl (Own.told-none 𝓤 H A (G23 .slots)) (Reads.as-is 𝓤 H A (Mut.mslice NodeRecordT.row y2 0))
               (Reads.as-is 𝓤 H A (Rows'.sc-here Row.sPtr)) (Yields.yields-copy 𝓤 H A W (λ ρ. Unit) NodeRecordT.row Path'.refl (NodeRecordT.copies .copy 𝓤 H A
               W) NodeRecordT.whole (λ x. x) (λ x. x) (λ ρ told. Local.mem-whole 𝓤 H A W NodeRecordT.row ρ) λ ρ told. Local.whole-mem 𝓤 H A W NodeRecordT.row
               ρ) Path'.refl tt Path'.refl Path'.refl) d24
@@ -568,7 +568,7 @@ module _ where
               (Reads.room-gone 𝓤 H A Syntax.tyPtr) (Scalar.holds-sc 𝓤 H A W Row.sPtr) Path'.refl (λ u. Path'.refl) λ u. tt) d25
           d27 : Typed.Typed 𝓤 H A 𝓣 E G14 b23 Δ0 at27
           d27 = Typed.s-seq 𝓤 H A W 𝓣 E G14 G22 b15 b22 Δ0 (Typed.ask s18) at26 (Scalar.t-op2 𝓤 H A W E 𝓣 G14 (Syntax.mul Syntax.unsigned) (Scalar.oAt 4 y0
-              (Row.valS (Row.sInt Syntax.w64))) (Scalar.oInt Syntax.w64 24) 7 (Rows'.sc-here (Row.sInt Syntax.w64)) y0 (Row.valS (Row.sInt Syntax.w64))
+              (Row.valS (Row.sInt Syntax.w64))) (Scalar.oInt Syntax.w64 32) 7 (Rows'.sc-here (Row.sInt Syntax.w64)) y0 (Row.valS (Row.sInt Syntax.w64))
               (Row.sInt Syntax.w64 .of) (Scalar.reads-sc 𝓤 H A W (Row.sInt Syntax.w64), Path'.refl) tt (Reads.room-gone 𝓤 H A y0) (Scalar.holds-sc 𝓤 H A W
               (Row.sInt Syntax.w64)) Path'.refl (λ u. Path'.refl) λ u. tt) d26
           d28 : Typed.Typed 𝓤 H A 𝓣 E G13 b24 Δ0 at28

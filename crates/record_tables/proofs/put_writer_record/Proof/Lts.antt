@@ -1,5 +1,5 @@
 -- Generated: the derivation of a body.
--- From d7a7898001502198, as 52f7a9e3d25286ff.
+-- From eca6a65df644a89c, as 52f7a9e3d25286ff.
 use Prim.Native.Nat
 use Rattle.node_records.proofs.Tables.WriterRecord as WriterRecordT
 use borrow.Author.Tests

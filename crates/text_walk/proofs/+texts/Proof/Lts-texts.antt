@@ -1,5 +1,5 @@
 -- Generated: the derivation of a body.
--- From 9b75fd49edaab245, as 4f801761907874aa.
+-- From 139ef55113660c1e, as 4f801761907874aa.
 use Prim.Native.Nat
 use Rattle.blocks.proofs.Block
 use Rattle.blocks.proofs.Block.Laws

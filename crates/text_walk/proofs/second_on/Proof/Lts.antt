@@ -1,5 +1,5 @@
 -- Generated: the derivation of a body.
--- From 9b75fd49edaab245, as 5bc44215ef447dd2.
+-- From 139ef55113660c1e, as 5bc44215ef447dd2.
 use Prim.Native.Nat
 use Rattle.blocks.proofs.Block
 use Rattle.blocks.proofs.Block.Laws

@@ -1,5 +1,5 @@
 -- Generated: the derivation of a body.
--- From 9b75fd49edaab245, as 62eb5a955d54ed86.
+-- From 139ef55113660c1e, as 62eb5a955d54ed86.
 use Prim.Native.Nat
 use Rattle.node_records.proofs.Tables.NodeRecord as NodeRecordT
 use Rattle.node_records.proofs.Tables.WriterRecord as WriterRecordT

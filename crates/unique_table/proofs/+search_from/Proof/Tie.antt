@@ -1,5 +1,5 @@
 -- Generated: how the theorem of search_from, which calls itself, closes.
--- From e1bec613391eec56, as e6741dd850b62cb9.
+-- From ad3273883a0cd883, as e6741dd850b62cb9.
 use Prim.Native.Nat.{ℕ, _<_}
 use borrow.Fn.Kinds.{In}
 use borrow.Fn.PlainCycle

@@ -1,5 +1,5 @@
 -- Generated: the needs of adopt at its contract, and how its theorem closes.
--- From e1bec613391eec56, as 8784c69c2d0419a5.
+-- From ad3273883a0cd883, as 8784c69c2d0419a5.
 use borrow.Fn.Run
 use borrow.Fn.Written
 use contract.Running.{givenOf, tablesOf}

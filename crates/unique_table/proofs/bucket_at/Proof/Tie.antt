@@ -1,5 +1,5 @@
 -- Generated: the needs of bucket_at at its contract, and how its theorem closes.
--- From e1bec613391eec56, as 1b2f63cae83ff237.
+-- From ad3273883a0cd883, as 1b2f63cae83ff237.
 use borrow.Fn.Run
 use borrow.Fn.Written
 use contract.Running.{givenOf, tablesOf}

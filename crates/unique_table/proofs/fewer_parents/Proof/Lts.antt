@@ -1,5 +1,5 @@
 -- Generated: the derivation of a body.
--- From e1bec613391eec56, as 1e2510d33d9f591e.
+-- From ad3273883a0cd883, as 1e2510d33d9f591e.
 use Prim.Native.Nat
 use Rattle.node_records.proofs.Tables.WriterRecord as WriterRecordT
 use Rattle.node_records.proofs.WriterRecord

@@ -1,5 +1,5 @@
 -- Generated: the needs of fewer_parents at its contract, and how its theorem closes.
--- From e1bec613391eec56, as de471910ad8803cb.
+-- From ad3273883a0cd883, as de471910ad8803cb.
 use borrow.Fn.Run
 use borrow.Fn.Written
 use contract.Running.{givenOf, tablesOf}

@@ -1,5 +1,5 @@
 -- Generated: the needs of find at its contract, and how its theorem closes.
--- From e1bec613391eec56, as a2689171f2bf007a.
+-- From ad3273883a0cd883, as a2689171f2bf007a.
 use borrow.Fn.Run
 use borrow.Fn.Written
 use contract.Running.{givenOf, tablesOf}

@@ -1,5 +1,5 @@
 -- Generated: the derivation of a body.
--- From e1bec613391eec56, as d1804a28619444bc.
+-- From ad3273883a0cd883, as d1804a28619444bc.
 use Prim.Native.Nat
 use Rattle.node_records.proofs.Tables.WriterRecord as WriterRecordT
 use Rattle.node_records.proofs.WriterRecord

@@ -1,5 +1,5 @@
 -- Generated: the needs of free at its contract, and how its theorem closes.
--- From e1bec613391eec56, as 05a84aba73b63f8e.
+-- From ad3273883a0cd883, as 05a84aba73b63f8e.
 use borrow.Fn.Run
 use borrow.Fn.Written
 use contract.Running.{givenOf, tablesOf}

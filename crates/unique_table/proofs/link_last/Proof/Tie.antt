@@ -1,5 +1,5 @@
 -- Generated: the needs of link_last at its contract, and how its theorem closes.
--- From e1bec613391eec56, as 4c850e95af74138f.
+-- From ad3273883a0cd883, as 4c850e95af74138f.
 use borrow.Fn.Run
 use borrow.Fn.Written
 use contract.Running.{givenOf, tablesOf}

@@ -1,5 +1,5 @@
 -- Generated: the derivation of a body.
--- From e1bec613391eec56, as ec447d1d7ed59d4b.
+-- From ad3273883a0cd883, as ec447d1d7ed59d4b.
 use Prim.Native.Nat
 use Rattle.node_records.proofs.Tables.WriterRecord as WriterRecordT
 use Rattle.unique_table.proofs.Ends

@@ -1,5 +1,5 @@
 -- Generated: the needs of release at its contract, and how its theorem closes.
--- From e1bec613391eec56, as 3e54a7da0319123b.
+-- From ad3273883a0cd883, as 3e54a7da0319123b.
 use borrow.Fn.Run
 use borrow.Fn.Written
 use contract.Running.{givenOf, tablesOf}

@@ -1,5 +1,5 @@
 -- Generated: the derivation of a body.
--- From 82c50cd2a59a6be4, as 64bc3f12a50a04c0.
+-- From bf5d1afb4f82fee3, as 364a7022389c36f5.
 use Prim.Native.Nat
 use Rattle.node_records.proofs.NodeRecord
 use Rattle.node_records.proofs.NodeRecord.Laws
@@ -64,7 +64,8 @@ abbrev y3 : Syntax.Ty
 y3 = Syntax.tyInt Syntax.w32
 abbrev y4 : Syntax.Ty
 y4 = Syntax.tyStruct (110 ∷ 111 ∷ 100 ∷ 101 ∷ 95 ∷ 114 ∷ 101 ∷ 99 ∷ 111 ∷ 114 ∷ 100 ∷ 115 ∷ 58 ∷ 58 ∷ 78 ∷ 111 ∷ 100 ∷ 101 ∷ 82 ∷ 101 ∷ 99 ∷ 111 ∷ 114 ∷ 100 ∷
-    []) (Syntax.tcons y3 (Syntax.tcons y3 (Syntax.tcons y3 (Syntax.tcons y3 (Syntax.tcons y3 (Syntax.tcons y3 Syntax.tnil))))))
+    []) (Syntax.tcons y3 (Syntax.tcons y3 (Syntax.tcons y3 (Syntax.tcons y3 (Syntax.tcons y3 (Syntax.tcons y3 (Syntax.tcons y3 (Syntax.tcons y3
+    Syntax.tnil))))))))
 abbrev y5 : Syntax.Ty
 y5 = Syntax.tyRef Syntax.erased Syntax.imm NodeRecordT.behind
 abbrev y6 : Syntax.Ty

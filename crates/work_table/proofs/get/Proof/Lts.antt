@@ -1,5 +1,5 @@
 -- Generated: the derivation of a body.
--- From 82c50cd2a59a6be4, as 3366b78a3e52d603.
+-- From bf5d1afb4f82fee3, as 64d1d432ea199826.
 use Prim.Native.Nat
 use Rattle.node_records.proofs.NodeRecord
 use Rattle.node_records.proofs.NodeRecord.Laws
@@ -49,7 +49,8 @@ abbrev y0 : Syntax.Ty
 y0 = Syntax.tyInt Syntax.w32
 abbrev y1 : Syntax.Ty
 y1 = Syntax.tyStruct (110 ∷ 111 ∷ 100 ∷ 101 ∷ 95 ∷ 114 ∷ 101 ∷ 99 ∷ 111 ∷ 114 ∷ 100 ∷ 115 ∷ 58 ∷ 58 ∷ 78 ∷ 111 ∷ 100 ∷ 101 ∷ 82 ∷ 101 ∷ 99 ∷ 111 ∷ 114 ∷ 100 ∷
-    []) (Syntax.tcons y0 (Syntax.tcons y0 (Syntax.tcons y0 (Syntax.tcons y0 (Syntax.tcons y0 (Syntax.tcons y0 Syntax.tnil))))))
+    []) (Syntax.tcons y0 (Syntax.tcons y0 (Syntax.tcons y0 (Syntax.tcons y0 (Syntax.tcons y0 (Syntax.tcons y0 (Syntax.tcons y0 (Syntax.tcons y0
+    Syntax.tnil))))))))
 abbrev y2 : Syntax.Ty
 y2 = Syntax.tyRef (Syntax.named 0) Syntax.imm NodeRecordT.behind
 abbrev e0 : Row.Entry

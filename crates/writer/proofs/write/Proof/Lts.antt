@@ -1,5 +1,5 @@
 -- Generated: the derivation of a body.
--- From 96e9cd744a7ff944, as 90b26dfa8e8d07fd.
+-- From 1b3cca3231d934c7, as 90b26dfa8e8d07fd.
 use Prim.Native.Nat
 use Rattle.checker.proofs.Refusal
 use Rattle.checker.proofs.Refusal.Laws

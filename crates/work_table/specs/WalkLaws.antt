@@ -58,13 +58,13 @@ module _ (t : List NodeRecord) (z i : ℕ) (e : Edge) (x : NodeRecord) (some : e
       ∙ ap (λ (y : Node). cond o (complemented (y .complement) (tableWalk (tableOf t z) (i + 1) (y .second) os))
       (tableWalk (tableOf t z) (i + 1) (y .first) os)) here
 
-  walk-first : (os : List Bool) → edgeWalk (tableOf t z) i e (false ∷ os) ≡ edgeWalk (tableOf t z) (i + 1) (firstEdge x i e) os
+  pub walk-first : (os : List Bool) → edgeWalk (tableOf t z) i e (false ∷ os) ≡ edgeWalk (tableOf t z) (i + 1) (firstEdge x i e) os
   walk-first os = ⊎-elim
       (λ (h : x .level ≤ i). rw (ne-eqb (e .number) 0 some, le-ltb i (x .level) h) (ap (complemented (e .complement)) (gone false os h)))
       (λ (h : i < x .level). rw (ne-eqb (e .number) 0 some, lt-ltb i (x .level) h) (skipped false os h))
       (decide-le (x .level) i)
 
-  walk-second : (os : List Bool) → edgeWalk (tableOf t z) i e (true ∷ os) ≡ edgeWalk (tableOf t z) (i + 1) (secondEdge x i e) os
+  pub walk-second : (os : List Bool) → edgeWalk (tableOf t z) i e (true ∷ os) ≡ edgeWalk (tableOf t z) (i + 1) (secondEdge x i e) os
   walk-second os = ⊎-elim
       (λ (h : x .level ≤ i). rw (ne-eqb (e .number) 0 some, le-ltb i (x .level) h)
       (ap (complemented (e .complement)) (gone true os h) ∙ complemented-twice (e .complement) (not (eqb (x .complement) 0))

@@ -1,0 +1,9 @@
+-- Generated: what callers cite of the lifted functions.
+-- From 67c274d1b2303cbb, as 67442a8c04dda8b9.
+pub mod some_word
+pub mod least_word
+pub mod start_word
+pub mod word_from
+pub mod word_at
+pub mod seek
+pub mod find_next

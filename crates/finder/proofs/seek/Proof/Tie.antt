@@ -1,0 +1,85 @@
+-- Generated: the needs of seek at its contract, and how its theorem closes.
+-- From 67c274d1b2303cbb, as e2d7323b338c6211.
+use borrow.Fn.Run
+use borrow.Fn.Written
+use contract.Running.{givenOf, tablesOf}
+use Rattle.reader.proofs.first_cursor.Reads as first-cursor-reads
+use Rattle.reader.proofs.first_cursor.Met as first-cursor-met
+use Rattle.reader.proofs.first_cursor.Symbol as first-cursor-symbol
+use Rattle.reader.proofs.Lifted.read_on as read-on-reads
+use Rattle.reader.proofs.read_on.Met as read-on-met
+use Rattle.reader.proofs.read_on.Symbol as read-on-symbol
+use Rattle.finder.proofs.Lifted.word_at as word-at-reads
+use Rattle.finder.proofs.word_at.Met as word-at-met
+use Rattle.finder.proofs.word_at.Symbol as word-at-symbol
+use Rattle.finder.proofs.covered_of.Reads as covered-of-reads
+use Rattle.finder.proofs.covered_of.Met as covered-of-met
+use Rattle.finder.proofs.covered_of.Symbol as covered-of-symbol
+use Rattle.finder.proofs.cursor_of.Reads as cursor-of-reads
+use Rattle.finder.proofs.cursor_of.Met as cursor-of-met
+use Rattle.finder.proofs.cursor_of.Symbol as cursor-of-symbol
+use Rattle.finder.proofs.seek.Key
+use Rattle.finder.proofs.seek.Code as code
+use Rattle.finder.proofs.seek.Statement.{statement}
+use Rattle.finder.proofs.seek.Proof.Lts as lts
+use Rattle.finder.proofs.Lifted.seek as self
+
+abbrev callees : lts.Claims
+callees = (first-cursor-reads.Asked, first-cursor-reads.Learnt, read-on-reads.Asked, read-on-reads.Learnt, word-at-reads.Asked, word-at-reads.Learnt, covered-of-reads.Asked, covered-of-reads.Learnt, cursor-of-reads.Asked, cursor-of-reads.Learnt)
+
+abbrev pub InvT-loop : Type 1
+InvT-loop = lts.InvT-loop
+
+abbrev pub MeasureT-loop : Type 0
+MeasureT-loop = lts.MeasureT-loop
+
+abbrev pub Need-first-cursor-requires : (Inv-loop : InvT-loop) → (μ-loop : MeasureT-loop) → Type 0
+Need-first-cursor-requires Inv-loop μ-loop = lts.Need-first-cursor-requires callees self.Pre self.Post Inv-loop μ-loop
+
+abbrev pub Need-loop-holds : (Inv-loop : InvT-loop) → (μ-loop : MeasureT-loop) → Type 0
+Need-loop-holds Inv-loop μ-loop = lts.Need-loop-holds callees self.Pre self.Post Inv-loop μ-loop
+
+abbrev pub Need-read-on-requires : (Inv-loop : InvT-loop) → (μ-loop : MeasureT-loop) → Type 0
+Need-read-on-requires Inv-loop μ-loop = lts.Need-read-on-requires callees self.Pre self.Post Inv-loop μ-loop
+
+abbrev pub Need-same-length : (Inv-loop : InvT-loop) → (μ-loop : MeasureT-loop) → Type 0
+Need-same-length Inv-loop μ-loop = lts.Need-same-length callees self.Pre self.Post Inv-loop μ-loop
+
+abbrev pub Need-returns : (Inv-loop : InvT-loop) → (μ-loop : MeasureT-loop) → Type 0
+Need-returns Inv-loop μ-loop = lts.Need-returns callees self.Pre self.Post Inv-loop μ-loop
+
+abbrev pub Need-word-at-requires : (Inv-loop : InvT-loop) → (μ-loop : MeasureT-loop) → Type 0
+Need-word-at-requires Inv-loop μ-loop = lts.Need-word-at-requires callees self.Pre self.Post Inv-loop μ-loop
+
+abbrev pub Need-covered-of-requires : (Inv-loop : InvT-loop) → (μ-loop : MeasureT-loop) → Type 0
+Need-covered-of-requires Inv-loop μ-loop = lts.Need-covered-of-requires callees self.Pre self.Post Inv-loop μ-loop
+
+abbrev pub Need-same-length-2 : (Inv-loop : InvT-loop) → (μ-loop : MeasureT-loop) → Type 0
+Need-same-length-2 Inv-loop μ-loop = lts.Need-same-length-2 callees self.Pre self.Post Inv-loop μ-loop
+
+abbrev pub Need-returns-2 : (Inv-loop : InvT-loop) → (μ-loop : MeasureT-loop) → Type 0
+Need-returns-2 Inv-loop μ-loop = lts.Need-returns-2 callees self.Pre self.Post Inv-loop μ-loop
+
+abbrev pub Need-cursor-of-requires : (Inv-loop : InvT-loop) → (μ-loop : MeasureT-loop) → Type 0
+Need-cursor-of-requires Inv-loop μ-loop = lts.Need-cursor-of-requires callees self.Pre self.Post Inv-loop μ-loop
+
+abbrev pub Need-loop-less : (Inv-loop : InvT-loop) → (μ-loop : MeasureT-loop) → Type 0
+Need-loop-less Inv-loop μ-loop = lts.Need-loop-less callees self.Pre self.Post Inv-loop μ-loop
+
+abbrev pub Need-loop-again : (Inv-loop : InvT-loop) → (μ-loop : MeasureT-loop) → Type 0
+Need-loop-again Inv-loop μ-loop = lts.Need-loop-again callees self.Pre self.Post Inv-loop μ-loop
+
+module _ {M : Type 1} where
+  pub spec : (Inv-loop : InvT-loop) → (μ-loop : MeasureT-loop) → Need-first-cursor-requires Inv-loop μ-loop → Need-loop-holds Inv-loop μ-loop → Need-read-on-requires Inv-loop μ-loop → Need-same-length Inv-loop μ-loop → Need-returns Inv-loop μ-loop → Need-word-at-requires Inv-loop μ-loop → Need-covered-of-requires Inv-loop μ-loop → Need-same-length-2 Inv-loop μ-loop → Need-returns-2 Inv-loop μ-loop → Need-cursor-of-requires Inv-loop μ-loop → Need-loop-less Inv-loop μ-loop → Need-loop-again Inv-loop μ-loop → lts.Closed callees self.Pre self.Post M
+  spec Inv-loop μ-loop n0 n1 n2 n3 n4 n5 n6 n7 n8 n9 n10 n11 = lts.spec callees self.Pre self.Post Inv-loop μ-loop n0 n1 n2 n3 n4 n5 n6 n7 n8 n9 n10 n11
+
+  pub close : lts.Closed callees self.Pre self.Post M → statement M
+  unfolding code.routine tablesOf
+  close closed 𝓤 H 𝓜 𝓖 𝓡 =
+      Written.close 3 self.ps self.r self.Ghost self.requires self.ensures self.pre-read self.Pinned self.Owned self.post-read record { M = M; 𝓤 = 𝓤; H = H; 𝓜 = 𝓜; 𝓖 = 𝓖; 𝓡 = 𝓡 } code.env Key.name code.function (code.unfolded 𝓤 H 𝓜 𝓡)
+      (λ κs a g. tt) (λ κs. self.owns κs record { M = M; 𝓤 = 𝓤; H = H; 𝓜 = 𝓜; 𝓖 = 𝓖; 𝓡 = 𝓡 }) (self.passes record { M = M; 𝓤 = 𝓤; H = H; 𝓜 = 𝓜; 𝓖 = 𝓖; 𝓡 = 𝓡 }) λ g. closed 𝓤 H (𝓖 .A) (givenOf 𝓤 H 𝓜 𝓖) (Run.Over 𝓤 H 𝓜 𝓖 𝓡 code.env)
+      (first-cursor-reads.known record { M = M; 𝓤 = 𝓤; H = H; 𝓜 = 𝓜; 𝓖 = 𝓖; 𝓡 = 𝓡 } code.env first-cursor-symbol.name first-cursor-symbol.routine code.calls-reader·first-cursor (first-cursor-met.met 𝓤 H 𝓜 𝓖 𝓡))
+      (read-on-reads.known record { M = M; 𝓤 = 𝓤; H = H; 𝓜 = 𝓜; 𝓖 = 𝓖; 𝓡 = 𝓡 } code.env read-on-symbol.name read-on-symbol.routine code.calls-reader·read-on (read-on-met.met 𝓤 H 𝓜 𝓖 𝓡))
+      (word-at-reads.known record { M = M; 𝓤 = 𝓤; H = H; 𝓜 = 𝓜; 𝓖 = 𝓖; 𝓡 = 𝓡 } code.env word-at-symbol.name word-at-symbol.routine code.calls-finder·word-at (word-at-met.met 𝓤 H 𝓜 𝓖 𝓡))
+      (covered-of-reads.known record { M = M; 𝓤 = 𝓤; H = H; 𝓜 = 𝓜; 𝓖 = 𝓖; 𝓡 = 𝓡 } code.env covered-of-symbol.name covered-of-symbol.routine code.calls-finder·covered-of (covered-of-met.met 𝓤 H 𝓜 𝓖 𝓡))
+      (cursor-of-reads.known record { M = M; 𝓤 = 𝓤; H = H; 𝓜 = 𝓜; 𝓖 = 𝓖; 𝓡 = 𝓡 } code.env cursor-of-symbol.name cursor-of-symbol.routine code.calls-finder·cursor-of (cursor-of-met.met 𝓤 H 𝓜 𝓖 𝓡))

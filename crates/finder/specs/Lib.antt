@@ -1,0 +1,5 @@
+pub mod Answers
+pub mod Search
+pub mod SearchSteps
+pub mod SearchLaws
+pub mod FindCorrect

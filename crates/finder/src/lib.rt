@@ -1,0 +1,230 @@
+// Finding the next admitted word.
+ghost use mathlib.Core.Path.{_≡_};
+ghost use mathlib.Core.List.{[]};
+ghost use Prim.Native.Nat.{_+_, _-_, _<_, _≤_, _^_};
+ghost use lib.ListN.{length, replicate};
+ghost use Rattle.theory_reading.specs.Limits.{optionLimit, openLimit, tableLimit, wordLimit};
+ghost use Rattle.theory_reading.specs.Calls.{FindsNext};
+ghost use Rattle.node_records.specs.Records.{noRecord};
+ghost use Rattle.reader.specs.OpenCells.{reachedIn};
+ghost use Rattle.finder.specs.Answers.{findingOf};
+ghost use Rattle.finder.specs.Search.{someIn, leastIn, startIn, fromIn};
+ghost use Rattle.finder.specs.FindCorrect.{soughtAt, Seeks, endedBy, foundBy};
+use blocks::below;
+use blocks::edge_of;
+use checker::Refusal;
+use checker::early;
+use checker::late;
+use elements::Cause;
+use elements::OPEN_LIMIT;
+use node_records::Edge;
+use node_records::NodeRecord;
+use node_records::OPTION_LIMIT;
+use node_records::TABLE_LIMIT;
+use node_records::WORD_LIMIT;
+use node_records::first_edge;
+use node_records::second_edge;
+use node_records::some_yes;
+use reader::Cursor;
+use reader::Reached;
+use reader::first_cursor;
+use reader::read_on;
+use record_tables::clear_records;
+use work_table::get;
+
+// A word; none, as all words are covered; or not known.
+pub enum NextWord {
+    Word(u64),
+    NoWord,
+    NotKnown,
+}
+
+pub enum Finding {
+    Refused(Refusal),
+    Done(NextWord),
+}
+
+// ---- A word that is yes below a stored node
+
+// Some word below what e stands for is yes. z: how many numbers there are
+fn some_word(t: &[NodeRecord], z: u32, e: Edge) -> bool
+    ensures { λ r. ⌜ r ≡ someIn (now (t .entry)) z e ⌝ }
+{
+    some_yes(get(t, z, e.number), e)
+}
+
+// The least word that is yes of the node of level i, m options below it, that e stands for, if some word is.
+fn least_word(t: &[NodeRecord], z: u32, m: u32, i: u32, e: Edge) -> u64
+    requires { ⌜ (m ≤ optionLimit) × (i + m ≤ openLimit + optionLimit) ⌝ }
+    ensures { λ r. ⌜ r ≡ leastIn m (now (t .entry)) z i e ⌝ }
+{
+    if m == 0 {
+        return 0;
+    }
+    let x = get(t, z, e.number);
+    let f = first_edge(x, i, e);
+    if some_word(t, z, f) {
+        return least_word(t, z, m - 1, i + 1, f);
+    }
+    let half = 1u64 << (m - 1);
+    half + least_word(t, z, m - 1, i + 1, second_edge(x, i, e))
+}
+
+// Likewise, 2^m if none is.
+fn start_word(t: &[NodeRecord], z: u32, m: u32, i: u32, e: Edge) -> u64
+    requires { ⌜ (m ≤ optionLimit) × (i + m ≤ openLimit + optionLimit) ⌝ }
+    ensures { λ r. ⌜ r ≡ startIn m (now (t .entry)) z i e ⌝ }
+{
+    if some_word(t, z, e) {
+        return least_word(t, z, m, i, e);
+    }
+    1u64 << m
+}
+
+// Likewise from the word w on.
+fn word_from(t: &[NodeRecord], z: u32, m: u32, i: u32, e: Edge, w: u64) -> u64
+    requires { ⌜ (m ≤ optionLimit) × ((i + m ≤ openLimit + optionLimit) × (w < 2 ^ m)) ⌝ }
+    ensures { λ r. ⌜ r ≡ fromIn m (now (t .entry)) z i e w ⌝ }
+{
+    if !some_word(t, z, e) {
+        return 1u64 << m;
+    }
+    if m == 0 {
+        return w;
+    }
+    let x = get(t, z, e.number);
+    let half = 1u64 << (m - 1);
+    let g = second_edge(x, i, e);
+    if half <= w {
+        return half + word_from(t, z, m - 1, i + 1, g, w - half);
+    }
+    let r = word_from(t, z, m - 1, i + 1, first_edge(x, i, e), w);
+    if r < half {
+        return r;
+    }
+    half + start_word(t, z, m - 1, i + 1, g)
+}
+
+// ---- The call
+
+// The least word from w on that is yes, of those that the loop's last element passed, w among them; the covered count if none is.
+fn word_at(t: &[NodeRecord], o: &[[u32; 4]; OPEN_LIMIT], n: u32, r: Reached, w: u64) -> u64
+    requires { ⌜ (n ≤ optionLimit) × ((r .deep ≤ openLimit) × ((r .from ≤ w) × ((w < r .from + 2 ^ (n - r .deep)) × (w ≤ wordLimit)))) ⌝ }
+    ensures { λ x. ⌜ x ≡ soughtAt (now (t .entry)) n (reachedIn r (now (o .entry))) w ⌝ }
+{
+    let q = r.run;
+    let d = r.deep;
+    let i = d as u32 + 1;
+    r.from + word_from(t, q.size, below(n, d), i, edge_of(r, o), w - r.from)
+}
+
+// What the search reaches: where reading stands, and the word that it found there, unless reading halted.
+struct Sought {
+    reached: Reached,
+    word: u64,
+}
+
+fn reached_of(x: Sought) -> Reached
+    ensures { λ r. ⌜ r ≡ x .reached ⌝ }
+{
+    x.reached
+}
+
+fn cursor_of(r: Reached) -> Cursor
+    ensures { λ c. ⌜ c ≡ record { run = r .run; depth = r .depth } ⌝ }
+{
+    let q = r.run;
+    Cursor {
+        run: q,
+        depth: r.depth,
+    }
+}
+
+fn covered_of(r: Reached) -> u64
+    ensures { λ c. ⌜ c ≡ r .run .covered ⌝ }
+{
+    let q = r.run;
+    q.covered
+}
+
+// Reads on to a word from w on that is yes. o: the open nodes, as reading leaves them
+fn seek(n: u32, s: &[u8], t: &mut [NodeRecord], o: &mut [[u32; 4]; OPEN_LIMIT], w: u64) -> Sought
+    requires { ⌜ (n ≤ optionLimit) × ((tableLimit ≤ length (now t)) × ((w < 2 ^ n) × (now o ≡ replicate openLimit (replicate 4 0)))) ⌝ }
+    ensures { λ x. ⌜ Seeks n (now (s .entry)) w (reachedIn (x .reached) (now (o .exit))) (x .word) (now (t .exit)) (length (now (t .entry))) ⌝ }
+{
+    let mut c = first_cursor();
+    let mut v = w;
+    loop {
+        let r = read_on(n, s, t, o, c, v);
+        let h = r.halted;
+        if h {
+            return Sought {
+                reached: r,
+                word: 0,
+            };
+        }
+        let u = word_at(t, o, n, r, v);
+        if u < covered_of(r) {
+            return Sought {
+                reached: r,
+                word: u,
+            };
+        }
+        c = cursor_of(r);
+        v = u;
+    }
+}
+
+// Where no word is found.
+fn ended_at(n: u32, r: Reached) -> Finding
+    requires { ⌜ n ≤ optionLimit ⌝ }
+    ensures { λ x. ⌜ findingOf x ≡ endedBy n (reachedIn r []) ⌝ }
+{
+    let f = r.faulty;
+    if f {
+        return Finding::Refused(late(r));
+    }
+    if covered_of(r) == 1u64 << n {
+        return Finding::Done(NextWord::NoWord);
+    }
+    Finding::Done(NextWord::NotKnown)
+}
+
+// Where v is found, and reading has come to its end.
+fn found_at(r: Reached, v: u64) -> Finding
+    ensures { λ x. ⌜ findingOf x ≡ foundBy (reachedIn r []) v ⌝ }
+{
+    let f = r.faulty;
+    if f {
+        return Finding::Refused(late(r));
+    }
+    Finding::Done(NextWord::Word(v))
+}
+
+// FINDING THE NEXT ADMITTED WORD, from w on: causes 1, 4 and 5, then those of the stream, also behind the word.
+pub fn find_next(n: u32, s: &[u8], w: u64, t: &mut [NodeRecord]) -> Finding
+    ensures { λ r. ⌜ FindsNext noRecord n (now (s .entry)) w (now (t .entry)) (record { answer = findingOf r; table = now (t .exit) }) ⌝ }
+{
+    if OPTION_LIMIT < n {
+        return Finding::Refused(early(Cause::OptionCount));
+    }
+    if t.len() < TABLE_LIMIT {
+        return Finding::Refused(early(Cause::WorkTable));
+    }
+    if 1u64 << n <= w {
+        return Finding::Refused(early(Cause::WordRange));
+    }
+    let mut o = [[0u32; 4]; OPEN_LIMIT];
+    let x = seek(n, s, t, &mut o, w);
+    let r = reached_of(x);
+    let h = r.halted;
+    if h {
+        let z = t.len();
+        clear_records(t, z);
+        return ended_at(n, r);
+    }
+    let e = read_on(n, s, t, &mut o, cursor_of(r), WORD_LIMIT);
+    let z = t.len();
+    clear_records(t, z);
+    found_at(e, x.word)
+}
