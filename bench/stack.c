@@ -69,6 +69,11 @@ static void decide_once(void)
     rule_decide(n, stream1.bytes, stream1.length, word, table1, RULE_RECORDS);
 }
 
+static void next_once(void)
+{
+    rule_next(n, stream1.bytes, stream1.length, word, table1, RULE_RECORDS);
+}
+
 static void fill_once(void)
 {
     rule_fill(n, stream1.bytes, stream1.length, truths, (size_t)1 << n >> 3, table1, RULE_RECORDS);
@@ -366,6 +371,7 @@ int main(void)
     n = 32;
     show("rule_check, n 32", over_streams(check_once));
     show("rule_decide, n 32", over_streams(decide_once));
+    show("rule_next, n 32", over_streams(next_once));
     n = 16;
     show("rule_fill, n 16", over_streams(fill_once));
     show("rule_write, n 16", over_truths());

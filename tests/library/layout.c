@@ -4,13 +4,15 @@
 #define SIZE(type, size) _Static_assert(sizeof(type) == (size), #type)
 #define AT(type, field, offset) _Static_assert(offsetof(type, field) == (offset), #type " " #field)
 
-SIZE(rule_record, 24);
+SIZE(rule_record, 32);
 AT(rule_record, level, 0);
 AT(rule_record, first, 4);
 AT(rule_record, second, 8);
 AT(rule_record, complement, 12);
 AT(rule_record, stamp, 16);
 AT(rule_record, parents, 20);
+AT(rule_record, admits, 24);
+AT(rule_record, refuses, 28);
 SIZE(rule_node, 48);
 AT(rule_node, level, 0);
 AT(rule_node, first, 4);
@@ -34,6 +36,12 @@ SIZE(rule_decided, 24);
 AT(rule_decided, stream, 4);
 AT(rule_decided, byte, 8);
 AT(rule_decided, verdict, 16);
+SIZE(rule_found, 32);
+AT(rule_found, stream, 4);
+AT(rule_found, byte, 8);
+AT(rule_found, word, 16);
+AT(rule_found, answer, 24);
+AT(rule_found, spare, 28);
 SIZE(rule_filled, 24);
 AT(rule_filled, stream, 4);
 AT(rule_filled, byte, 8);

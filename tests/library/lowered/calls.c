@@ -23,6 +23,7 @@ typedef struct {
 
 void lowered_check(rule_checked *, uint32_t, const_slice *, table_slice *);
 void lowered_decide(rule_decided *, uint32_t, const_slice *, uint64_t, table_slice *);
+void lowered_next(rule_found *, uint32_t, const_slice *, uint64_t, table_slice *);
 void lowered_fill(rule_filled *, uint32_t, const_slice *, bytes_slice *, table_slice *);
 void lowered_write(rule_written *, uint32_t, uint32_t, const_slice *, bytes_slice *, nodes_slice *);
 void lowered_combine(rule_written *, uint32_t, uint32_t, uint32_t, const_slice *, const_slice *, bytes_slice *, table_slice *, table_slice *,
@@ -45,6 +46,15 @@ rule_decided rule_decide(uint32_t n, const uint8_t *stream, size_t stream_bytes,
     table_slice t = {table, records};
     rule_decided r;
     lowered_decide(&r, n, &s, word, &t);
+    return r;
+}
+
+rule_found rule_next(uint32_t n, const uint8_t *stream, size_t stream_bytes, uint64_t word, rule_record *table, size_t records)
+{
+    const_slice s = {stream, stream_bytes};
+    table_slice t = {table, records};
+    rule_found r;
+    lowered_next(&r, n, &s, word, &t);
     return r;
 }
 

@@ -4,6 +4,7 @@
 //! |---|---|
 //! | `check N RECORDS "STREAM"` | `rule_check` |
 //! | `decide N RECORDS WORD "STREAM"` | `rule_decide` |
+//! | `next N RECORDS WORD "STREAM"` | `rule_next` |
 //! | `fill N RECORDS LENGTH "STREAM"` | `rule_fill` with a truth table of LENGTH bytes |
 //! | `reader "STREAM"` | `rule_begin`, then `rule_step` to its stop |
 //! | `write N RECORDS SIZE LENGTH "TRUTHS"` | `rule_write` with an output of LENGTH bytes |
@@ -13,7 +14,9 @@
 //! space, a quote or a backslash stands as `\n` or `\xNN`. TRUTHS are the bytes of the truth table,
 //! two hexadecimal digits each. What the lent slices hold before the call follows from the line.
 
-pub const NAMES: [&str; 6] = ["check", "decide", "fill", "reader", "write", "combine"];
+pub const NAMES: [&str; 7] = [
+    "check", "decide", "fill", "reader", "write", "combine", "next",
+];
 
 #[derive(Clone, Debug, PartialEq, Eq)]
 pub enum Call {
@@ -23,6 +26,7 @@ pub enum Call {
     Reader,
     Write { size: u32, output: usize },
     Combine(Combine),
+    Next { word: u64 },
 }
 
 /// The arguments of `rule_combine` beside those that every case has.
@@ -56,6 +60,7 @@ impl Case {
             Call::Reader => 3,
             Call::Write { .. } => 4,
             Call::Combine(_) => 5,
+            Call::Next { .. } => 6,
         }
     }
 
@@ -97,7 +102,7 @@ impl Case {
     pub fn hash(&self) -> u64 {
         let mut numbers = vec![self.number() as u64, self.n.into(), self.records as u64];
         match &self.call {
-            Call::Decide { word } => numbers.push(*word),
+            Call::Decide { word } | Call::Next { word } => numbers.push(*word),
             Call::Write { size, output } => numbers.push(u64::from(*size) << 32 | *output as u64),
             Call::Combine(combine) => numbers.extend(combine.numbers()),
             _ => numbers.push(self.truths() as u64),
@@ -119,7 +124,9 @@ impl Case {
         };
         match &self.call {
             Call::Check => format!("{name} {n} {records} {stream}"),
-            Call::Decide { word } => format!("{name} {n} {records} {word} {stream}"),
+            Call::Decide { word } | Call::Next { word } => {
+                format!("{name} {n} {records} {word} {stream}")
+            }
             Call::Fill { truths } => format!("{name} {n} {records} {truths} {stream}"),
             Call::Reader => format!("{name} {stream}"),
             Call::Write { size, output } => {
@@ -141,6 +148,10 @@ impl Case {
             ["decide", n, records, word, stream] => {
                 let word = word.parse().ok()?;
                 (Call::Decide { word }, n, records, stream)
+            }
+            ["next", n, records, word, stream] => {
+                let word = word.parse().ok()?;
+                (Call::Next { word }, n, records, stream)
             }
             ["fill", n, records, length, stream] => {
                 let truths = length.parse().ok()?;

@@ -1,11 +1,11 @@
 //! One case put to the library and to the plain walk.
 
 use crate::case::{Call, Case, Combine};
-use crate::foreign::{self, Checked, Decided, Filled, Place, Stepped, Stream, Written};
+use crate::foreign::{self, Checked, Decided, Filled, Found, Place, Stepped, Stream, Written};
 use crate::lent::{Lent, Memory};
 use std::fmt::Debug;
 use std::time::{Duration, Instant};
-use walk::calls::{check, combine, decide, fill, write, Decision};
+use walk::calls::{check, combine, decide, fill, next, write, Decision, Next};
 use walk::reader::{Element, Reader, Step};
 use walk::refusal::Refusal;
 use walk::run::Ending;
@@ -13,9 +13,12 @@ use walk::run::Ending;
 /// What the walk's records hold before a call.
 const GARBAGE: u64 = 7;
 
+/// Finding a word takes no longer, also where nodes are chained.
+const SOON: Duration = Duration::from_secs(1);
+
 /// What the walk says of a case. The cause is 0 if it is taken (for the reader: if the bytes ran out); the
-/// ending is that of a call that writes and is taken, and the text what it writes. `time` is how long the library
-/// combined.
+/// ending is that of a call that writes and is taken, and the text what it writes; for finding the next word it is
+/// which of the three answers is given. `time` is how long the library combined.
 #[derive(Clone, Debug, Default)]
 pub struct Outcome {
     pub cause: usize,
@@ -58,6 +61,7 @@ pub fn compare(case: &Case) -> Result<Outcome, String> {
         Call::Reader => Outcome::of_cause(compare_reader(case, &mut memory)?),
         Call::Write { size, .. } => compare_write(case, *size, &mut memory)?,
         Call::Combine(of) => compare_combine(case, of, &mut memory)?,
+        Call::Next { word } => compare_next(case, *word, &mut memory)?,
     };
     if !memory.streams.iter().all(Lent::unchanged) {
         return Err("what was lent to be read or what stands beside it was changed".to_string());
@@ -117,6 +121,49 @@ fn compare_decide(case: &Case, word: u64, memory: &mut Memory) -> Result<u32, St
     same(expected, given)?;
     same_memory(memory, &table, &[])?;
     Ok(expected.cause)
+}
+
+fn compare_next(case: &Case, word: u64, memory: &mut Memory) -> Result<Outcome, String> {
+    let mut table = vec![GARBAGE; case.records];
+    let expected = match next(case.n.into(), &case.stream, word, &mut table) {
+        Ok(next) => {
+            let (answer, word) = match next {
+                Next::None => (0, 0),
+                Next::Word(word) => (1, word),
+                Next::NotKnown => (2, 0),
+            };
+            Found {
+                word,
+                answer,
+                ..Found::default()
+            }
+        }
+        Err(refusal) => {
+            let (cause, stream, byte) = refused(refusal);
+            Found {
+                cause,
+                stream,
+                byte,
+                ..Found::default()
+            }
+        }
+    };
+    let start = Instant::now();
+    // SAFETY: the slices are lent as rule.h asks.
+    let given = unsafe { foreign::rule_next(case.n, memory.stream(), word, memory.table()) };
+    let time = start.elapsed();
+    same(expected, given)?;
+    same_memory(memory, &table, &[])?;
+    if time > SOON {
+        return Err(format!(
+            "the library took {:.1} seconds",
+            time.as_secs_f64()
+        ));
+    }
+    Ok(Outcome {
+        ending: expected.answer as usize,
+        ..Outcome::of_cause(expected.cause)
+    })
 }
 
 fn compare_fill(case: &Case, memory: &mut Memory) -> Result<u32, String> {

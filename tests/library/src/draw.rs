@@ -77,18 +77,20 @@ impl Draw {
         if let Some(case) = self.ready.pop() {
             return case;
         }
-        let call = self.random.below(10);
+        let call = self.random.below(12);
         let n = match call {
             0..=5 => self.options(),
             6..=7 => self.truth_options(),
-            _ => self.random.below(33) as u32,
+            8..=9 => self.random.below(33) as u32,
+            _ => self.options(),
         };
         let (n, stream) = self.stream(n);
         match call {
             0..=2 => self.check(n, stream),
             3..=5 => self.decide(n, stream),
             6..=7 => self.fill(n, stream),
-            _ => reader(stream),
+            8..=9 => reader(stream),
+            _ => self.next(n, stream),
         }
     }
 
@@ -174,6 +176,12 @@ impl Draw {
                 }
             }
             Join { .. } => {}
+            Next {
+                n,
+                records,
+                stream,
+                word,
+            } => push(Call::Next { word }, n, records, stream),
         }
     }
 
@@ -193,7 +201,9 @@ impl Draw {
             let cut = stream[..end].to_vec();
             let check = self.check(n, cut.clone());
             let decide = self.decide(n, cut.clone());
-            self.ready.extend([check, decide, reader(cut.clone())]);
+            let next = self.next(n, cut.clone());
+            self.ready
+                .extend([check, decide, next, reader(cut.clone())]);
             if n <= 10 {
                 let fill = self.fill(n, cut);
                 self.ready.push(fill);
@@ -230,8 +240,9 @@ impl Draw {
         let text = format!("1024\n{}.", nodes.concat()).into_bytes();
         let check = self.check(n, text.clone());
         let decide = self.decide(n, text.clone());
+        let next = self.next(n, text.clone());
         let fill = self.fill(n, text);
-        self.ready.extend([check, decide, fill]);
+        self.ready.extend([check, decide, next, fill]);
     }
 
     /// The stream of a random truth table of 16 options, by every call.
@@ -243,7 +254,8 @@ impl Draw {
             let check = self.check(16, cut.clone());
             let decide = self.decide(16, cut.clone());
             let fill = self.fill(16, cut.clone());
-            self.ready.extend([check, decide, fill, reader(cut)]);
+            let next = self.next(16, cut.clone());
+            self.ready.extend([check, decide, next, fill, reader(cut)]);
         }
     }
 
@@ -305,12 +317,33 @@ impl Draw {
         }
     }
 
-    /// Words below, at and past the covered count and 2^n.
     fn decide(&mut self, n: u32, stream: Vec<u8>) -> Case {
         let n = self.near(n);
+        let word = self.word(n, &stream);
+        Case {
+            call: Call::Decide { word },
+            n,
+            records: self.records(),
+            stream,
+        }
+    }
+
+    fn next(&mut self, n: u32, stream: Vec<u8>) -> Case {
+        let n = self.near(n);
+        let word = self.word(n, &stream);
+        Case {
+            call: Call::Next { word },
+            n,
+            records: self.records(),
+            stream,
+        }
+    }
+
+    /// Words below, at and past the covered count and 2^n.
+    fn word(&mut self, n: u32, stream: &[u8]) -> u64 {
         let all = 1u64 << n.min(32);
-        let covered = read(n.min(32), &stream).map_or(0, |reading| reading.covered);
-        let word = match self.random.below(40) {
+        let covered = read(n.min(32), stream).map_or(0, |reading| reading.covered);
+        match self.random.below(40) {
             0 => all,
             1 => all + self.random.below(all),
             2 => all - 1,
@@ -320,12 +353,6 @@ impl Draw {
             6..=11 => (covered + 1).saturating_sub(self.random.below(3)),
             12..=29 => self.random.below(covered),
             _ => self.random.below(all),
-        };
-        Case {
-            call: Call::Decide { word },
-            n,
-            records: self.records(),
-            stream,
         }
     }
 

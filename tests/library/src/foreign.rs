@@ -17,7 +17,7 @@ pub struct Bytes {
 }
 
 /// `rule_record`.
-pub type Record = [u32; 6];
+pub type Record = [u32; 8];
 
 /// `rule_node`.
 pub type Node = [u32; 12];
@@ -56,6 +56,18 @@ pub struct Decided {
     pub stream: u32,
     pub byte: u64,
     pub verdict: u32,
+    pub spare: u32,
+}
+
+/// `rule_found`.
+#[repr(C)]
+#[derive(Clone, Copy, Debug, Default, PartialEq, Eq)]
+pub struct Found {
+    pub cause: u32,
+    pub stream: u32,
+    pub byte: u64,
+    pub word: u64,
+    pub answer: u32,
     pub spare: u32,
 }
 
@@ -169,7 +181,7 @@ pub struct Stepped {
 }
 
 mod calls {
-    use super::{Checked, Decided, Filled, Node, Place, Record, Stepped, Written};
+    use super::{Checked, Decided, Filled, Found, Node, Place, Record, Stepped, Written};
 
     extern "C" {
         pub fn rule_check(
@@ -187,6 +199,14 @@ mod calls {
             table: *mut Record,
             records: usize,
         ) -> Decided;
+        pub fn rule_next(
+            n: u32,
+            stream: *const u8,
+            stream_bytes: usize,
+            word: u64,
+            table: *mut Record,
+            records: usize,
+        ) -> Found;
         pub fn rule_fill(
             n: u32,
             stream: *const u8,
@@ -242,6 +262,12 @@ pub unsafe fn rule_decide(n: u32, s: Stream, word: u64, t: Table) -> Decided {
 
 /// # Safety
 /// What is lent is there, and nothing else refers to it.
+pub unsafe fn rule_next(n: u32, s: Stream, word: u64, t: Table) -> Found {
+    calls::rule_next(n, s.bytes, s.length, word, t.records, t.length)
+}
+
+/// # Safety
+/// What is lent is there, and nothing else refers to it.
 pub unsafe fn rule_fill(n: u32, s: Stream, v: Bytes, t: Table) -> Filled {
     calls::rule_fill(n, s.bytes, s.length, v.bytes, v.length, t.records, t.length)
 }
@@ -285,12 +311,15 @@ pub unsafe fn rule_step(place: Place, s: Stream) -> Stepped {
 /// The sizes and offsets that `layout.c` finds in the header.
 const _: () = {
     use std::mem::{offset_of, size_of};
-    assert!(size_of::<Record>() == 24 && size_of::<Node>() == 48);
+    assert!(size_of::<Record>() == 32 && size_of::<Node>() == 48);
     assert!(size_of::<Checked>() == 32 && offset_of!(Checked, stream) == 4);
     assert!(offset_of!(Checked, byte) == 8 && offset_of!(Checked, covered) == 16);
     assert!(offset_of!(Checked, size) == 24 && offset_of!(Checked, extent) == 28);
     assert!(size_of::<Decided>() == 24 && offset_of!(Decided, stream) == 4);
     assert!(offset_of!(Decided, byte) == 8 && offset_of!(Decided, verdict) == 16);
+    assert!(size_of::<Found>() == 32 && offset_of!(Found, stream) == 4);
+    assert!(offset_of!(Found, byte) == 8 && offset_of!(Found, word) == 16);
+    assert!(offset_of!(Found, answer) == 24 && offset_of!(Found, spare) == 28);
     assert!(size_of::<Filled>() == 24 && offset_of!(Filled, stream) == 4);
     assert!(offset_of!(Filled, byte) == 8 && offset_of!(Filled, covered) == 16);
     assert!(size_of::<Written>() == 40 && offset_of!(Written, stream) == 4);

@@ -1,7 +1,7 @@
 //! The proved library compared with the plain walk, call by call and slice by slice.
 //!
 //! `library SEED COUNT` compares, for SEED, the cases whose answer is stated, at least COUNT cases of the calls that
-//! read, then those of writing and of combining that are always there and random ones, a tenth of COUNT each, then
+//! read, more of finding the next word and rules that are listed by it, then those of writing and of combining that are always there and random ones, a tenth of COUNT each, then
 //! those of combining dense rules with many options, a fiftieth, and pairs of runs, a hundredth; with a third argument
 //! it says each case before it is put to the library. `library dense SEED COUNT LEAST MOST` compares COUNT cases of
 //! dense rules and a tenth as many pairs of runs with LEAST to MOST options alone.
@@ -16,6 +16,7 @@ mod dense;
 mod draw;
 mod foreign;
 mod lent;
+mod nexts;
 mod pairs;
 mod stated;
 mod streams;
@@ -94,6 +95,7 @@ fn run(seed: u64, count: usize, say: bool) -> ExitCode {
     let start = Instant::now();
     let mut tally = Tally::default();
     if let Err(code) = run_stated(&mut tally, say)
+        .and_then(|()| run_nexts(seed, &mut tally, say))
         .and_then(|()| run_cases(seed, count, &mut tally, say))
         .and_then(|()| {
             run_dense(
@@ -138,6 +140,23 @@ fn run_stated(tally: &mut Tally, say: bool) -> Result<(), ExitCode> {
         }
         tally.stated += 1;
         count(&stated.case, tally)?;
+    }
+    Ok(())
+}
+
+/// Finding the next word, and listing.
+fn run_nexts(seed: u64, tally: &mut Tally, say: bool) -> Result<(), ExitCode> {
+    for case in nexts::cases(seed) {
+        if say {
+            println!("{}", case.line());
+        }
+        count(&case, tally)?;
+    }
+    for rule in nexts::rules(seed) {
+        if let Err((case, difference)) = nexts::list(&rule, &mut tally.listed) {
+            let difference = format!("listing, one word after the other: {difference}");
+            return Err(differs(&case.line(), &difference));
+        }
     }
     Ok(())
 }

@@ -136,7 +136,7 @@ fn decided(case: &Case, run: &Run, word: u64) -> Result<Option<bool>, String> {
 
 /// What `rule_decide` says: none if it refuses, none inside if it is not yet decided.
 fn verdict(n: u32, bytes: &[u8], word: u64) -> Option<Option<bool>> {
-    let mut records: Vec<Record> = vec![[0; 6]; 1024];
+    let mut records: Vec<Record> = vec![[0; 8]; 1024];
     let stream = Stream {
         bytes: bytes.as_ptr(),
         length: bytes.len(),

@@ -3,6 +3,7 @@
 use crate::buckets::{given_again, Longest};
 use crate::case::{Call, Case, NAMES};
 use crate::compare::Outcome;
+use crate::nexts::Listed;
 use crate::pairs::Met;
 
 /// The outcomes that cases of each call must have: taken (0; for the reader: the bytes ran out) and causes.
@@ -13,10 +14,15 @@ const KINDS: [&[usize]; NAMES.len()] = [
     &[0, 7, 9],
     &[0, 1, 3, 4, 6],
     &[0, 1, 2, 3, 4, 7, 8, 9, 10, 11, 12, 13],
+    &[0, 1, 4, 5, 7, 8, 9, 10, 11, 12, 13],
 ];
 
-/// Those that write, and the endings that they must have.
-const ENDINGS: [(usize, &[usize]); 2] = [(4, &[0, 2]), (5, &[0, 1, 2])];
+/// Those that write, and the endings that they must have; finding the next word, and its answers.
+const ENDINGS: [(usize, [&str; 3], &[usize]); 3] = [
+    (4, ENDING_NAMES, &[0, 2]),
+    (5, ENDING_NAMES, &[0, 1, 2]),
+    (6, ["none", "a word", "not known"], &[0, 1, 2]),
+];
 
 const ENDING_NAMES: [&str; 3] = ["whole", "input ended", "output full"];
 
@@ -24,13 +30,14 @@ const ENDING_NAMES: [&str; 3] = ["whole", "input ended", "output full"];
 pub struct Tally {
     /// By call, and by cause, 0 for taken.
     outcomes: [[usize; 14]; NAMES.len()],
-    /// By call, and by ending.
+    /// By call, and by ending, or by answer.
     endings: [[usize; 3]; NAMES.len()],
     /// Refusals of combining by stream, and by cause.
     streams: [[usize; 14]; 3],
     pub stated: usize,
     pub dense: Dense,
     pub pairs: Met,
+    pub listed: Listed,
     pub buckets: Longest,
 }
 
@@ -92,7 +99,7 @@ impl Tally {
     }
 
     /// A table of calls by outcome: taken (for the reader: the bytes ran out), causes 1 to 13; then how the calls that
-    /// write ended, the cases with dense rules, the pairs of runs and the longest buckets.
+    /// write ended and what the next word was, the listings, the cases with dense rules, the pairs of runs and the longest buckets.
     pub fn table(&self, seed: u64) -> String {
         let mut text = format!("{:8} {:>7}", "call", "taken");
         for cause in 1..=13 {
@@ -107,6 +114,7 @@ impl Tally {
             text += "\n";
         }
         text + &self.endings_line()
+            + &self.listed.line()
             + &self.dense.line()
             + &self.pairs_line()
             + &self.buckets.lines(seed)
@@ -114,8 +122,8 @@ impl Tally {
 
     fn endings_line(&self) -> String {
         let mut text = String::new();
-        for (call, _) in ENDINGS {
-            let counts = ENDING_NAMES.iter().zip(self.endings[call]);
+        for (call, names, _) in ENDINGS {
+            let counts = names.iter().zip(self.endings[call]);
             let counts: Vec<String> = counts
                 .map(|(name, count)| format!("{name} {count}"))
                 .collect();
@@ -165,10 +173,10 @@ impl Tally {
                 need(count, format!("{}, cause {kind} (0: taken)", NAMES[call]));
             }
         }
-        for (call, endings) in ENDINGS {
+        for (call, names, endings) in ENDINGS {
             for &ending in endings {
                 let count = self.endings[call][ending];
-                need(count, format!("{}, {}", NAMES[call], ENDING_NAMES[ending]));
+                need(count, format!("{}, {}", NAMES[call], names[ending]));
             }
         }
         for stream in 1..=2 {
@@ -177,6 +185,10 @@ impl Tally {
                 need(count, format!("combine, cause {cause} in stream {stream}"));
             }
         }
+        let Listed { whole, cut, .. } = self.listed;
+        need(whole, "whole rules, listed".to_string());
+        need(cut, "cut rules, listed".to_string());
+        need(self.listed.words, "words, listed".to_string());
         need(self.stated, "stated cases".to_string());
         need(self.dense.refused, "dense rules, refused".to_string());
         for (name, count) in ENDING_NAMES.iter().zip(self.dense.endings) {

@@ -1,5 +1,5 @@
 //! Each call with its refusals in order, its answer and every lent slice (document 01, "Turned
-//! down", "The written stream").
+//! down", "The written stream"; document 02).
 //!
 //! A lent work table is a row of records; one number stands for each record here, since the walk
 //! needs none of them. "Past cause 6 all work table records are zero on return", those beyond
@@ -30,6 +30,15 @@ pub enum Decision {
     No,
     Yes,
     NotYet,
+}
+
+/// "give the least admitted word not below w. If no covered word from w on is admitted, the answer
+/// is "none" where all words are covered and "not known" otherwise" (document 02, R-1).
+#[derive(Clone, Copy, Debug, PartialEq, Eq)]
+pub enum Next {
+    None,
+    Word(u64),
+    NotKnown,
 }
 
 /// Causes 1, 4, then those of the stream.
@@ -66,6 +75,22 @@ pub fn decide(
     } else {
         Ok(Decision::No)
     }
+}
+
+/// "Causes 1, 4, 5 and 7 to 13 apply" (document 02, R-1).
+pub fn next(n: u64, stream: &[u8], word: u64, table: &mut WorkTable) -> Result<Next, Refusal> {
+    let options = options_of_stream(n)?;
+    enough_records(&[table])?;
+    if word >= 1u64 << options {
+        return Err(Refusal::of_call(5));
+    }
+    table.fill(0);
+    let reading = read_stream(options, 1, stream)?;
+    Ok(match reading.next_admitted(word) {
+        Some(word) => Next::Word(word),
+        None if reading.covered == 1u64 << options => Next::None,
+        None => Next::NotKnown,
+    })
 }
 
 /// Causes 1, 4, 6, then those of the stream. "Filling answers the covered count." "A cut stream

@@ -11,10 +11,11 @@
 //! | 4 combine | n; operator; size; three records; stream 1; stream 2; output before | answer, z, output after |
 //! | 5 reader | stream | four numbers for each element, four at the stop |
 //! | 6 join | input | output |
+//! | 7 next | n; records; stream; word | answer, z |
 //!
 //! A refusal answers 1, cause, stream, byte. Else check answers 0, declared size, covered count,
-//! 1 complete or 0 cut; decide 0 and 0 no, 1 yes, 2 not yet; fill 0, covered count; write and
-//! combine 0, bytes written, covered count, 0 whole or 1 input ended or 2 output full.
+//! 1 complete or 0 cut; decide 0 and 0 no, 1 yes, 2 not yet; next 0 and 0 none, 1 a word, 2 not
+//! known, and the word (0 if there is none); fill 0, covered count; write and combine 0, bytes written, covered count, 0 whole or 1 input ended or 2 output full.
 //!
 //! z is 1 if all records of the lent work tables are zero on return, 0 if they were left as they
 //! were (also if no record was lent). They are lent full of 7.
@@ -24,14 +25,14 @@
 //! "the bytes ran out" or 8 for a fault, cause, byte (both 0 if the bytes ran out), and the place
 //! where the reader stands.
 
-use crate::calls::{check, combine, decide, fill, write, Decision};
+use crate::calls::{check, combine, decide, fill, next, write, Decision, Next};
 use crate::join::join;
 use crate::reader::{Element, Reader, Step};
 use crate::refusal::Refusal;
 use crate::run::{Ending, Written};
 
-pub const NAMES: [&str; 7] = [
-    "check", "decide", "fill", "write", "combine", "reader", "join",
+pub const NAMES: [&str; 8] = [
+    "check", "decide", "fill", "write", "combine", "reader", "join", "next",
 ];
 
 const GARBAGE: u64 = 7;
@@ -76,6 +77,12 @@ pub enum Case {
     Join {
         input: Vec<u8>,
     },
+    Next {
+        n: u64,
+        records: usize,
+        stream: Vec<u8>,
+        word: u64,
+    },
 }
 
 impl Case {
@@ -89,6 +96,7 @@ impl Case {
             Case::Combine { .. } => 4,
             Case::Reader { .. } => 5,
             Case::Join { .. } => 6,
+            Case::Next { .. } => 7,
         }
     }
 
@@ -100,6 +108,12 @@ impl Case {
                 vec![one(*n), one(*records as u64), numbers(stream)]
             }
             Case::Decide {
+                n,
+                records,
+                stream,
+                word,
+            }
+            | Case::Next {
                 n,
                 records,
                 stream,
@@ -221,6 +235,21 @@ impl Case {
             }
             Case::Reader { stream } => elements(stream),
             Case::Join { input } => numbers(&join(input)),
+            Case::Next {
+                n,
+                records,
+                stream,
+                word,
+            } => {
+                let mut table = vec![GARBAGE; *records];
+                let answer = next(*n, stream, *word, &mut table);
+                let answer = answer.map(|next| match next {
+                    Next::None => vec![0, 0],
+                    Next::Word(word) => vec![1, word],
+                    Next::NotKnown => vec![2, 0],
+                });
+                together(answer, &[&table], &[])
+            }
         }
     }
 

@@ -182,6 +182,22 @@ impl Diagrams {
         edge.turn
     }
 
+    /// The first word at which a function is yes. Of two halves that differ one at least has such a
+    /// word, so only a constant no is passed by.
+    pub fn first_word(&self, options: u32, mut edge: Edge) -> Option<u64> {
+        let mut word = 0;
+        while !edge.is_constant() {
+            let level = self.nodes[edge.function].level;
+            let [first, second] = self.halves(level, edge);
+            edge = first;
+            if first == constant(false) {
+                word += 1 << (options - level);
+                edge = second;
+            }
+        }
+        edge.turn.then_some(word)
+    }
+
     /// The words before `end`, which is at most 2^n.
     pub fn before(&mut self, options: u32, end: u64) -> Edge {
         self.before_from(options, 1, end)

@@ -22,6 +22,7 @@ pub fn cases(seed: u64, count: usize) -> Vec<Case> {
     cases.extend(limit_cases());
     cases.extend(order_cases());
     cases.extend(queue_cases());
+    cases.extend(next_cases());
     cases.extend(job_cases());
     cases.extend(draw.every_cut());
     cases.extend(draw.every_output());
@@ -165,6 +166,15 @@ fn decide(n: u64, stream: Vec<u8>, word: u64) -> Case {
     }
 }
 
+fn next(n: u64, stream: Vec<u8>, word: u64) -> Case {
+    Case::Next {
+        n,
+        records: 1024,
+        stream,
+        word,
+    }
+}
+
 fn fill(n: u64, stream: Vec<u8>) -> Case {
     Case::Fill {
         n,
@@ -206,6 +216,7 @@ fn paper_cases() -> Vec<Case> {
         });
         for word in 0..=1 << n {
             cases.push(decide(n, stream.clone(), word));
+            cases.push(next(n, stream.clone(), word));
         }
         // The first input by itself, written anew.
         for size in [0, 1, 2, 4] {
@@ -264,6 +275,7 @@ fn settled_cases() -> Vec<Case> {
         let stream = shown(text);
         cases.push(check(n, stream.clone()));
         cases.push(decide(n, stream.clone(), (1 << n) - 1));
+        cases.push(next(n, stream.clone(), 0));
         cases.push(combine(n, 8, 2, shown("0/~0."), stream.clone(), 20));
         cases.push(Case::Reader { stream });
     }
@@ -289,6 +301,9 @@ fn limit_cases() -> Vec<Case> {
                 for word in [0, all - 1, all] {
                     cases.push(decide(n, stream.clone(), word));
                 }
+                for word in [all - 3, all - 1, all] {
+                    cases.push(next(n, stream.clone(), word));
+                }
                 cases.push(combine(n, 8, 2, shown("0/0x"), stream.clone(), 9));
                 cases.push(combine(n, 8, 2, stream, shown("0/0x"), 9));
             }
@@ -312,6 +327,12 @@ fn limit_cases() -> Vec<Case> {
             records,
             stream: stream.clone(),
             word: 2,
+        });
+        cases.push(Case::Next {
+            n: 1,
+            records,
+            stream: stream.clone(),
+            word: 1,
         });
         cases.push(Case::Fill {
             n: 3,
@@ -390,6 +411,12 @@ fn order_cases() -> Vec<Case> {
                 stream: stream.clone(),
                 word,
             });
+            cases.push(Case::Next {
+                n,
+                records,
+                stream: stream.clone(),
+                word,
+            });
         }
         if only(&[1, 4, 6]) {
             cases.push(Case::Fill {
@@ -452,6 +479,45 @@ fn queue_cases() -> Vec<Case> {
         write(n, size, truth.to_le_bytes()[..bytes].to_vec(), 70)
     };
     QUEUES.map(case).to_vec()
+}
+
+/// What document 02, R-1, is read as: "none" where all words are covered, also without a point.
+/// Option count and stream, asked from each word.
+pub const NEXT: [(u64, &str); 14] = [
+    (1, "0/0"),
+    (1, "0/(0"),
+    (1, "0/(0 0"),
+    (1, "0/~0"),
+    (1, "0/~(0"),
+    (1, "0/(0~0"),
+    (0, "0/~0."),
+    (2, "2/((0 0):1 1):2."),
+    (2, "2/~((0 0):1 1):2."),
+    (2, "2/((0 0):1~1):2."),
+    (3, "2/(((0 0):1 1):2~2)."),
+    (3, "2/((0(0~0):1):2(1~0):2)."),
+    (3, "2/(((0~0):1 0):2((0 0):2(0 0):1))."),
+    // A fault behind the answer.
+    (3, "2/(((0~0):1 0):2~2):2."),
+];
+
+fn next_cases() -> Vec<Case> {
+    let asked = |(n, text): (u64, &str)| {
+        let stream = shown(text);
+        (0..=1 << n).map(move |word| next(n, stream.clone(), word))
+    };
+    NEXT.into_iter().flat_map(asked).collect()
+}
+
+/// `depth` stored nodes, each with the one before as both children: none of them changes a
+/// decision. `turns` says for each whether its second child is turned, the innermost first.
+pub fn constant_chain(depth: usize, turns: impl Fn(usize) -> bool) -> String {
+    let mut text = "(".repeat(depth) + "0";
+    for number in 0..depth {
+        let between = if turns(number) { "~" } else { " " };
+        text += &format!("{between}{number}):{}", number + 1);
+    }
+    text
 }
 
 /// Jobs: all first lines, all numbers of lines, the longest input and one byte more.
@@ -554,14 +620,15 @@ impl Draw {
     }
 
     fn case(&mut self) -> Case {
-        match self.random.below(100) {
+        match self.random.below(112) {
             0..=21 => self.check(),
             22..=37 => self.decide(),
             38..=49 => self.fill(),
             50..=62 => self.write(),
             63..=82 => self.combine(),
             83..=90 => self.reader(),
-            _ => self.join(),
+            91..=99 => self.join(),
+            _ => self.next(),
         }
     }
 
@@ -662,6 +729,28 @@ impl Draw {
             _ => self.random.below(all),
         };
         Case::Decide {
+            n,
+            records: self.records(),
+            stream,
+            word,
+        }
+    }
+
+    /// Words mostly below 2^n and below the covered count.
+    fn next(&mut self) -> Case {
+        let n = self.options();
+        let stream = self.stream(n);
+        let options = n.min(32) as u32;
+        let all = 1u64 << options;
+        let covered = read(options, &stream).map_or(0, |reading| reading.covered);
+        let word = match self.random.below(20) {
+            0 => all,
+            1..=2 => all - 1 - self.random.below(all.min(4)),
+            3..=6 => (covered + 1).saturating_sub(self.random.below(4)),
+            7..=15 => self.random.below(covered),
+            _ => 0,
+        };
+        Case::Next {
             n,
             records: self.records(),
             stream,
@@ -860,6 +949,8 @@ impl Draw {
                 let word = self.random.below(1 << n);
                 cases.push(decide(n, cut.clone(), word));
                 if n <= 5 {
+                    cases.push(next(n, cut.clone(), 0));
+                    cases.push(next(n, cut.clone(), word));
                     let operator = self.random.below(16);
                     let size = self.random.below(5);
                     let whole = stream.clone();
@@ -925,6 +1016,7 @@ impl Case {
     fn longest(&self) -> usize {
         match self {
             Case::Check { stream, .. } | Case::Decide { stream, .. } => stream.len(),
+            Case::Next { stream, .. } => stream.len(),
             Case::Fill { stream, .. } | Case::Reader { stream } => stream.len(),
             Case::Write { .. } => 0,
             Case::Combine { streams, .. } => streams[0].len().max(streams[1].len()),
@@ -933,7 +1025,7 @@ impl Case {
     }
 
     /// The option count if the call walks all words: it fills, writes or combines and is not
-    /// refused. Otherwise 0.
+    /// refused. Of the next admitted word as many options as the words to try have. Otherwise 0.
     fn walked(&self) -> u64 {
         let faulty = |n: u64, stream: &[u8]| n > 32 || read(n as u32, stream).is_err();
         let walks = |n: u64, walks: bool| if walks { n } else { 0 };
@@ -943,6 +1035,16 @@ impl Case {
                 n, stream, truth, ..
             } => walks(*n, truth.len() == (1 << n) / 8 && !faulty(*n, stream)),
             Case::Write { n, truth, .. } => walks(*n, truth.len() == (1 << n) / 8),
+            Case::Next {
+                n, stream, word, ..
+            } => match read((*n).min(32) as u32, stream) {
+                Ok(reading) => {
+                    let end = reading.next_admitted(*word).unwrap_or(reading.covered);
+                    let tried = end.saturating_sub(*word);
+                    u64::from(64 - tried.leading_zeros())
+                }
+                Err(_) => 0,
+            },
             Case::Combine { n, streams, .. } => {
                 walks(*n, streams.iter().all(|stream| !faulty(*n, stream)))
             }

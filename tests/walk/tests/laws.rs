@@ -355,11 +355,11 @@ fn cut_runs() {
 /// The cases are the same for the same seed, and every call and cause is among them.
 #[test]
 fn the_list_of_cases() {
-    let list = cases(1, 4000);
-    assert!(list.len() >= 4000);
-    assert_eq!(list, cases(1, 4000));
-    assert_ne!(list, cases(2, 4000));
-    for call in 0..7 {
+    let list = cases(1, 5000);
+    assert!(list.len() >= 5000);
+    assert_eq!(list, cases(1, 5000));
+    assert_ne!(list, cases(2, 5000));
+    for call in 0..8 {
         assert!(list.iter().filter(|case| case.call() == call).count() >= 100);
     }
     for cause in 7..=13 {

@@ -1,0 +1,2 @@
+# crates/finder/src/lib.rt
+s/^        v = u;/        v = u + 1;/

@@ -1,0 +1,2 @@
+# crates/finder/src/lib.rt
+/^fn found_at/,/^}/s/^    if f {/    if f \&\& v == 0 {/

@@ -1,0 +1,2 @@
+# crates/finder/src/lib.rt
+s/^    if r < half {/    if r <= half {/

@@ -1,0 +1,2 @@
+# crates/work_table/src/lib.rt
+s/^        admits: x.admits,/        admits: 0,/

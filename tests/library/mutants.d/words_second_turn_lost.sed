@@ -1,0 +1,2 @@
+# crates/node_records/src/lib.rt
+s/^        complement: differs(x.complement != 0, c),/        complement: c,/
