@@ -275,7 +275,7 @@ static job deep_constant(void)
 #define BUCKET 512
 #define MOST_LEAVES (1 << (LOW - LEVELS - 2))
 
-/* One round of mixing, and the bucket of a node, as crates/writer_records has them. */
+/* One round of mixing, and the bucket of a node, as crates/writer_numbers has them. */
 static uint64_t stir(uint32_t k, uint64_t v)
 {
     uint64_t x = (uint32_t)v, p = x * (uint32_t)(x + k);

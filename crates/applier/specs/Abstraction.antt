@@ -6,9 +6,9 @@ use lib.Dec.{ltb}
 use Rattle.theory_reading.specs.Limits.{optionLimit, levelLimit}
 use Rattle.theory_writing.specs.Run.{operate}
 use Rattle.theory_engine.specs.Engine as E
-use Rattle.theory_engine.specs.Applying.{Source}
-use Rattle.theory_engine.specs.Memo.{slotOf}
-use Rattle.theory_engine.specs.Recalling.{Recalled, unnoted, recallIn}
+use Rattle.theory_applying.specs.Applying.{Source}
+use Rattle.theory_applying.specs.Memo.{slotOf}
+use Rattle.theory_applying.specs.Recalling.{Recalled, unnoted, recallIn}
 use Rattle.meeting.specs.Abstraction.{walkedOf}
 use Rattle.meeting.specs.declared.Walked.{Walked}
 use Rattle.node_records.specs.declared.WriterRecord.{WriterRecord}

@@ -15,11 +15,11 @@ use Rattle.theory_writing.specs.Texts.{tildeIf}
 use Rattle.theory_writing.specs.Run.{operate}
 use Rattle.theory_engine.specs.Pending.{Waiting, pushAll, waitIn}
 use Rattle.theory_engine.specs.Engine as E
-use Rattle.theory_engine.specs.Applying.{Source, firstSource, secondSource, passes, allPass, fixed}
-use Rattle.theory_engine.specs.Memo.{keyOf, tells, isEmpty, isYoung, toldHalf, rememberIn, slotOf, entryFor, lookUpIn}
-use Rattle.theory_engine.specs.MemoCorrect.{key-pair}
-use Rattle.theory_engine.specs.Recalling.{Recalled, unnoted, recallIn}
-use Rattle.theory_engine.specs.RecallCorrect.{recall-told, recall-full, recall-on, recall-again}
+use Rattle.theory_applying.specs.Applying.{Source, firstSource, secondSource, passes, allPass, fixed}
+use Rattle.theory_applying.specs.Memo.{keyOf, tells, isEmpty, isYoung, toldHalf, rememberIn, slotOf, entryFor, lookUpIn}
+use Rattle.theory_applying.specs.MemoCorrect.{key-pair}
+use Rattle.theory_applying.specs.Recalling.{Recalled, unnoted, recallIn}
+use Rattle.theory_applying.specs.RecallCorrect.{recall-told, recall-full, recall-on, recall-again}
 use Rattle.theory_combining.specs.EdgeCorrect.{and-none}
 use Rattle.work_table.specs.Table.{getIn}
 use Rattle.work_table.specs.TableLaws.{recordNode, tableOf, table-node}

@@ -29,7 +29,7 @@ use Rattle.reader.specs.Advance.{stateAt, HaltsAt}
 use Rattle.reader.specs.Loop.{Stands, stands-first, stands-covered, PassedLast, Ends, ReachedBy}
 use Rattle.reader.specs.ReadOn.{firstCursor, ReadTo, readAll, read-reaches, read-within}
 use Rattle.elements.specs.declared.Opens.{Opens}
-use Rattle.reader.specs.declared.Run.{Run}
+use Rattle.cursors.specs.declared.Run.{Run}
 use Rattle.reader.specs.OpenCells.{ReadReached, ReadCursor}
 use Rattle.blocks.specs.Blocks.{edgeAt, ReadBlock, blockOf, Next, nextOf, nextBlock, word-passed}
 use Rattle.node_records.specs.declared.NodeRecord.{NodeRecord}

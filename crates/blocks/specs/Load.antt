@@ -15,14 +15,16 @@ use Rattle.theory_reading.specs.Deciding.{ended}
 use Rattle.elements.specs.Abstraction.{contextOf}
 use Rattle.work_table.specs.Table.{getIn}
 use Rattle.reader.specs.OpenCells.{ReadReached, cursorIn}
-use Rattle.reader.specs.Loop.{firstRun, firstOpens, stands-first}
-use Rattle.checker.specs.Answers.{checkingOf}
+use Rattle.cursors.specs.Cursors.{firstRun}
+use Rattle.reader.specs.Loop.{firstOpens, stands-first}
+use Rattle.answers.specs.Answers.{checkingOf}
 use Rattle.checker.specs.CheckCorrect.{checkedBy}
-use Rattle.reader.specs.ReadOn.{ReadTo, readOn, readAll, firstCursor, startCursor, readFrom, read-within}
+use Rattle.cursors.specs.Cursors.{startCursor}
+use Rattle.reader.specs.ReadOn.{ReadTo, readOn, readAll, firstCursor, readFrom, read-within}
 use Rattle.blocks.specs.Blocks.{ReadBlock, blockOf}
 use Rattle.blocks.specs.declared.Loaded.{Loaded}
 use Rattle.elements.specs.declared.Ref.{Ref}
-use Rattle.reader.specs.declared.Cursor.{Cursor}
+use Rattle.cursors.specs.declared.Cursor.{Cursor}
 use Rattle.node_records.specs.declared.NodeRecord.{NodeRecord}
 
 -- ---- Definitions -----------------------------------------------------------------------------

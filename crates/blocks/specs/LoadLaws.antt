@@ -28,7 +28,8 @@ use Rattle.work_table.specs.TableLaws.{tableOf}
 use Rattle.reader.specs.Simulation.{child-of}
 use Rattle.reader.specs.Advance.{stateAt, bars-record}
 use Rattle.reader.specs.OpenCells.{ReadReached}
-use Rattle.reader.specs.Loop.{firstRun, firstOpens, stands-first}
+use Rattle.cursors.specs.Cursors.{firstRun}
+use Rattle.reader.specs.Loop.{firstOpens, stands-first}
 use Rattle.checker.specs.CheckCorrect.{checkedBy, Reads, all-reads, check-options, check-table, check-correct}
 use Rattle.reader.specs.ReadOn.{ReadTo, readAll, read-length, read-reaches}
 use Rattle.blocks.specs.Load.{LoadTo, staysIn, wholeBy, refusedLoad, loadOf, load, load-options, load-table, load-on}

@@ -3,19 +3,19 @@ ghost use mathlib.Core.Path.{_≡_};
 ghost use Rattle.theory_lists.specs.Lists.{bit};
 ghost use Rattle.theory_reading.specs.Causes.{causeRow};
 ghost use Rattle.elements.specs.Abstraction.{causeOf};
-ghost use Rattle.checker.specs.Answers.{checkingOf};
-ghost use Rattle.decider.specs.Answers.{verdictsOf, decidingOf};
-ghost use Rattle.finder.specs.Answers.{nextOf, findingOf};
-ghost use Rattle.filler.specs.Answers.{fillingOf};
+ghost use Rattle.answers.specs.Answers.{checkingOf};
+ghost use Rattle.answers.specs.Answers.{verdictsOf, decidingOf};
+ghost use Rattle.answers.specs.Answers.{nextOf, findingOf};
+ghost use Rattle.answers.specs.Answers.{fillingOf};
 ghost use Rattle.c_answers.specs.Numbers.{verdictNumber, checkedNumbers, decidedNumbers, filledNumbers};
 ghost use Rattle.c_answers.specs.Numbers.{nextNumber, nextFound, foundNumbers};
-use checker::Checking;
-use decider::Deciding;
-use decider::Verdict;
+use answers::Checking;
+use answers::Deciding;
+use answers::Filling;
+use answers::Finding;
+use answers::NextWord;
+use answers::Verdict;
 use elements::Cause;
-use filler::Filling;
-use finder::Finding;
-use finder::NextWord;
 
 #[repr(C)]
 pub struct RuleChecked {

@@ -1,3 +1,3 @@
 -- Generated: what callers cite of the lifted functions.
--- From 81b96f92f05e5f86, as 4e22d98f3ed21860.
+-- From 42bafd3c7e323c4b, as 4e22d98f3ed21860.
 pub mod check

@@ -6,8 +6,13 @@ ghost use Rattle.theory_reading.specs.Calls.{Checks};
 ghost use Rattle.node_records.specs.Records.{noRecord};
 ghost use Rattle.elements.specs.Abstraction.{causeOf};
 ghost use Rattle.reader.specs.OpenCells.{reachedIn};
-ghost use Rattle.checker.specs.Answers.{refusalOf, checkingOf};
+ghost use Rattle.answers.specs.Answers.{refusalOf, checkingOf};
 ghost use Rattle.checker.specs.CheckCorrect.{checkedBy};
+use answers::Checked;
+use answers::Checking;
+use answers::Refusal;
+use answers::early;
+use cursors::first_cursor;
 use elements::Cause;
 use elements::Context;
 use elements::OPEN_LIMIT;
@@ -17,39 +22,8 @@ use node_records::OPTION_LIMIT;
 use node_records::TABLE_LIMIT;
 use node_records::WORD_LIMIT;
 use reader::Reached;
-use reader::first_cursor;
 use reader::read_on;
 use record_tables::clear_records;
-
-// Why a call is turned down: the cause, the stream (0: none) and the byte.
-pub struct Refusal {
-    pub cause: Cause,
-    pub stream: u32,
-    pub byte: usize,
-}
-
-// What checking answers: the declared size (0 while unfinished), the covered count, and whether the stream has its point.
-pub struct Checked {
-    pub size: u32,
-    pub covered: u64,
-    pub complete: bool,
-}
-
-pub enum Checking {
-    Refused(Refusal),
-    Done(Checked),
-}
-
-// Tested before any stream is read.
-pub fn early(c: Cause) -> Refusal
-    ensures { λ r. ⌜ refusalOf r ≡ refusal (causeOf c) 0 0 ⌝ }
-{
-    Refusal {
-        cause: c,
-        stream: 0,
-        byte: 0,
-    }
-}
 
 // The fault that a loop has met, in stream 1.
 pub fn late(r: Reached) -> Refusal

@@ -2,7 +2,7 @@
 use mathlib.Core.Bool.{cond}
 use Prim.Native.Nat.{ℕ}
 use Rattle.theory_reading.specs.Causes as C
-use Rattle.checker.specs.Answers.{refusalOf}
+use Rattle.answers.specs.Answers.{refusalOf}
 use Rattle.combiner.specs.declared.Both.{Both}
 
 -- both streams checked

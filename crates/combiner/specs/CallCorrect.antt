@@ -12,9 +12,9 @@ use Rattle.theory_writing.specs.Run.{whole, inputEnded, outputFull, Answer}
 use Rattle.theory_writing.specs.Calls.{combine}
 use Rattle.theory_engine.specs.Pending.{waitingLimit}
 use Rattle.theory_engine.specs.Engine.{Sent}
-use Rattle.theory_engine.specs.Operands as T
-use Rattle.theory_engine.specs.Memo.{slotOf, cacheEntries}
-use Rattle.checker.specs.Answers.{checkingOf}
+use Rattle.theory_applying.specs.Operands as T
+use Rattle.theory_applying.specs.Memo.{slotOf, cacheEntries}
+use Rattle.answers.specs.Answers.{checkingOf}
 use Rattle.blocks.specs.Blocks.{ReadBlock, blockIn}
 use Rattle.blocks.specs.Load.{LoadTo, loadIn, load}
 use Rattle.blocks.specs.declared.Loaded.{Loaded}

@@ -1,5 +1,5 @@
 -- Generated: what callers cite of the lifted functions.
--- From db5e741eb581e789, as bfef1e1f7f24c805.
+-- From a836c20be02a443c, as bfef1e1f7f24c805.
 pub mod walk_down
 pub mod word_at
 pub mod decide

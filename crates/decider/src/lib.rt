@@ -10,13 +10,17 @@ ghost use Rattle.node_records.specs.Records.{noRecord};
 ghost use Rattle.work_table.specs.TableLaws.{tableOf};
 ghost use Rattle.reader.specs.OpenCells.{reachedIn};
 ghost use Rattle.blocks.specs.Blocks.{wordAt};
-ghost use Rattle.decider.specs.Answers.{verdictsOf, decidingOf};
+ghost use Rattle.answers.specs.Answers.{verdictsOf, decidingOf};
 ghost use Rattle.decider.specs.DecideCorrect.{decidedBy};
+use answers::Deciding;
+use answers::Refusal;
+use answers::Verdict;
+use answers::early;
 use blocks::below;
 use blocks::edge_of;
-use checker::Refusal;
-use checker::early;
 use checker::late;
+use cursors::Cursor;
+use cursors::first_cursor;
 use elements::Cause;
 use elements::OPEN_LIMIT;
 use node_records::Edge;
@@ -26,23 +30,10 @@ use node_records::TABLE_LIMIT;
 use node_records::WORD_LIMIT;
 use node_records::first_edge;
 use node_records::second_edge;
-use reader::Cursor;
 use reader::Reached;
-use reader::first_cursor;
 use reader::read_on;
 use record_tables::clear_records;
 use work_table::get;
-
-pub enum Verdict {
-    No,
-    Yes,
-    NotYet,
-}
-
-pub enum Deciding {
-    Refused(Refusal),
-    Done(Verdict),
-}
 
 // The decision of a word: no, turned about if b.
 fn verdict_of(b: bool) -> Verdict

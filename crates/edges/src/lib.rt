@@ -6,7 +6,7 @@ ghost use lib.Dec.{eqb, ltb};
 ghost use Prim.Native.Nat.{ℕ};
 ghost use Rattle.theory_writing.specs.Run.{digitAt, operate};
 ghost use Rattle.work_table.specs.Table.{getIn};
-ghost use Rattle.theory_engine.specs.Applying.{firstSource, secondSource, fixed};
+ghost use Rattle.theory_applying.specs.Applying.{firstSource, secondSource, fixed};
 ghost use Rattle.edges.specs.Abstraction.{edgeIn};
 use node_records::Edge;
 use node_records::NodeRecord;
@@ -14,7 +14,7 @@ use node_records::differs;
 use node_records::first_edge as first_child;
 use node_records::second_edge as second_child;
 use node_records::skips;
-use writer_records::either;
+use writer_numbers::either;
 
 // ---- The operator
 

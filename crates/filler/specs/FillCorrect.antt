@@ -27,17 +27,19 @@ use Rattle.node_records.specs.Records.{noRecord}
 use Rattle.work_table.specs.TableLaws.{tableOf}
 use Rattle.reader.specs.Simulation.{child-of}
 use Rattle.reader.specs.Advance.{stateAt, HaltsAt}
-use Rattle.reader.specs.Loop.{firstRun, firstOpens, Stands, stands-first, stands-covered, PassedLast, Ends, ReachedBy}
+use Rattle.cursors.specs.Cursors.{firstRun}
+use Rattle.reader.specs.Loop.{firstOpens, Stands, stands-first, stands-covered, PassedLast, Ends, ReachedBy}
 use Rattle.filler.specs.Truths.{putNodeIn}
 use Rattle.filler.specs.TruthLaws.{put-truths}
 use Rattle.checker.specs.CheckCorrect.{lateOf, Reads, unless-read, table-after}
 use Rattle.blocks.specs.Blocks.{edgeAt}
-use Rattle.reader.specs.ReadOn.{startCursor, readFrom, read-called}
+use Rattle.cursors.specs.Cursors.{startCursor}
+use Rattle.reader.specs.ReadOn.{readFrom, read-called}
 use Rattle.blocks.specs.BlockLaws.{passed-from, passed-covers}
 use Rattle.node_records.specs.declared.Edge.{Edge}
-use Rattle.reader.specs.declared.Cursor.{Cursor}
+use Rattle.cursors.specs.declared.Cursor.{Cursor}
 use Rattle.elements.specs.declared.Opens.{Opens}
-use Rattle.reader.specs.declared.Run.{Run}
+use Rattle.cursors.specs.declared.Run.{Run}
 use Rattle.reader.specs.OpenCells.{ReadReached, opensIn}
 use Rattle.node_records.specs.declared.NodeRecord.{NodeRecord}
 

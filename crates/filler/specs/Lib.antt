@@ -1,4 +1,3 @@
-pub mod Answers
 pub mod Truths
 pub mod TruthLaws
 pub mod FillCorrect

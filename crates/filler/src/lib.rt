@@ -12,13 +12,16 @@ ghost use Rattle.theory_reading.specs.Calls.{bytesFrom, Fills};
 ghost use Rattle.node_records.specs.Records.{noRecord};
 ghost use Rattle.work_table.specs.TableLaws.{tableOf};
 ghost use Rattle.checker.specs.CheckCorrect.{AsLong};
-ghost use Rattle.filler.specs.Answers.{fillingOf};
+ghost use Rattle.answers.specs.Answers.{fillingOf};
 ghost use Rattle.filler.specs.Truths.{withWordIn, putNodeIn};
+use answers::Filling;
+use answers::Refusal;
+use answers::early;
 use blocks::below;
 use blocks::edge_of;
-use checker::Refusal;
-use checker::early;
 use checker::late;
+use cursors::Cursor;
+use cursors::first_cursor;
 use elements::Cause;
 use elements::OPEN_LIMIT;
 use node_records::Edge;
@@ -29,17 +32,9 @@ use node_records::TRUTH_TABLE_MOST;
 use node_records::WORD_LIMIT;
 use node_records::first_edge;
 use node_records::second_edge;
-use reader::Cursor;
-use reader::first_cursor;
 use reader::read_on;
 use record_tables::clear_records;
 use work_table::get;
-
-// What filling answers: the covered count.
-pub enum Filling {
-    Refused(Refusal),
-    Done(u64),
-}
 
 // ---- Truth tables
 

@@ -29,13 +29,15 @@ use Rattle.node_records.specs.declared.NodeRecord.{NodeRecord}
 use Rattle.elements.specs.declared.Opens.{Opens}
 use Rattle.work_table.specs.Table.{getIn}
 use Rattle.work_table.specs.TableLaws.{tableOf, table-node, Held}
-use Rattle.reader.specs.declared.Run.{Run}
-use Rattle.reader.specs.declared.Cursor.{Cursor}
+use Rattle.cursors.specs.declared.Run.{Run}
+use Rattle.cursors.specs.declared.Cursor.{Cursor}
 use Rattle.reader.specs.declared.Reached.{Reached}
 use Rattle.reader.specs.Advance.{stateAt}
 use Rattle.reader.specs.OpenCells.{ReadReached, opensIn, reachedIn, cursorIn}
-use Rattle.reader.specs.Loop.{firstRun, firstOpens, Stands, stands-first, stands-covered, Ends, ReachedBy}
-use Rattle.reader.specs.ReadOn.{startCursor, readFrom, read-called}
+use Rattle.cursors.specs.Cursors.{firstRun}
+use Rattle.reader.specs.Loop.{firstOpens, Stands, stands-first, stands-covered, Ends, ReachedBy}
+use Rattle.cursors.specs.Cursors.{startCursor}
+use Rattle.reader.specs.ReadOn.{readFrom, read-called}
 use Rattle.checker.specs.CheckCorrect.{lateOf, cleared-after, Reads, halted-reads, all-reads, table-after}
 use Rattle.blocks.specs.Blocks.{edgeAt, word-passed}
 use Rattle.blocks.specs.BlockLaws.{stands-all, passed-stop, passed-covers, passed-shallow, passed-ordered, passed-sits, passed-word, passed-decides}

@@ -1,4 +1,3 @@
-pub mod Answers
 pub mod Search
 pub mod SearchSteps
 pub mod SearchLaws

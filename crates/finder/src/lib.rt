@@ -7,14 +7,18 @@ ghost use Rattle.theory_reading.specs.Limits.{optionLimit, openLimit, tableLimi
 ghost use Rattle.theory_reading.specs.Calls.{FindsNext};
 ghost use Rattle.node_records.specs.Records.{noRecord};
 ghost use Rattle.reader.specs.OpenCells.{reachedIn};
-ghost use Rattle.finder.specs.Answers.{findingOf};
+ghost use Rattle.answers.specs.Answers.{findingOf};
 ghost use Rattle.finder.specs.Search.{someIn, leastIn, startIn, fromIn};
 ghost use Rattle.finder.specs.FindCorrect.{soughtAt, Seeks, endedBy, foundBy};
+use answers::Finding;
+use answers::NextWord;
+use answers::Refusal;
+use answers::early;
 use blocks::below;
 use blocks::edge_of;
-use checker::Refusal;
-use checker::early;
 use checker::late;
+use cursors::Cursor;
+use cursors::first_cursor;
 use elements::Cause;
 use elements::OPEN_LIMIT;
 use node_records::Edge;
@@ -25,24 +29,10 @@ use node_records::WORD_LIMIT;
 use node_records::first_edge;
 use node_records::second_edge;
 use node_records::some_yes;
-use reader::Cursor;
 use reader::Reached;
-use reader::first_cursor;
 use reader::read_on;
 use record_tables::clear_records;
 use work_table::get;
-
-// A word; none, as all words are covered; or not known.
-pub enum NextWord {
-    Word(u64),
-    NoWord,
-    NotKnown,
-}
-
-pub enum Finding {
-    Refused(Refusal),
-    Done(NextWord),
-}
 
 // ---- A word that is yes below a stored node
 

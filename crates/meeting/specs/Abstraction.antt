@@ -8,7 +8,7 @@ use Rattle.theory_reading.specs.Causes as C
 use Rattle.theory_writing.specs.Run as R
 use Rattle.theory_engine.specs.Engine as E
 use Rattle.node_records.specs.declared.WriterRecord.{WriterRecord}
-use Rattle.checker.specs.Answers.{refusalOf}
+use Rattle.answers.specs.Answers.{refusalOf}
 use Rattle.meeting.specs.declared.Half.{Half}
 use Rattle.meeting.specs.declared.Progress.{Progress}
 use Rattle.meeting.specs.declared.Walked.{Walked}

@@ -6,7 +6,7 @@ ghost use Rattle.theory_writing.specs.Run.{whole, inputEnded, outputFull};
 ghost use Rattle.theory_engine.specs.Engine.{isStale, alikeConstant, alikeNumber, barredHalf, spaced, sendNode, writeTemporary, giveIn, knownIn};
 ghost use Rattle.theory_engine.specs.Engine.{meetIn, secondIn, doneIn};
 ghost use Rattle.meeting.specs.Abstraction.{halfOf, progressOf, walkedOf, endingsOf};
-use checker::Refusal;
+use answers::Refusal;
 use node_records::WriterRecord;
 use pending_text::Sent;
 use pending_text::close;
@@ -18,8 +18,8 @@ use unique_table::find;
 use unique_table::next_number;
 use unique_table::stamp_of;
 use unique_table::store;
-use writer_records::either;
-use writer_records::one_more;
+use writer_numbers::either;
+use writer_numbers::one_more;
 
 // ---- Halves
 

@@ -2,11 +2,11 @@
 use mathlib.Core.Bool.{true, false, cond}
 use mathlib.Core.List.{List}
 use Prim.Native.Nat.{ℕ, _+_}
-use Rattle.theory_engine.specs.Applying.{secondSource}
-use Rattle.theory_engine.specs.Operands as T
+use Rattle.theory_applying.specs.Applying.{secondSource}
+use Rattle.theory_applying.specs.Operands as T
 use Rattle.theory_combining.specs.BlockReaders.{BlockReader, readerAt, deepOf, sourceOf, nextReader}
 use Rattle.blocks.specs.Blocks.{Next, nextBlock}
-use Rattle.reader.specs.ReadOn.{startCursor}
+use Rattle.cursors.specs.Cursors.{startCursor}
 use Rattle.blocks.specs.Blocks.{ReadBlock, blockIn}
 use Rattle.reader.specs.OpenCells.{cursorIn}
 use Rattle.blocks.specs.declared.Block.{Block}

@@ -4,17 +4,18 @@ use mathlib.Core.Bool.{Bool, true, false, cond}
 use mathlib.Core.List.{List}
 use Prim.Native.Nat.{ℕ, _+_}
 use Rattle.theory_reading.specs.Limits.{openLimit}
-use Rattle.theory_engine.specs.Applying.{firstSource, secondSource}
-use Rattle.theory_engine.specs.Operands as T
+use Rattle.theory_applying.specs.Applying.{firstSource, secondSource}
+use Rattle.theory_applying.specs.Operands as T
 use lib.ListN.{replicate}
 use Rattle.theory_combining.specs.BlockReaders.{BlockReader, readerAt, deepOf, sourceOf, nextReader, begunOperand}
 use Rattle.theory_combining.specs.EdgeCorrect.{first-edge}
-use Rattle.reader.specs.ReadOn.{startCursor, cursor-first}
+use Rattle.cursors.specs.Cursors.{startCursor}
+use Rattle.reader.specs.ReadOn.{cursor-first}
 use Rattle.blocks.specs.Blocks.{Next, nextBlock, ReadBlock}
 use Rattle.blocks.specs.declared.Block.{Block}
 use Rattle.elements.specs.declared.Opens.{Opens}
 use Rattle.reader.specs.OpenCells.{ReadCursor, cursorIn}
-use Rattle.reader.specs.declared.Cursor.{Cursor}
+use Rattle.cursors.specs.declared.Cursor.{Cursor}
 use Rattle.edges.specs.Abstraction.{edgeIn}
 use Rattle.edges.specs.declared.TableEdge.{TableEdge}
 use Rattle.operands.specs.Abstraction.{readerIn, onReader, operandOn, readBy, arrived, begunFrom}

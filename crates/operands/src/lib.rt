@@ -3,19 +3,19 @@ ghost use mathlib.Core.Path.{_≡_};
 ghost use mathlib.Core.Bool.{false, cond};
 ghost use mathlib.Core.List.{List};
 ghost use Prim.Native.Nat.{ℕ, _+_};
-ghost use Rattle.theory_engine.specs.Operands.{settle, firstOperand, secondOperand};
+ghost use Rattle.theory_applying.specs.Operands.{settle, firstOperand, secondOperand};
 ghost use Rattle.theory_combining.specs.BlockReaders.{deepOf, sourceOf, nextReader};
 ghost use Rattle.blocks.specs.Blocks.{blockIn};
 ghost use Rattle.elements.specs.declared.Opens.{Opens};
 ghost use Rattle.operands.specs.Abstraction.{operandOn, operandOf, begunIn, readBy, arrived, begunFrom};
 use blocks::Block;
 use blocks::next_block;
+use cursors::first_cursor;
 use edges::TableEdge;
 use edges::first_edge;
 use edges::second_edge;
 use elements::OPEN_LIMIT;
 use node_records::NodeRecord;
-use reader::first_cursor;
 use work_table::get as record_at;
 
 // An input at a part: inside its text, at the block that was read last, which begins with the part and is smaller; or at an edge

@@ -7,7 +7,7 @@ use lib.Dec.{eqb}
 use lib.ListN.{getD, set}
 use Rattle.theory_lists.specs.Lists.{bit}
 use Rattle.theory_engine.specs.Engine as E
-use Rattle.theory_engine.specs.Memo.{isEmpty, isYoung, toldHalf}
+use Rattle.theory_applying.specs.Memo.{isEmpty, isYoung, toldHalf}
 use Rattle.meeting.specs.Abstraction.{halfOf}
 use Rattle.operation_cache.specs.declared.Key.{Key}
 use Rattle.operation_cache.specs.declared.Told.{Told}

@@ -9,9 +9,9 @@ use lib.ListN.{length, getD, set, List·getD-eq-default}
 use borrow.Author.Tests.{eq-eqb, ne-eqb}
 use Rattle.theory_lists.specs.Lists.{bit}
 use Rattle.theory_engine.specs.Cells.{cell}
-use Rattle.writer_records.specs.Hashing.{edgeSpan, stir}
+use Rattle.writer_numbers.specs.Hashing.{edgeSpan, stir}
 use Rattle.theory_engine.specs.Engine as E
-use Rattle.theory_engine.specs.Memo.{isYoung, numberIn, stampIn, complementIn, toldHalf, cacheEntries, slotFrom, slotOf}
+use Rattle.theory_applying.specs.Memo.{isYoung, numberIn, stampIn, complementIn, toldHalf, cacheEntries, slotFrom, slotOf}
 use Rattle.meeting.specs.Abstraction.{halfOf}
 use Rattle.meeting.specs.declared.Half.{Half}
 use Rattle.operation_cache.specs.Abstraction.{keyCells, holds, toldBy, tellsBy, notedEntry, notedBy}

@@ -5,7 +5,7 @@ ghost use mathlib.Core.List.{[], _∷_};
 ghost use lib.ListN.{getD, set};
 ghost use Prim.Native.Nat.{_-_};
 ghost use Rattle.theory_lists.specs.Lists.{bit};
-ghost use Rattle.theory_engine.specs.Memo.{slotOf};
+ghost use Rattle.theory_applying.specs.Memo.{slotOf};
 ghost use Rattle.meeting.specs.Abstraction.{halfOf};
 ghost use Rattle.operation_cache.specs.Abstraction.{keyCells, holds, tellsBy, toldBy, notedEntry, notedBy};
 use edges::TableEdge;
@@ -18,9 +18,9 @@ use meeting::progress_of;
 use node_records::WriterRecord;
 use unique_table::level_of;
 use unique_table::stamp_of;
-use writer_records::NUMBER_SPAN;
-use writer_records::either;
-use writer_records::stir;
+use writer_numbers::NUMBER_SPAN;
+use writer_numbers::either;
+use writer_numbers::stir;
 
 // How many rows there are.
 pub const CACHE_ENTRIES: usize = 2048;

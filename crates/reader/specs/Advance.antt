@@ -44,11 +44,12 @@ use Rattle.elements.specs.declared.Outcome.{Outcome}
 use Rattle.elements.specs.declared.Outcome.the-variants.{Got, Fault, RanOut}
 use Rattle.places.specs.declared.Place.{Place}
 use Rattle.elements.specs.declared.Ref.{Ref}
-use Rattle.reader.specs.declared.Run.{Run}
+use Rattle.cursors.specs.declared.Run.{Run}
 use Rattle.node_records.specs.declared.NodeRecord.{NodeRecord}
 use Rattle.reader.specs.declared.Taken.{Taken}
 use Rattle.reader.specs.declared.Iteration.{Iteration}
-use Rattle.reader.specs.Taking.{failsOf, isKeptOf, isBadOf, nextStamp, storedRun, takenOf}
+use Rattle.cursors.specs.Cursors.{isKeptOf}
+use Rattle.reader.specs.Taking.{failsOf, isBadOf, nextStamp, storedRun, takenOf}
 use Rattle.node_records.specs.Records.{noRecord}
 use Rattle.record_tables.specs.Entries.{clearTo}
 use Rattle.work_table.specs.Table.{getIn, storeAt, get-none, get-above}

@@ -33,7 +33,7 @@ use Rattle.elements.specs.declared.Context.the-variants as M
 use Rattle.elements.specs.declared.Open.{Open}
 use Rattle.elements.specs.declared.Outcome.{Outcome}
 use Rattle.elements.specs.declared.Outcome.the-variants.{Got, Fault, RanOut}
-use Rattle.reader.specs.declared.Run.{Run}
+use Rattle.cursors.specs.declared.Run.{Run}
 use Rattle.scanner.specs.declared.Token.{Token}
 use Rattle.scanner.specs.declared.Token.the-variants as S
 use Rattle.reader.specs.declared.Taken.{Taken}

@@ -16,7 +16,7 @@ use Rattle.elements.specs.declared.Element.{Element}
 use Rattle.scanner.specs.declared.NextToken.{NextToken}
 use Rattle.elements.specs.declared.Open.{Open}
 use Rattle.elements.specs.declared.Ref.{Ref}
-use Rattle.reader.specs.declared.Run.{Run}
+use Rattle.cursors.specs.declared.Run.{Run}
 use Rattle.node_records.specs.declared.NodeRecord.{NodeRecord}
 use Rattle.reader.specs.declared.Taken.{Taken}
 use Rattle.reader.specs.Taking.{takenOf}

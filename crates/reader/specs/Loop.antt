@@ -15,7 +15,8 @@ use Rattle.elements.specs.declared.Open.{Open}
 use Rattle.elements.specs.declared.Opens.{Opens}
 use Rattle.elements.specs.declared.Context.{Context}
 use Rattle.elements.specs.declared.Context.the-variants.{Start}
-use Rattle.reader.specs.declared.Run.{Run}
+use Rattle.cursors.specs.Cursors.{firstRun}
+use Rattle.cursors.specs.declared.Run.{Run}
 use Rattle.reader.specs.declared.Iteration.{Iteration}
 use Rattle.work_table.specs.Table.{getIn}
 use Rattle.reader.specs.Advance.{stateAt, Kept, Young, takenAt, lowOf, opensTo, Iterates, past, barred, out, fault, took, HaltsAt, Comes}
@@ -24,18 +25,6 @@ use Rattle.reader.specs.OpenCells.{ReadReached}
 use Rattle.node_records.specs.declared.NodeRecord.{NodeRecord}
 
 -- ---- The first state -------------------------------------------------------------------------
-
-abbrev pub firstRun : Run
-firstRun = record {
-  at = 0;
-  context = Start;
-  last = temporaryRef;
-  size = 0;
-  covered = 0;
-  complement = false;
-  pair = record
-      { first = terminalRef; complement = false; second = terminalRef };
-}
 
 abbrev pub firstOpens : Opens
 firstOpens = record { nodes = replicate openLimit insideOpen; depth = 0 }

@@ -9,11 +9,11 @@ use lib.ListN.{getD, set, replicate, List·getD-map}
 use Rattle.elements.specs.Abstraction.{insideOpen, lowAt, highAt}
 use Rattle.reader.specs.Advance.{nodesTo}
 use Rattle.elements.specs.declared.Cause.{Cause}
-use Rattle.reader.specs.declared.Cursor.{Cursor}
+use Rattle.cursors.specs.declared.Cursor.{Cursor}
 use Rattle.elements.specs.declared.Open.{Open}
 use Rattle.elements.specs.declared.Opens.{Opens}
 use Rattle.reader.specs.declared.Reached.{Reached}
-use Rattle.reader.specs.declared.Run.{Run}
+use Rattle.cursors.specs.declared.Run.{Run}
 use Rattle.work_table.specs.TableLaws.{bit-back}
 
 -- ---- Open nodes ------------------------------------------------------------------------------

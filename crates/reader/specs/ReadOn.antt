@@ -13,15 +13,16 @@ use Rattle.theory_lists.specs.Lists.{decide-le}
 use Rattle.theory_reading.specs.Limits.{optionLimit, openLimit, tableLimit, wordLimit}
 use Rattle.elements.specs.declared.Cause.{Cause}
 use Rattle.elements.specs.declared.Cause.the-variants.{WrongByte}
-use Rattle.reader.specs.declared.Cursor.{Cursor}
+use Rattle.cursors.specs.declared.Cursor.{Cursor}
 use Rattle.elements.specs.declared.Open.{Open}
 use Rattle.elements.specs.declared.Opens.{Opens}
-use Rattle.reader.specs.declared.Run.{Run}
+use Rattle.cursors.specs.declared.Run.{Run}
 use Rattle.reader.specs.declared.Iteration.{Iteration}
 use Rattle.reader.specs.Advance.{lowOf, nodesTo, opensTo, Iterates}
 use Rattle.reader.specs.Iterating.{Iterated, iterationIn, iteration-in, iteration-made, iteration-ahead}
 use Rattle.reader.specs.OpenCells.{ReadReached, ReadCursor, cursorIn}
-use Rattle.reader.specs.Loop.{firstRun, firstOpens, Stands, stands-first, ReachedBy, Running, goes-here, halts-here, ahead-here}
+use Rattle.cursors.specs.Cursors.{firstRun, startCursor}
+use Rattle.reader.specs.Loop.{firstOpens, Stands, stands-first, ReachedBy, Running, goes-here, halts-here, ahead-here}
 use Rattle.reader.specs.Loop.{iteration-length, loop-past}
 use Rattle.node_records.specs.declared.NodeRecord.{NodeRecord}
 
@@ -230,10 +231,6 @@ module _ (z : ReadTo) (n : ℕ) (bytes : List ℕ) (stop : ℕ) (r : Run) (o : O
 -- where reading begins
 abbrev pub firstCursor : ReadCursor
 firstCursor = record { run = firstRun; opens = firstOpens }
-
--- as code has it, without the open nodes
-abbrev pub startCursor : Cursor
-startCursor = record { run = firstRun; depth = 0 }
 
 -- It is that beside cells that are all zero.
 pub cursor-first : cursorIn startCursor (replicate openLimit (replicate 4 0)) ≡ firstCursor

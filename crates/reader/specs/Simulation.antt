@@ -24,12 +24,13 @@ use Rattle.elements.specs.declared.Element.the-variants.{Opening, Number, Const
 use Rattle.elements.specs.declared.Context.{Context}
 use Rattle.elements.specs.declared.Open.{Open}
 use Rattle.elements.specs.declared.Ref.{Ref}
-use Rattle.reader.specs.declared.Pair.{Pair}
-use Rattle.reader.specs.declared.Run.{Run}
+use Rattle.cursors.specs.declared.Pair.{Pair}
+use Rattle.cursors.specs.declared.Run.{Run}
 use Rattle.node_records.specs.declared.NodeRecord.{NodeRecord}
 use Rattle.work_table.specs.TableLaws.{recordNode}
 use Rattle.reader.specs.declared.Taken.{Taken}
-use Rattle.reader.specs.Taking.{goesOf, failsOf, movedTo, passedTo, sizedTo, foundTo, isKeptOf, closedTwo, closedTo, isBadOf, nextStamp}
+use Rattle.cursors.specs.Cursors.{isKeptOf}
+use Rattle.reader.specs.Taking.{goesOf, failsOf, movedTo, passedTo, sizedTo, foundTo, closedTwo, closedTo, isBadOf, nextStamp}
 use Rattle.reader.specs.Taking.{storedRun, storedTo, takenOf}
 
 -- ---- The records as the theory's -------------------------------------------------------------

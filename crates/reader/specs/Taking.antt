@@ -12,7 +12,8 @@ use Rattle.elements.specs.declared.Element.the-variants.{Opening, Number, Const
 use Rattle.elements.specs.declared.Context.{Context}
 use Rattle.elements.specs.declared.Open.{Open}
 use Rattle.elements.specs.declared.Ref.{Ref}
-use Rattle.reader.specs.declared.Run.{Run}
+use Rattle.cursors.specs.Cursors.{isKeptOf}
+use Rattle.cursors.specs.declared.Run.{Run}
 use Rattle.node_records.specs.declared.NodeRecord.{NodeRecord}
 use Rattle.reader.specs.declared.Taken.{Taken}
 
@@ -65,10 +66,6 @@ abbrev pub foundTo : ℕ → Run → ℕ → ℕ → ℕ → NodeRecord → ℕ 
 foundTo n r d g v x at m =
     cond (eqb (x .level) 0) (failsOf r NotInTable g)
     (cond (eqb (x .level) (d + 1)) (goesOf (passedTo n r d (entryRef v (x .stamp)) at m)) (failsOf r OtherLevel g))
-
--- the terminal, or a node with a number
-abbrev pub isKeptOf : Ref → Bool
-isKeptOf a = cond (eqb (a .number) 0) (eqb (a .stamp) 0) true
 
 -- `)` of two children
 abbrev pub closedTwo : Run → Open → ℕ → Context → Run

@@ -3,13 +3,16 @@ ghost use Prim.Native.Nat.{_+_, _-_, _<_, _≤_, _^_};
 ghost use Rattle.theory_reading.specs.Limits.{optionLimit, openLimit, wordLimit};
 ghost use Rattle.theory_reading.specs.StepLaws.{digitPlace};
 ghost use Rattle.kinds.specs.Kinds.{kindTable};
-ghost use Rattle.reader.specs.Taking.{goesOf, failsOf, movedTo, passedTo, turnedTo, sizedTo, foundTo, closedTwo, closedTo, isKeptOf, isBadOf};
+ghost use Rattle.reader.specs.Taking.{goesOf, failsOf, movedTo, passedTo, turnedTo, sizedTo, foundTo, closedTwo, closedTo, isBadOf};
 ghost use Rattle.reader.specs.Taking.{nextStamp, storedTo, takenOf};
 ghost use Rattle.reader.specs.Advance.{barredBy, recordTo, updatedTo, lowOf, nodesTo, stayed, wentBy, Iterates};
 ghost use Rattle.reader.specs.OpenCells.{nodesIn, opensIn, reachedIn, cursorIn};
-ghost use Rattle.reader.specs.Loop.{firstRun};
-ghost use Rattle.reader.specs.ReadOn.{readAll, startCursor, offBy, readFrom};
+ghost use Rattle.reader.specs.ReadOn.{readAll, offBy, readFrom};
 ghost use Rattle.reader.specs.Tokens.{elementIn, isFault, isOut};
+use cursors::Cursor;
+use cursors::Pair;
+use cursors::Run;
+use cursors::is_kept;
 use elements::Cause;
 use elements::Context;
 use elements::Element;
@@ -34,25 +37,6 @@ use work_table::get;
 use work_table::store;
 
 // ---- One element more
-
-// The children of the two-child node that ended last, and whether a `~` stands between them.
-pub struct Pair {
-    pub complement: bool,
-    pub first: Ref,
-    pub second: Ref,
-}
-
-// What reading has come to, but for the open nodes and the table: the place, the declared size, the covered count, a leading `~`,
-// and the children of the two-child node that ended last.
-pub struct Run {
-    pub last: Ref,
-    pub pair: Pair,
-    pub at: usize,
-    pub covered: u64,
-    pub size: u32,
-    pub context: Context,
-    pub complement: bool,
-}
 
 // An element taken: what reading has come to; the fault, if there is one; whether its number is the size, or is stored.
 struct Taken {
@@ -227,13 +211,6 @@ fn closed(n: u32, r: Run, d: u32, o: Open, at: usize, m: Context) -> Taken
         return goes(passed(n, r, d, last, at, m));
     }
     fails(r, Cause::NotStorable, r.at)
-}
-
-// A node that stays: the terminal, or one with a number.
-fn is_kept(r: Ref) -> bool
-    ensures { λ y. ⌜ y ≡ isKeptOf r ⌝ }
-{
-    if r.number == 0 { r.stamp == 0 } else { true }
 }
 
 // The number k, with its record x, may not be stored.
@@ -557,33 +534,6 @@ pub struct Reached {
     pub byte: usize,
 }
 
-fn first_run() -> Run
-    ensures { λ r. ⌜ r ≡ firstRun ⌝ }
-{
-    let z = Ref {
-        number: 0,
-        stamp: 0,
-    };
-    let t = Ref {
-        number: 0,
-        stamp: 1,
-    };
-    let p = Pair {
-        first: z,
-        complement: false,
-        second: z,
-    };
-    Run {
-        at: 0,
-        context: Context::Start,
-        last: t,
-        size: 0,
-        covered: 0,
-        complement: false,
-        pair: p,
-    }
-}
-
 // The innermost of d open nodes. o: the open nodes, the outermost first: the number and the stamp of what the first child was, then 1 or 0 for whether
 // the second child has begun, and whether a `~` stands before it.
 fn open_at(o: &[[u32; 4]; OPEN_LIMIT], d: usize) -> Open
@@ -674,22 +624,6 @@ fn run_on(
 }
 
 // ---- Reading on from a cursor
-
-// Where the reading of a stream stands: what it has come to, and how many nodes are open, which are lent beside it.
-pub struct Cursor {
-    pub run: Run,
-    pub depth: usize,
-}
-
-// Where reading begins, whatever the open nodes are.
-pub fn first_cursor() -> Cursor
-    ensures { λ c. ⌜ c ≡ startCursor ⌝ }
-{
-    Cursor {
-        run: first_run(),
-        depth: 0,
-    }
-}
 
 // More options, open nodes or words than any reading has.
 fn is_off(n: u32, d: usize, stop: u64) -> bool

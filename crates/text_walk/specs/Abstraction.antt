@@ -9,10 +9,10 @@ use Rattle.theory_writing.specs.Texts.{tildeIf}
 use Rattle.theory_writing.specs.Run.{operate}
 use Rattle.theory_engine.specs.Pending.{Waiting, pushAll, waitIn}
 use Rattle.theory_engine.specs.Engine as E
-use Rattle.theory_engine.specs.Operands as T
-use Rattle.theory_engine.specs.Memo.{slotOf}
-use Rattle.theory_engine.specs.Carrying.{Carried, carryIn}
-use Rattle.theory_engine.specs.Merging.{mergeNodesIn, mergeIn}
+use Rattle.theory_applying.specs.Operands as T
+use Rattle.theory_applying.specs.Memo.{slotOf}
+use Rattle.theory_applying.specs.Carrying.{Carried, carryIn}
+use Rattle.theory_applying.specs.Merging.{mergeNodesIn, mergeIn}
 use Rattle.theory_combining.specs.BlockReaders.{BlockReader, deepOf, sourceOf, nextReader}
 use Rattle.meeting.specs.Abstraction.{halfOf, progressOf, walkedOf}
 use Rattle.meeting.specs.declared.Walked.{Walked}

@@ -15,15 +15,15 @@ use Rattle.theory_writing.specs.Texts.{tildeIf}
 use Rattle.theory_writing.specs.Run.{head, operate}
 use Rattle.theory_engine.specs.Pending.{Waiting, pushAll, waitIn}
 use Rattle.theory_engine.specs.Engine as E
-use Rattle.theory_engine.specs.Applying.{Source}
-use Rattle.theory_engine.specs.Operands as T
-use Rattle.theory_engine.specs.TextCorrect.{inside-text}
-use Rattle.theory_engine.specs.Memo.{slotOf}
-use Rattle.theory_engine.specs.Recalling.{Recalled, recallIn}
-use Rattle.theory_engine.specs.Carrying.{Carried, recalledOn}
-use Rattle.theory_engine.specs.CarryCorrect.{carry-edges, carry-halted, carry-ended, carry-done, carry-on, merge-correct, merge-head, merge-body}
-use Rattle.theory_engine.specs.Finishing.{finishIn}
-use Rattle.theory_engine.specs.Merging.{mergeIn}
+use Rattle.theory_applying.specs.Applying.{Source}
+use Rattle.theory_applying.specs.Operands as T
+use Rattle.theory_applying.specs.TextCorrect.{inside-text}
+use Rattle.theory_applying.specs.Memo.{slotOf}
+use Rattle.theory_applying.specs.Recalling.{Recalled, recallIn}
+use Rattle.theory_applying.specs.Carrying.{Carried, recalledOn}
+use Rattle.theory_applying.specs.CarryCorrect.{carry-edges, carry-halted, carry-ended, carry-done, carry-on, merge-correct, merge-head, merge-body}
+use Rattle.theory_applying.specs.Finishing.{finishIn}
+use Rattle.theory_applying.specs.Merging.{mergeIn}
 use Rattle.theory_combining.specs.BlockReaders.{BlockReader, deepOf, sourceOf, nextReader}
 use Rattle.meeting.specs.Abstraction.{walkedOf}
 use Rattle.meeting.specs.declared.Walked.{Walked}

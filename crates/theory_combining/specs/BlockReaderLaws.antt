@@ -14,8 +14,8 @@ use Rattle.theory_reading.specs.Covered.{covered-decided, covered-most}
 use Rattle.theory_reading.specs.Lasting.{Lasts}
 use Rattle.theory_writing.specs.Run.{Input}
 use Rattle.theory_writing.specs.Calls.{orNo, inputOf}
-use Rattle.theory_engine.specs.ApplyLaws.{Shows, sourceWalk}
-use Rattle.theory_engine.specs.Sitting.{Sits}
+use Rattle.theory_applying.specs.ApplyLaws.{Shows, sourceWalk}
+use Rattle.theory_applying.specs.Sitting.{Sits}
 use Rattle.elements.specs.Abstraction.{contextOf}
 use Rattle.reader.specs.ReadOn.{firstCursor}
 use Rattle.blocks.specs.Blocks.{Next, nextBlock}

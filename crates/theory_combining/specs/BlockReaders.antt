@@ -3,8 +3,8 @@
 use mathlib.Core.Bool.{true, false}
 use mathlib.Core.List.{List}
 use Prim.Native.Nat.{ℕ}
-use Rattle.theory_engine.specs.Applying.{Source}
-use Rattle.theory_engine.specs.Operands.{Operand, settle}
+use Rattle.theory_applying.specs.Applying.{Source}
+use Rattle.theory_applying.specs.Operands.{Operand, settle}
 use Rattle.work_table.specs.TableLaws.{tableOf}
 use Rattle.reader.specs.ReadOn.{firstCursor}
 use Rattle.blocks.specs.Blocks.{Next, nextBlock, ReadBlock}

@@ -9,8 +9,8 @@ use lib.Dec.{eqb, ltb}
 use Rattle.theory_lists.specs.Lists.{differ}
 use Rattle.theory_reading.specs.Nodes.{Node, node}
 use Rattle.theory_writing.specs.Run.{digitAt}
-use Rattle.theory_engine.specs.Applying.{Source, firstSource, secondSource, fixed}
-use Rattle.theory_engine.specs.Operands.{Operand, atEdge, edgeOf, settle, firstOperand}
+use Rattle.theory_applying.specs.Applying.{Source, firstSource, secondSource, fixed}
+use Rattle.theory_applying.specs.Operands.{Operand, atEdge, edgeOf, settle, firstOperand}
 use Rattle.work_table.specs.Table.{getIn}
 use Rattle.work_table.specs.TableLaws.{recordNode, tableOf, table-node}
 use Rattle.node_records.specs.Edges.{firstEdge, secondEdge}

@@ -22,12 +22,12 @@ use Rattle.theory_writing.specs.Calls.{inputOf, combineText, combine}
 use Rattle.theory_engine.specs.Pending.{waitingLimit}
 use Rattle.theory_engine.specs.Cells.{zero-cell}
 use Rattle.theory_engine.specs.Engine.{Sent}
-use Rattle.theory_engine.specs.Operands.{Operand}
-use Rattle.theory_engine.specs.OperandLaws.{Fed}
-use Rattle.theory_engine.specs.Seating.{Seated}
 use Rattle.theory_engine.specs.Streaming.{Wrote}
-use Rattle.theory_engine.specs.Merging.{mergeIn}
-use Rattle.theory_engine.specs.MergeLaws.{merge-wrote}
+use Rattle.theory_applying.specs.Operands.{Operand}
+use Rattle.theory_applying.specs.OperandLaws.{Fed}
+use Rattle.theory_applying.specs.Seating.{Seated}
+use Rattle.theory_applying.specs.Merging.{mergeIn}
+use Rattle.theory_applying.specs.MergeLaws.{merge-wrote}
 use Rattle.blocks.specs.Blocks.{ReadBlock}
 use Rattle.work_table.specs.TableLaws.{tableOf}
 use Rattle.blocks.specs.Load.{LoadTo, load}

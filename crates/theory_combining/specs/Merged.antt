@@ -13,9 +13,9 @@ use Rattle.theory_reading.specs.Limits.{optionLimit, tableLimit}
 use Rattle.theory_reading.specs.Reading.{reading}
 use Rattle.theory_writing.specs.Run.{Input, runCovered}
 use Rattle.theory_writing.specs.Calls.{inputOf}
-use Rattle.theory_engine.specs.Applying.{Source}
-use Rattle.theory_engine.specs.OperandLaws.{Fed, settled}
-use Rattle.theory_engine.specs.Seating.{Seated, settle-seated}
+use Rattle.theory_applying.specs.Applying.{Source}
+use Rattle.theory_applying.specs.OperandLaws.{Fed, settled}
+use Rattle.theory_applying.specs.Seating.{Seated, settle-seated}
 use Rattle.theory_combining.specs.BlockReaders.{deepOf, sourceOf, nextReader, firstReader, begunOperand}
 use Rattle.theory_combining.specs.BlockReaderLaws.{Reads, reads-deep, reads-aligned, reads-shows, reads-within, reads-next, reads-sits}
 use Rattle.theory_combining.specs.BlockReaderLaws.{reads-lasts, reads-first}

@@ -7,12 +7,12 @@ use Prim.Native.Nat.{ℕ, _+_}
 use native.Mathlib.Omega.{arith}
 use Rattle.theory_reading.specs.Deciding.{decided, options}
 use Rattle.theory_writing.specs.Calls.{inputOf}
-use Rattle.theory_engine.specs.Applying.{Source}
-use Rattle.theory_engine.specs.ApplyLaws.{Shows, sourceWalk}
-use Rattle.theory_engine.specs.Sitting.{Sits}
-use Rattle.theory_engine.specs.Operands.{Operand, edgeOf}
-use Rattle.theory_engine.specs.OperandLaws.{Fed}
-use Rattle.theory_engine.specs.Seating.{Seated}
+use Rattle.theory_applying.specs.Applying.{Source}
+use Rattle.theory_applying.specs.ApplyLaws.{Shows, sourceWalk}
+use Rattle.theory_applying.specs.Sitting.{Sits}
+use Rattle.theory_applying.specs.Operands.{Operand, edgeOf}
+use Rattle.theory_applying.specs.OperandLaws.{Fed}
+use Rattle.theory_applying.specs.Seating.{Seated}
 use Rattle.work_table.specs.TableLaws.{tableOf}
 use Rattle.blocks.specs.Blocks.{ReadBlock}
 use Rattle.blocks.specs.Load.{LoadTo, load}

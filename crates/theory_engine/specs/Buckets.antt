@@ -19,7 +19,7 @@ use Rattle.theory_writing.specs.Links.{holds-next, holds-none, holds-unlinks, h
 use Rattle.theory_engine.specs.Cells.{cell, putCell, length-put, cell-same, cell-number, cell-other}
 use Rattle.writer_records.specs.Fields.{levelField, firstField, secondField, complementField, bucketField, headField, tailField}
 use Rattle.theory_engine.specs.Recycling.{Lane, unlinkIn, linkIn, bucketAt, fitsAt, searchIn, findIn, endsTo, insertIn}
-use Rattle.writer_records.specs.Hashing.{mixOf, bucketOf}
+use Rattle.writer_numbers.specs.Hashing.{mixOf, bucketOf}
 use Rattle.theory_engine.specs.Recycling.{removeIn}
 use Rattle.theory_engine.specs.Lanes.{column, column-cell, column-length, column-same, linksOf, links-same, links-unlink, links-link}
 use Rattle.theory_engine.specs.Lanes.{unlink-length, unlink-other, unlink-next, unlink-prev, link-length, link-other}

@@ -13,7 +13,7 @@ use Rattle.theory_writing.specs.Calls.{truthAt}
 use Rattle.theory_engine.specs.Cells.{cell}
 use Rattle.writer_records.specs.Fields.{stampField}
 use Rattle.theory_engine.specs.Recycling.{Lane, findIn, storeIn, nextIn}
-use Rattle.writer_records.specs.Records.{oneMore}
+use Rattle.writer_numbers.specs.Numbers.{oneMore}
 use Rattle.theory_engine.specs.Pending.{pushAll, waitIn, closeIn, sentTo, writtenTo}
 use Rattle.node_records.specs.declared.WriterRecord.{WriterRecord}
 

@@ -14,7 +14,7 @@ use Rattle.theory_writing.specs.Calls.{truthAt}
 use Rattle.theory_engine.specs.Cells.{cell}
 use Rattle.writer_records.specs.Fields.{stampField}
 use Rattle.theory_engine.specs.Recycling.{Lane, findIn, storeIn, nextIn}
-use Rattle.writer_records.specs.Records.{oneMore}
+use Rattle.writer_numbers.specs.Numbers.{oneMore}
 use Rattle.theory_engine.specs.Pending.{Waiting, pushAll, waitIn}
 use Rattle.theory_engine.specs.Engine.{Half, Progress, Walked, Sent, constantHalf, numberHalf, isStale, alikeConstant, alikeNumber, barredHalf}
 use Rattle.theory_engine.specs.Engine.{sendText, sendNode, sentAs, writeNode, writeTemporary, kept, giveIn, knownIn, meetIn, allBytes}

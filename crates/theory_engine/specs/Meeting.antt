@@ -32,7 +32,7 @@ use Rattle.theory_writing.specs.Online.{Went, digitEnd, digitBegin, gap, bare, 
 use Rattle.theory_engine.specs.Cells.{cell}
 use Rattle.writer_records.specs.Fields.{stampField}
 use Rattle.theory_engine.specs.Recycling.{Lane, findIn, storeIn, nextIn}
-use Rattle.writer_records.specs.Records.{oneMore}
+use Rattle.writer_numbers.specs.Numbers.{oneMore}
 use Rattle.theory_engine.specs.Pending.{Waiting, pushAll, partText, waitIn, closeIn, sentTo, partRoom, endRoom}
 use Rattle.theory_engine.specs.PendingLaws.{push-length, push-count, push-take, push-keeps, number-length, replicate-opens, replicate-closes}
 use Rattle.theory_engine.specs.PendingLaws.{sent-output, sent-full}

@@ -22,7 +22,7 @@ use Rattle.theory_engine.specs.Cells.{cell, putCell, length-put, cell-sa
 use Rattle.writer_records.specs.Fields.{bucketField}
 use Rattle.writer_records.specs.Fields.{levelField, firstField, secondField, complementField, stampField, parentsField, queueField}
 use Rattle.theory_engine.specs.Recycling.{Lane, lane, linkIn, insertIn, releaseIn, adoptIn, noteIn, placeIn, storeIn}
-use Rattle.writer_records.specs.Records.{oneMore}
+use Rattle.writer_numbers.specs.Numbers.{oneMore}
 use Rattle.theory_engine.specs.Buckets.{Buckets, inserted-in, buckets-same, insert-length, insert-other, buckets-link}
 use Rattle.theory_engine.specs.Freed.{parents-placed, freed-told, freed-away}
 use Rattle.theory_engine.specs.Keeping.{HasNode, Keeps, node-same}

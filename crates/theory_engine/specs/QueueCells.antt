@@ -18,7 +18,7 @@ use Rattle.theory_engine.specs.Cells.{cell, putCell, length-put, cell-sa
 use Rattle.writer_records.specs.Fields.{parentsField, queueField, bucketField}
 use Rattle.theory_engine.specs.Freed.{orphaned-among, orphaned-twice}
 use Rattle.theory_engine.specs.Recycling.{Lane, lane, unlinkIn, linkIn, moreIn, fewerIn, orphanIn, orphansIn, adoptIn}
-use Rattle.writer_records.specs.Records.{oneMore}
+use Rattle.writer_numbers.specs.Numbers.{oneMore}
 use Rattle.theory_engine.specs.Lanes.{column-same, linksOf, links-same, links-unlink, links-link, unlink-length, unlink-other}
 use Rattle.theory_engine.specs.Lanes.{link-length, link-other}
 use Rattle.node_records.specs.declared.WriterRecord.{WriterRecord}

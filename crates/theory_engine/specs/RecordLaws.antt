@@ -15,7 +15,8 @@ use Rattle.writer_records.specs.Fields.{fieldsOf, recordWith, withField, fields
 use Rattle.theory_engine.specs.Cells.{cell, putCell, cell-at, put-at}
 use Rattle.writer_records.specs.Fields.{levelField, firstField, secondField, complementField, stampField, parentsField, headField, tailField}
 use Rattle.theory_engine.specs.Recycling.{fitsAt, moreIn, fewerIn, noteIn}
-use Rattle.writer_records.specs.Records.{oneMore, withNode, isNode}
+use Rattle.writer_numbers.specs.Numbers.{oneMore}
+use Rattle.writer_records.specs.Records.{withNode, isNode}
 
 -- ---- One record ------------------------------------------------------------------------------
 

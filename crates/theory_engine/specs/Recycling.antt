@@ -7,10 +7,10 @@ use Prim.Native.Nat.{ℕ, zero, suc, _+_, _-_}
 use lib.Dec.{eqb, ltb}
 use Rattle.theory_writing.specs.Links.{stops}
 use Rattle.theory_engine.specs.Cells.{cell, putCell}
+use Rattle.writer_numbers.specs.Hashing.{bucketOf}
+use Rattle.writer_numbers.specs.Numbers.{oneMore}
 use Rattle.writer_records.specs.Fields.{levelField, firstField, secondField, complementField, stampField, parentsField}
 use Rattle.writer_records.specs.Fields.{queueField, bucketField, headField, tailField}
-use Rattle.writer_records.specs.Hashing.{bucketOf}
-use Rattle.writer_records.specs.Records.{oneMore}
 use Rattle.node_records.specs.declared.WriterRecord.{WriterRecord}
 
 -- ---- Numbers linked both ways ----------------------------------------------------------------

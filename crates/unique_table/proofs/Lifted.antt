@@ -1,5 +1,5 @@
 -- Generated: what callers cite of the lifted functions.
--- From ad3273883a0cd883, as 940547a0de86cccf.
+-- From 842f84d872e96147, as 940547a0de86cccf.
 pub mod unlink
 pub mod link_last
 pub mod free

@@ -10,7 +10,7 @@ ghost use Rattle.theory_writing.specs.Calls.{truthAt, Writes};
 ghost use Rattle.node_records.specs.Records.{noWriterRecord};
 ghost use Rattle.theory_engine.specs.Engine.{sameBytes, allBytes, alikeBytes, againHalf, walkIn, bodyIn, streamIn};
 ghost use Rattle.meeting.specs.Abstraction.{halfOf, progressOf, walkedOf, writtenOf, writingOf};
-use checker::early;
+use answers::early;
 use elements::Cause;
 use meeting::Half;
 use meeting::Progress;

@@ -2,14 +2,11 @@
 use mathlib.Core.Path.{_≡_, refl}
 use mathlib.Core.Bool.{Bool, true, false, cond, _&&_}
 use Prim.Native.Nat.{ℕ, _+_}
-use lib.Dec.{eqb, ltb}
+use lib.Dec.{eqb}
 use lib.ListN.{getD}
-use Rattle.writer_records.specs.Fields.{fieldsOf, withField, levelField, firstField, secondField, complementField, stampField, queueField, bucketField}
 use Rattle.node_records.specs.declared.WriterRecord.{WriterRecord}
-
--- one more, as far as 32 bits go
-abbrev pub oneMore : ℕ → ℕ
-oneMore p = cond (ltb p 4294967295) (p + 1) p
+use Rattle.writer_numbers.specs.Numbers.{oneMore}
+use Rattle.writer_records.specs.Fields.{fieldsOf, withField, levelField, firstField, secondField, complementField, stampField, queueField, bucketField}
 
 -- the field with the number after this one in the recycling queue, or in its bucket; the field after it has the number before this one
 abbrev pub laneField : Bool → ℕ

@@ -1,2 +1,2 @@
-# crates/writer_records/src/lib.rt
+# crates/writer_numbers/src/lib.rt
 /^pub fn is_free/,/^}/s/^    b != x$/    true/

@@ -35,8 +35,8 @@ use mathlib.Core.Path.{sym, ap, _∙_}
 use native.Mathlib.Omega.{arith}
 use Prim.Native.Nat.{ℕ, _<_, _-_}
 use Rattle.theory_writing.specs.Run.{operate}
-use Rattle.theory_engine.specs.Memo.{slotOf}
-use Rattle.theory_engine.specs.RecallCorrect.{recall-word, recall-constant}
+use Rattle.theory_applying.specs.Memo.{slotOf}
+use Rattle.theory_applying.specs.RecallCorrect.{recall-word, recall-constant}
 use Rattle.meeting.specs.Abstraction.{halfOf, progressOf, walkedOf}
 use Rattle.applier.specs.Abstraction.{recalledOf}
 use Rattle.applier.specs.WalkCorrect.{pair, one-down, one-asks, half-asks, kept-in, constant-in, again-in, pair-told, pair-full, pair-on}

@@ -1,5 +1,5 @@
 -- Generated: what callers cite of walk.
--- From 8a00f2b1f4d6cf99, as 5cb55521d7734125.
+-- From e913cbf519329295, as 5cb55521d7734125.
 use Rattle.edges.proofs.TableEdge
 use Rattle.edges.proofs.TableEdge.Laws
 use Rattle.meeting.proofs.Progress

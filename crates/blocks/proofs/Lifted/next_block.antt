@@ -1,10 +1,10 @@
 -- Generated: what callers cite of next_block.
--- From 71391a4dd03baf5b, as d4292ea779adde04.
+-- From d64a6d5617382004, as 15b7e094f4d25a97.
 use Rattle.blocks.proofs.Block
 use Rattle.blocks.proofs.Block.Laws
+use Rattle.cursors.proofs.Cursor
+use Rattle.cursors.proofs.Cursor.Laws as Laws'
 use Rattle.node_records.proofs.Tables.NodeRecord as NodeRecordT
-use Rattle.reader.proofs.Cursor
-use Rattle.reader.proofs.Cursor.Laws as Laws'
 use borrow.Fn.Kinds
 use borrow.Kind.MutSlice
 use borrow.Kind.ShrSlice

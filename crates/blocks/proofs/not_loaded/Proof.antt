@@ -3,7 +3,7 @@
 use mathlib.Core.Path.{ap₂}
 use mathlib.Core.Bool.{false}
 use Rattle.theory_reading.specs.Causes as C
-use Rattle.reader.specs.declared.Cursor.{Cursor}
+use Rattle.cursors.specs.declared.Cursor.{Cursor}
 use borrow.Author.Needs.{needs}
 use Rattle.blocks.proofs.not_loaded.Statement.{statement}
 use Rattle.blocks.proofs.not_loaded.Tie as tie

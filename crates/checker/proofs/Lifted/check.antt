@@ -1,7 +1,7 @@
 -- Generated: what callers cite of check.
--- From 81b96f92f05e5f86, as 50c2c5557cae8864.
-use Rattle.checker.proofs.Checking
-use Rattle.checker.proofs.Checking.Laws
+-- From 42bafd3c7e323c4b, as f81326fa9335a971.
+use Rattle.answers.proofs.Checking
+use Rattle.answers.proofs.Checking.Laws
 use Rattle.node_records.proofs.Tables.NodeRecord as NodeRecordT
 use borrow.Fn.Kinds
 use borrow.Kind.MutSlice

@@ -1,7 +1,7 @@
 -- Generated: what callers cite of decide.
--- From db5e741eb581e789, as b10020fd486763b0.
-use Rattle.decider.proofs.Deciding
-use Rattle.decider.proofs.Deciding.Laws
+-- From a836c20be02a443c, as 36f070e2b4b9ed58.
+use Rattle.answers.proofs.Deciding
+use Rattle.answers.proofs.Deciding.Laws
 use Rattle.node_records.proofs.Tables.NodeRecord as NodeRecordT
 use borrow.Fn.Kinds
 use borrow.Kind.MutSlice

@@ -1,7 +1,7 @@
 -- Generated: what callers cite of walk_down.
--- From db5e741eb581e789, as ac93e68fc56f6463.
-use Rattle.decider.proofs.Verdict
-use Rattle.decider.proofs.Verdict.Laws
+-- From a836c20be02a443c, as 27a05ba2eb9a4923.
+use Rattle.answers.proofs.Verdict
+use Rattle.answers.proofs.Verdict.Laws
 use Rattle.node_records.proofs.Edge
 use Rattle.node_records.proofs.Edge.Laws as Laws'
 use Rattle.node_records.proofs.Tables.NodeRecord as NodeRecordT

@@ -1,7 +1,7 @@
 -- Generated: what callers cite of word_at.
--- From db5e741eb581e789, as 32424e28fd57fb5f.
-use Rattle.decider.proofs.Verdict
-use Rattle.decider.proofs.Verdict.Laws
+-- From a836c20be02a443c, as fe12e446b863e4e7.
+use Rattle.answers.proofs.Verdict
+use Rattle.answers.proofs.Verdict.Laws
 use Rattle.node_records.proofs.Tables.NodeRecord as NodeRecordT
 use Rattle.reader.proofs.Reached
 use Rattle.reader.proofs.Reached.Laws as Laws'

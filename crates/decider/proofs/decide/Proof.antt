@@ -13,7 +13,7 @@ use Rattle.reader.specs.Loop.{stands-covered}
 use Rattle.reader.specs.ReadOn.{read-called, read-begun}
 use Rattle.checker.specs.CheckCorrect.{cleared-after, halted-reads, all-reads}
 use Rattle.blocks.specs.Blocks.{word-passed}
-use Rattle.decider.specs.Answers.{verdictsOf}
+use Rattle.answers.specs.Answers.{verdictsOf}
 use Rattle.decider.specs.DecideCorrect.{word-most, passed-bounds, word-not, decide-options, decide-table, decide-word, decide-correct}
 use borrow.Author.Needs.{needs}
 use Rattle.decider.proofs.decide.Statement.{statement}

@@ -1,7 +1,7 @@
 -- Generated: what callers cite of fill.
--- From f6531645029ebcc1, as 694380fcd722a84c.
-use Rattle.filler.proofs.Filling
-use Rattle.filler.proofs.Filling.Laws
+-- From f5a38dbcc6d8e36e, as 458e432d93536545.
+use Rattle.answers.proofs.Filling
+use Rattle.answers.proofs.Filling.Laws
 use Rattle.node_records.proofs.Tables.NodeRecord as NodeRecordT
 use borrow.Fn.Kinds
 use borrow.Kind.MutSlice

@@ -1,7 +1,7 @@
 -- Generated: what callers cite of find_next.
--- From 67c274d1b2303cbb, as 68311d6a47a599e5.
-use Rattle.finder.proofs.Finding
-use Rattle.finder.proofs.Finding.Laws
+-- From 90a438c920363d05, as ff3f99126e741792.
+use Rattle.answers.proofs.Finding
+use Rattle.answers.proofs.Finding.Laws
 use Rattle.node_records.proofs.Tables.NodeRecord as NodeRecordT
 use borrow.Fn.Kinds
 use borrow.Kind.MutSlice

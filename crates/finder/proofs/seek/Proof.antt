@@ -7,7 +7,7 @@ use Prim.Native.Nat.{_-_, _≤_, _^_}
 use native.Mathlib.Omega.{arith}
 use lib.ListN.{length}
 use Rattle.theory_reading.specs.Limits.{optionLimit}
-use Rattle.reader.specs.declared.Cursor.{Cursor}
+use Rattle.cursors.specs.declared.Cursor.{Cursor}
 use Rattle.reader.specs.OpenCells.{opensIn}
 use Rattle.finder.specs.FindCorrect.{Seeking, seeking-begun, seeks-ended, seeks-bounds, seeks-found, seeking-again, seeking-less}
 use borrow.Author.Needs.{needs}

@@ -1,5 +1,5 @@
 -- Generated: what callers cite of rule_decide.
--- From 0c52cd1f2588af46, as 7b1d1359fc928a90.
+-- From 563b33430e11fb72, as 7b1d1359fc928a90.
 use Rattle.c_answers.proofs.RuleDecided
 use Rattle.c_answers.proofs.RuleDecided.Laws
 use Rattle.node_records.proofs.Tables.NodeRecord as NodeRecordT

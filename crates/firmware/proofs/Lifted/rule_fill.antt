@@ -1,5 +1,5 @@
 -- Generated: what callers cite of rule_fill.
--- From 0c52cd1f2588af46, as 820be47d1d58c220.
+-- From 563b33430e11fb72, as 820be47d1d58c220.
 use Rattle.c_answers.proofs.RuleFilled
 use Rattle.c_answers.proofs.RuleFilled.Laws
 use Rattle.node_records.proofs.Tables.NodeRecord as NodeRecordT

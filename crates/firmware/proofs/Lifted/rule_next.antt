@@ -1,5 +1,5 @@
 -- Generated: what callers cite of rule_next.
--- From 0c52cd1f2588af46, as 3dc84a4259132864.
+-- From 563b33430e11fb72, as 3dc84a4259132864.
 use Rattle.c_answers.proofs.RuleFound
 use Rattle.c_answers.proofs.RuleFound.Laws
 use Rattle.node_records.proofs.Tables.NodeRecord as NodeRecordT

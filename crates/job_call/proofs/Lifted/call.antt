@@ -1,5 +1,5 @@
 -- Generated: what callers cite of call.
--- From e4aa2fca922e7372, as 7d86284afbef109e.
+-- From f8e79c18ec1e894a, as 7d86284afbef109e.
 use Rattle.meeting.proofs.Writing
 use Rattle.meeting.proofs.Writing.Laws
 use borrow.Fn.Kinds

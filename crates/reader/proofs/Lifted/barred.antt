@@ -1,8 +1,8 @@
 -- Generated: what callers cite of barred.
--- From 9ee42f47e9b6bdb7, as 0501abe326293ee4.
+-- From ca16d0e1cc319667, as 2ca2a01fab411d2e.
+use Rattle.cursors.proofs.Run
+use Rattle.cursors.proofs.Run.Laws
 use Rattle.node_records.proofs.Tables.NodeRecord as NodeRecordT
-use Rattle.reader.proofs.Run
-use Rattle.reader.proofs.Run.Laws
 use borrow.Fn.Kinds
 use borrow.Kind.ShrSlice
 use borrow.Kind.Value

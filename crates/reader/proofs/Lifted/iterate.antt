@@ -1,12 +1,12 @@
 -- Generated: what callers cite of iterate.
--- From 9ee42f47e9b6bdb7, as cafb03adc92754ba.
+-- From ca16d0e1cc319667, as abb1ab60e415ee56.
+use Rattle.cursors.proofs.Run
+use Rattle.cursors.proofs.Run.Laws
 use Rattle.elements.proofs.Open
-use Rattle.elements.proofs.Open.Laws
+use Rattle.elements.proofs.Open.Laws as Laws'
 use Rattle.node_records.proofs.Tables.NodeRecord as NodeRecordT
 use Rattle.reader.proofs.Iteration
-use Rattle.reader.proofs.Iteration.Laws as Laws'
-use Rattle.reader.proofs.Run
-use Rattle.reader.proofs.Run.Laws as Laws''
+use Rattle.reader.proofs.Iteration.Laws as Laws''
 use borrow.Fn.Kinds
 use borrow.Kind.MutSlice
 use borrow.Kind.ShrSlice
@@ -33,9 +33,9 @@ use denote.Triple.Clauses
 use Rattle.reader.proofs.iterate as own
 
 abbrev pub ps : List.List (Kinds.PK 3)
-ps = List._∷_ (Kinds.pShr (Array.Array (Referent.rtF (Referent.fInt Syntax.w8)) 256) 0 tt) (List._∷_ (Kinds.pNum Syntax.w32) (List._∷_ (ShrSlice.pShrS (Referent.rtF (Referent.fInt Syntax.w8)) 1 tt) (List._∷_ (MutSlice.pMutS NodeRecordT.row 2 tt) (List._∷_ (Value.pVal record { ty = Declared.row Run.the-type; one = Path'.refl; val = Laws'3.val Run.the-type Laws''.the-laws; tells = Laws'3.tells Run.the-type Laws''.the-laws; still = Laws'3.still Run.the-type Laws''.the-copy Exit.yes; row = Rows.whole (Declared.row Run.the-type); rd = λ x. x; mk = λ x. x } λ M 𝓤 H A W. record { copies = Laws'3.copy Run.the-type Laws''.the-copy 𝓤 H A W; lawful = Laws'3.lawful Run.the-type Laws''.the-laws 𝓤 H A W; makes = Laws'3.makes Run.the-type Laws''.the-plain 𝓤 H A; in-mem = Local.mem-whole 𝓤 H A W (Declared.row Run.the-type); of-mem = Local.whole-mem 𝓤 H A W (Declared.row Run.the-type) }) (List._∷_ (Kinds.pNum Syntax.w64) (List._∷_ (Value.pVal record { ty = Declared.row Open.the-type; one = Path'.refl; val = Laws'3.val Open.the-type Laws.the-laws; tells = Laws'3.tells Open.the-type Laws.the-laws; still = Laws'3.still Open.the-type Laws.the-copy Exit.yes; row = Rows.whole (Declared.row Open.the-type); rd = λ x. x; mk = λ x. x } λ M 𝓤 H A W. record { copies = Laws'3.copy Open.the-type Laws.the-copy 𝓤 H A W; lawful = Laws'3.lawful Open.the-type Laws.the-laws 𝓤 H A W; makes = Laws'3.makes Open.the-type Laws.the-plain 𝓤 H A; in-mem = Local.mem-whole 𝓤 H A W (Declared.row Open.the-type); of-mem = Local.whole-mem 𝓤 H A W (Declared.row Open.the-type) }) List.[]))))))
+ps = List._∷_ (Kinds.pShr (Array.Array (Referent.rtF (Referent.fInt Syntax.w8)) 256) 0 tt) (List._∷_ (Kinds.pNum Syntax.w32) (List._∷_ (ShrSlice.pShrS (Referent.rtF (Referent.fInt Syntax.w8)) 1 tt) (List._∷_ (MutSlice.pMutS NodeRecordT.row 2 tt) (List._∷_ (Value.pVal record { ty = Declared.row Run.the-type; one = Path'.refl; val = Laws'3.val Run.the-type Laws.the-laws; tells = Laws'3.tells Run.the-type Laws.the-laws; still = Laws'3.still Run.the-type Laws.the-copy Exit.yes; row = Rows.whole (Declared.row Run.the-type); rd = λ x. x; mk = λ x. x } λ M 𝓤 H A W. record { copies = Laws'3.copy Run.the-type Laws.the-copy 𝓤 H A W; lawful = Laws'3.lawful Run.the-type Laws.the-laws 𝓤 H A W; makes = Laws'3.makes Run.the-type Laws.the-plain 𝓤 H A; in-mem = Local.mem-whole 𝓤 H A W (Declared.row Run.the-type); of-mem = Local.whole-mem 𝓤 H A W (Declared.row Run.the-type) }) (List._∷_ (Kinds.pNum Syntax.w64) (List._∷_ (Value.pVal record { ty = Declared.row Open.the-type; one = Path'.refl; val = Laws'3.val Open.the-type Laws'.the-laws; tells = Laws'3.tells Open.the-type Laws'.the-laws; still = Laws'3.still Open.the-type Laws'.the-copy Exit.yes; row = Rows.whole (Declared.row Open.the-type); rd = λ x. x; mk = λ x. x } λ M 𝓤 H A W. record { copies = Laws'3.copy Open.the-type Laws'.the-copy 𝓤 H A W; lawful = Laws'3.lawful Open.the-type Laws'.the-laws 𝓤 H A W; makes = Laws'3.makes Open.the-type Laws'.the-plain 𝓤 H A; in-mem = Local.mem-whole 𝓤 H A W (Declared.row Open.the-type); of-mem = Local.whole-mem 𝓤 H A W (Declared.row Open.the-type) }) List.[]))))))
 abbrev pub r : Kinds.RK 3
-r = Value.rVal record { ty = Declared.row Iteration.the-type; one = Path'.refl; val = Laws'3.val Iteration.the-type Laws'.the-laws; tells = Laws'3.tells Iteration.the-type Laws'.the-laws; still = Laws'3.still Iteration.the-type Laws'.the-copy Exit.yes; row = Rows.whole (Declared.row Iteration.the-type); rd = λ x. x; mk = λ x. x } λ M 𝓤 H A W. record { copies = Laws'3.copy Iteration.the-type Laws'.the-copy 𝓤 H A W; lawful = Laws'3.lawful Iteration.the-type Laws'.the-laws 𝓤 H A W; makes = Laws'3.makes Iteration.the-type Laws'.the-plain 𝓤 H A; in-mem = Local.mem-whole 𝓤 H A W (Declared.row Iteration.the-type); of-mem = Local.whole-mem 𝓤 H A W (Declared.row Iteration.the-type) }
+r = Value.rVal record { ty = Declared.row Iteration.the-type; one = Path'.refl; val = Laws'3.val Iteration.the-type Laws''.the-laws; tells = Laws'3.tells Iteration.the-type Laws''.the-laws; still = Laws'3.still Iteration.the-type Laws''.the-copy Exit.yes; row = Rows.whole (Declared.row Iteration.the-type); rd = λ x. x; mk = λ x. x } λ M 𝓤 H A W. record { copies = Laws'3.copy Iteration.the-type Laws''.the-copy 𝓤 H A W; lawful = Laws'3.lawful Iteration.the-type Laws''.the-laws 𝓤 H A W; makes = Laws'3.makes Iteration.the-type Laws''.the-plain 𝓤 H A; in-mem = Local.mem-whole 𝓤 H A W (Declared.row Iteration.the-type); of-mem = Local.whole-mem 𝓤 H A W (Declared.row Iteration.the-type) }
 abbrev pub Ghost : Type 0
 Ghost = Unit {0}
 

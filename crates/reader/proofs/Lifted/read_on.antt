@@ -1,8 +1,8 @@
 -- Generated: what callers cite of read_on.
--- From 9ee42f47e9b6bdb7, as 1be2582a82b695fc.
+-- From ca16d0e1cc319667, as 0cef409f7dacc5e2.
+use Rattle.cursors.proofs.Cursor
+use Rattle.cursors.proofs.Cursor.Laws
 use Rattle.node_records.proofs.Tables.NodeRecord as NodeRecordT
-use Rattle.reader.proofs.Cursor
-use Rattle.reader.proofs.Cursor.Laws
 use Rattle.reader.proofs.Reached
 use Rattle.reader.proofs.Reached.Laws as Laws'
 use borrow.Fn.Kinds

@@ -1,10 +1,10 @@
 -- Generated: what callers cite of update_table.
--- From 9ee42f47e9b6bdb7, as a16bc0c31bca255f.
+-- From ca16d0e1cc319667, as 64dec36c06b65a36.
+use Rattle.cursors.proofs.Run
+use Rattle.cursors.proofs.Run.Laws
 use Rattle.node_records.proofs.NodeRecord
-use Rattle.node_records.proofs.NodeRecord.Laws
+use Rattle.node_records.proofs.NodeRecord.Laws as Laws'
 use Rattle.node_records.proofs.Tables.NodeRecord as NodeRecordT
-use Rattle.reader.proofs.Run
-use Rattle.reader.proofs.Run.Laws as Laws'
 use Rattle.reader.proofs.Taken
 use Rattle.reader.proofs.Taken.Laws as Laws''
 use borrow.Fn.Kinds
@@ -30,7 +30,7 @@ use denote.Triple.Clauses
 use Rattle.reader.proofs.update_table as own
 
 abbrev pub ps : List.List (Kinds.PK 1)
-ps = List._∷_ (MutSlice.pMutS NodeRecordT.row 0 tt) (List._∷_ (Value.pVal record { ty = Declared.row Run.the-type; one = Path'.refl; val = Laws'3.val Run.the-type Laws'.the-laws; tells = Laws'3.tells Run.the-type Laws'.the-laws; still = Laws'3.still Run.the-type Laws'.the-copy Exit.yes; row = Rows.whole (Declared.row Run.the-type); rd = λ x. x; mk = λ x. x } λ M 𝓤 H A W. record { copies = Laws'3.copy Run.the-type Laws'.the-copy 𝓤 H A W; lawful = Laws'3.lawful Run.the-type Laws'.the-laws 𝓤 H A W; makes = Laws'3.makes Run.the-type Laws'.the-plain 𝓤 H A; in-mem = Local.mem-whole 𝓤 H A W (Declared.row Run.the-type); of-mem = Local.whole-mem 𝓤 H A W (Declared.row Run.the-type) }) (List._∷_ (Kinds.pNum Syntax.w32) (List._∷_ (Kinds.pNum Syntax.w32) (List._∷_ (Value.pVal record { ty = Declared.row NodeRecord.the-type; one = Path'.refl; val = Laws'3.val NodeRecord.the-type Laws.the-laws; tells = Laws'3.tells NodeRecord.the-type Laws.the-laws; still = Laws'3.still NodeRecord.the-type Laws.the-copy Exit.yes; row = Rows.whole (Declared.row NodeRecord.the-type); rd = λ x. x; mk = λ x. x } λ M 𝓤 H A W. record { copies = Laws'3.copy NodeRecord.the-type Laws.the-copy 𝓤 H A W; lawful = Laws'3.lawful NodeRecord.the-type Laws.the-laws 𝓤 H A W; makes = Laws'3.makes NodeRecord.the-type Laws.the-plain 𝓤 H A; in-mem = Local.mem-whole 𝓤 H A W (Declared.row NodeRecord.the-type); of-mem = Local.whole-mem 𝓤 H A W (Declared.row NodeRecord.the-type) }) (List._∷_ (Value.pVal record { ty = Declared.row Taken.the-type; one = Path'.refl; val = Laws'3.val Taken.the-type Laws''.the-laws; tells = Laws'3.tells Taken.the-type Laws''.the-laws; still = Laws'3.still Taken.the-type Laws''.the-copy Exit.yes; row = Rows.whole (Declared.row Taken.the-type); rd = λ x. x; mk = λ x. x } λ M 𝓤 H A W. record { copies = Laws'3.copy Taken.the-type Laws''.the-copy 𝓤 H A W; lawful = Laws'3.lawful Taken.the-type Laws''.the-laws 𝓤 H A W; makes = Laws'3.makes Taken.the-type Laws''.the-plain 𝓤 H A; in-mem = Local.mem-whole 𝓤 H A W (Declared.row Taken.the-type); of-mem = Local.whole-mem 𝓤 H A W (Declared.row Taken.the-type) }) List.[])))))
+ps = List._∷_ (MutSlice.pMutS NodeRecordT.row 0 tt) (List._∷_ (Value.pVal record { ty = Declared.row Run.the-type; one = Path'.refl; val = Laws'3.val Run.the-type Laws.the-laws; tells = Laws'3.tells Run.the-type Laws.the-laws; still = Laws'3.still Run.the-type Laws.the-copy Exit.yes; row = Rows.whole (Declared.row Run.the-type); rd = λ x. x; mk = λ x. x } λ M 𝓤 H A W. record { copies = Laws'3.copy Run.the-type Laws.the-copy 𝓤 H A W; lawful = Laws'3.lawful Run.the-type Laws.the-laws 𝓤 H A W; makes = Laws'3.makes Run.the-type Laws.the-plain 𝓤 H A; in-mem = Local.mem-whole 𝓤 H A W (Declared.row Run.the-type); of-mem = Local.whole-mem 𝓤 H A W (Declared.row Run.the-type) }) (List._∷_ (Kinds.pNum Syntax.w32) (List._∷_ (Kinds.pNum Syntax.w32) (List._∷_ (Value.pVal record { ty = Declared.row NodeRecord.the-type; one = Path'.refl; val = Laws'3.val NodeRecord.the-type Laws'.the-laws; tells = Laws'3.tells NodeRecord.the-type Laws'.the-laws; still = Laws'3.still NodeRecord.the-type Laws'.the-copy Exit.yes; row = Rows.whole (Declared.row NodeRecord.the-type); rd = λ x. x; mk = λ x. x } λ M 𝓤 H A W. record { copies = Laws'3.copy NodeRecord.the-type Laws'.the-copy 𝓤 H A W; lawful = Laws'3.lawful NodeRecord.the-type Laws'.the-laws 𝓤 H A W; makes = Laws'3.makes NodeRecord.the-type Laws'.the-plain 𝓤 H A; in-mem = Local.mem-whole 𝓤 H A W (Declared.row NodeRecord.the-type); of-mem = Local.whole-mem 𝓤 H A W (Declared.row NodeRecord.the-type) }) (List._∷_ (Value.pVal record { ty = Declared.row Taken.the-type; one = Path'.refl; val = Laws'3.val Taken.the-type Laws''.the-laws; tells = Laws'3.tells Taken.the-type Laws''.the-laws; still = Laws'3.still Taken.the-type Laws''.the-copy Exit.yes; row = Rows.whole (Declared.row Taken.the-type); rd = λ x. x; mk = λ x. x } λ M 𝓤 H A W. record { copies = Laws'3.copy Taken.the-type Laws''.the-copy 𝓤 H A W; lawful = Laws'3.lawful Taken.the-type Laws''.the-laws 𝓤 H A W; makes = Laws'3.makes Taken.the-type Laws''.the-plain 𝓤 H A; in-mem = Local.mem-whole 𝓤 H A W (Declared.row Taken.the-type); of-mem = Local.whole-mem 𝓤 H A W (Declared.row Taken.the-type) }) List.[])))))
 abbrev pub r : Kinds.RK 1
 r = Kinds.rUnit
 abbrev pub Ghost : Type 0

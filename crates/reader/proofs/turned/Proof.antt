@@ -2,7 +2,7 @@
 -- Assumes nothing.
 use mathlib.Core.Path.{refl, sym, ap, _∙_}
 use mathlib.Core.Bool.{true}
-use Rattle.reader.specs.declared.Run.{Run}
+use Rattle.cursors.specs.declared.Run.{Run}
 use borrow.Author.Needs.{needs}
 use Rattle.reader.proofs.turned.Statement.{statement}
 use Rattle.reader.proofs.turned.Tie as tie

@@ -5,7 +5,7 @@ use Rattle.report.proofs.refused_line.Statement.{statement}
 use Rattle.report.proofs.refused_line.Tie as tie
 use mathlib.Core.Path.{ap}
 use Rattle.theory_reading.specs.Bytes.{text}
-use Rattle.checker.specs.Answers.{refusalOf}
+use Rattle.answers.specs.Answers.{refusalOf}
 use lib.ListN.{length}
 use Rattle.report.specs.declared.Line.{Line}
 use Rattle.report.specs.Printing.{refused-there}

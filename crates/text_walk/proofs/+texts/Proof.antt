@@ -27,7 +27,7 @@ use mathlib.Core.Path.{sym, ap, _∙_}
 use mathlib.Core.Bool.{false, _||_}
 use native.Mathlib.Omega.{arith}
 use Prim.Native.Nat.{ℕ, _*_, _-_, _%_, _<_, _^_}
-use Rattle.theory_engine.specs.TextCorrect.{inside-option}
+use Rattle.theory_applying.specs.TextCorrect.{inside-option}
 use Rattle.theory_lists.specs.Powers.{shifted, both-halves}
 use Rattle.meeting.specs.Abstraction.{progressOf}
 use Rattle.edges.specs.Abstraction.{edgeIn}

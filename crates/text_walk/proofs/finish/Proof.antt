@@ -4,7 +4,7 @@ use mathlib.Core.List.{[]}
 use native.Mathlib.Omega.{arith}
 use Rattle.theory_lists.specs.Powers.{shifted}
 use Rattle.theory_engine.specs.Engine.{doneIn}
-use Rattle.theory_engine.specs.TextCorrect.{finish-whole, finish-cut}
+use Rattle.theory_applying.specs.TextCorrect.{finish-whole, finish-cut}
 use Rattle.meeting.specs.Abstraction.{walkedOf}
 use Rattle.meeting.specs.declared.Walked.{Walked}
 use Rattle.text_walk.specs.Abstraction.{carriedOf}

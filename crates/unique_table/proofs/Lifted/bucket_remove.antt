@@ -1,5 +1,5 @@
 -- Generated: what callers cite of bucket_remove.
--- From ad3273883a0cd883, as b631ded418f580bc.
+-- From 842f84d872e96147, as b631ded418f580bc.
 use Rattle.node_records.proofs.Tables.WriterRecord as WriterRecordT
 use borrow.Fn.Kinds
 use borrow.Kind.MutSlice

@@ -1,5 +1,5 @@
 -- Generated: what callers cite of next_number.
--- From ad3273883a0cd883, as 4530d4f2f0f562db.
+-- From 842f84d872e96147, as 4530d4f2f0f562db.
 use Rattle.node_records.proofs.Tables.WriterRecord as WriterRecordT
 use borrow.Fn.Kinds
 use borrow.Kind.ShrSlice

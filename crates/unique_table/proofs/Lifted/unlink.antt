@@ -1,5 +1,5 @@
 -- Generated: what callers cite of unlink.
--- From ad3273883a0cd883, as ad061e14f2a7d251.
+-- From 842f84d872e96147, as ad061e14f2a7d251.
 use Rattle.node_records.proofs.Tables.WriterRecord as WriterRecordT
 use Rattle.unique_table.proofs.Ends
 use Rattle.unique_table.proofs.Ends.Laws

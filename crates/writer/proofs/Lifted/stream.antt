@@ -1,5 +1,5 @@
 -- Generated: what callers cite of stream.
--- From 1b3cca3231d934c7, as e64eafc8aeda1dce.
+-- From f82ca65e0b1caaa7, as e64eafc8aeda1dce.
 use Rattle.node_records.proofs.Tables.WriterRecord as WriterRecordT
 use Rattle.pending_text.proofs.Sent
 use Rattle.pending_text.proofs.Sent.Laws

@@ -1,5 +1,5 @@
 -- Generated: what callers cite of walk.
--- From 1b3cca3231d934c7, as 8c2ee719e8b5d002.
+-- From f82ca65e0b1caaa7, as 8c2ee719e8b5d002.
 use Rattle.meeting.proofs.Progress
 use Rattle.meeting.proofs.Progress.Laws
 use Rattle.meeting.proofs.Walked

@@ -1,5 +1,5 @@
 -- Generated: the derivation of a body.
--- From 8a00f2b1f4d6cf99, as f7fb4756f14c08b4.
+-- From e913cbf519329295, as f7fb4756f14c08b4.
 use Prim.Native.Nat
 use Rattle.edges.proofs.TableEdge
 use Rattle.edges.proofs.TableEdge.Laws

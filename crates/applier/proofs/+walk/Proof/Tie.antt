@@ -1,5 +1,5 @@
 -- Generated: how the theorem of walk, which calls itself, closes.
--- From 8a00f2b1f4d6cf99, as 83fc54472aeef87e.
+-- From e913cbf519329295, as 83fc54472aeef87e.
 use Prim.Native.Nat.{ℕ, _<_}
 use borrow.Fn.Kinds.{In}
 use borrow.Fn.PlainCycle

@@ -1,17 +1,17 @@
 -- Generated: the derivation of a body.
--- From 71391a4dd03baf5b, as d893f1db6a54eed4.
+-- From d64a6d5617382004, as 7144f69f2cd72b76.
 use Prim.Native.Nat
+use Rattle.cursors.proofs.Run
+use Rattle.cursors.proofs.Run.Laws
 use Rattle.elements.proofs.Context
-use Rattle.elements.proofs.Context.Laws
+use Rattle.elements.proofs.Context.Laws as Laws'
 use Rattle.elements.proofs.Ref
-use Rattle.elements.proofs.Ref.Laws as Laws'
+use Rattle.elements.proofs.Ref.Laws as Laws''
 use Rattle.node_records.proofs.NodeRecord
-use Rattle.node_records.proofs.NodeRecord.Laws as Laws''
+use Rattle.node_records.proofs.NodeRecord.Laws as Laws'3
 use Rattle.node_records.proofs.Tables.NodeRecord as NodeRecordT
 use Rattle.reader.proofs.Reached
-use Rattle.reader.proofs.Reached.Laws as Laws'3
-use Rattle.reader.proofs.Run
-use Rattle.reader.proofs.Run.Laws as Laws'4
+use Rattle.reader.proofs.Reached.Laws as Laws'4
 use borrow.Author.Called
 use borrow.Author.Tests
 use borrow.Fn.Any
@@ -77,8 +77,8 @@ y0 = Syntax.tyInt Syntax.w32
 abbrev y1 : Syntax.Ty
 y1 = Syntax.tyStruct (101 ∷ 108 ∷ 101 ∷ 109 ∷ 101 ∷ 110 ∷ 116 ∷ 115 ∷ 58 ∷ 58 ∷ 82 ∷ 101 ∷ 102 ∷ []) (Syntax.tcons y0 (Syntax.tcons y0 Syntax.tnil))
 abbrev y2 : Syntax.Ty
-y2 = Syntax.tyStruct (114 ∷ 101 ∷ 97 ∷ 100 ∷ 101 ∷ 114 ∷ 58 ∷ 58 ∷ 80 ∷ 97 ∷ 105 ∷ 114 ∷ []) (Syntax.tcons Syntax.tyBool (Syntax.tcons y1 (Syntax.tcons y1
-    Syntax.tnil)))
+y2 = Syntax.tyStruct (99 ∷ 117 ∷ 114 ∷ 115 ∷ 111 ∷ 114 ∷ 115 ∷ 58 ∷ 58 ∷ 80 ∷ 97 ∷ 105 ∷ 114 ∷ []) (Syntax.tcons Syntax.tyBool (Syntax.tcons y1 (Syntax.tcons
+    y1 Syntax.tnil)))
 abbrev y3 : Syntax.Ty
 y3 = Syntax.tyInt Syntax.w64
 abbrev y4 : Syntax.Ty
@@ -86,8 +86,8 @@ y4 = Syntax.tyEnum (101 ∷ 108 ∷ 101 ∷ 109 ∷ 101 ∷ 110 ∷ 116 ∷ 115 
     (Syntax.ttcons Syntax.tnil (Syntax.ttcons Syntax.tnil (Syntax.ttcons Syntax.tnil (Syntax.ttcons Syntax.tnil (Syntax.ttcons Syntax.tnil (Syntax.ttcons
     Syntax.tnil Syntax.ttnil)))))))
 abbrev y5 : Syntax.Ty
-y5 = Syntax.tyStruct (114 ∷ 101 ∷ 97 ∷ 100 ∷ 101 ∷ 114 ∷ 58 ∷ 58 ∷ 82 ∷ 117 ∷ 110 ∷ []) (Syntax.tcons y1 (Syntax.tcons y2 (Syntax.tcons y3 (Syntax.tcons y3
-    (Syntax.tcons y0 (Syntax.tcons y4 (Syntax.tcons Syntax.tyBool Syntax.tnil)))))))
+y5 = Syntax.tyStruct (99 ∷ 117 ∷ 114 ∷ 115 ∷ 111 ∷ 114 ∷ 115 ∷ 58 ∷ 58 ∷ 82 ∷ 117 ∷ 110 ∷ []) (Syntax.tcons y1 (Syntax.tcons y2 (Syntax.tcons y3 (Syntax.tcons
+    y3 (Syntax.tcons y0 (Syntax.tcons y4 (Syntax.tcons Syntax.tyBool Syntax.tnil)))))))
 abbrev y6 : Syntax.Ty
 y6 = Syntax.tyStruct (110 ∷ 111 ∷ 100 ∷ 101 ∷ 95 ∷ 114 ∷ 101 ∷ 99 ∷ 111 ∷ 114 ∷ 100 ∷ 115 ∷ 58 ∷ 58 ∷ 78 ∷ 111 ∷ 100 ∷ 101 ∷ 82 ∷ 101 ∷ 99 ∷ 111 ∷ 114 ∷ 100 ∷
     []) (Syntax.tcons y0 (Syntax.tcons y0 (Syntax.tcons y0 (Syntax.tcons y0 (Syntax.tcons y0 (Syntax.tcons y0 (Syntax.tcons y0 (Syntax.tcons y0
@@ -142,9 +142,9 @@ abbrev e7a : Row.Entry
 e7a = (7, Rows.whole (Declared'.row NodeRecord.the-type))
 abbrev pub ps : List (Kinds.PK 1)
 ps = (ShrSlice.pShrS NodeRecordT.row 0 tt) ∷ (Value.pVal record { ty = Declared'.row Reached.the-type; one = Path'.refl; val = Laws'7.val Reached.the-type
-    Laws'3.the-laws; tells = Laws'7.tells Reached.the-type Laws'3.the-laws; still = Laws'7.still Reached.the-type Laws'3.the-copy Exit.yes; row = Rows.whole
-    (Declared'.row Reached.the-type); rd = λ x. x; mk = λ x. x } λ M 𝓤 H A W. record { copies = Laws'7.copy Reached.the-type Laws'3.the-copy 𝓤 H A W; lawful =
-    Laws'7.lawful Reached.the-type Laws'3.the-laws 𝓤 H A W; makes = Laws'7.makes Reached.the-type Laws'3.the-plain 𝓤 H A; in-mem = Local.mem-whole 𝓤 H A W
+    Laws'4.the-laws; tells = Laws'7.tells Reached.the-type Laws'4.the-laws; still = Laws'7.still Reached.the-type Laws'4.the-copy Exit.yes; row = Rows.whole
+    (Declared'.row Reached.the-type); rd = λ x. x; mk = λ x. x } λ M 𝓤 H A W. record { copies = Laws'7.copy Reached.the-type Laws'4.the-copy 𝓤 H A W; lawful =
+    Laws'7.lawful Reached.the-type Laws'4.the-laws 𝓤 H A W; makes = Laws'7.makes Reached.the-type Laws'4.the-plain 𝓤 H A; in-mem = Local.mem-whole 𝓤 H A W
     (Declared'.row Reached.the-type); of-mem = Local.whole-mem 𝓤 H A W (Declared'.row Reached.the-type) }) ∷ []
 abbrev pub r : Kinds.RK 1
 r = Bool.rBool
@@ -153,20 +153,20 @@ xs = Syntax.tyBool ∷ y5 ∷ y4 ∷ y1 ∷ y6 ∷ Syntax.tyBool ∷ Syntax.tyBo
 abbrev pub m : Nat.ℕ
 m = 0
 abbrev pub ps·0 : List (Kinds.PK 0)
-ps·0 = (Value.pVal record { ty = Declared.row Context.the-type; one = Path'.refl; val = Laws'5.val Context.the-type Laws.the-laws; tells = Laws'5.tells
-    Context.the-type Laws.the-laws; still = Laws'5.still Context.the-type Laws.the-copy Exit.yes; row = Rows.whole (Declared.row Context.the-type); rd = λ x.
-    x; mk = λ x. x } λ M 𝓤 H A W. record { copies = Laws'5.copy Context.the-type Laws.the-copy 𝓤 H A W; lawful = Laws'5.lawful Context.the-type Laws.the-laws
-    𝓤 H A W tt; makes = Laws'5.makes Context.the-type Laws.the-plain 𝓤 H A; in-mem = Local.mem-whole 𝓤 H A W (Declared.row Context.the-type); of-mem =
-    Local.whole-mem 𝓤 H A W (Declared.row Context.the-type) }) ∷ []
+ps·0 = (Value.pVal record { ty = Declared.row Context.the-type; one = Path'.refl; val = Laws'5.val Context.the-type Laws'.the-laws; tells = Laws'5.tells
+    Context.the-type Laws'.the-laws; still = Laws'5.still Context.the-type Laws'.the-copy Exit.yes; row = Rows.whole (Declared.row Context.the-type); rd = λ
+    x. x; mk = λ x. x } λ M 𝓤 H A W. record { copies = Laws'5.copy Context.the-type Laws'.the-copy 𝓤 H A W; lawful = Laws'5.lawful Context.the-type
+    Laws'.the-laws 𝓤 H A W tt; makes = Laws'5.makes Context.the-type Laws'.the-plain 𝓤 H A; in-mem = Local.mem-whole 𝓤 H A W (Declared.row Context.the-type);
+    of-mem = Local.whole-mem 𝓤 H A W (Declared.row Context.the-type) }) ∷ []
 abbrev pub r·0 : Kinds.RK 0
 r·0 = Bool.rBool
 abbrev pub ps·1 : List (Kinds.PK 1)
 ps·1 = (ShrSlice.pShrS NodeRecordT.row 0 tt) ∷ (Num.pNum Syntax.w32) ∷ (Num.pNum Syntax.w32) ∷ []
 abbrev pub r·1 : Kinds.RK 1
-r·1 = Value.rVal record { ty = Declared'.row NodeRecord.the-type; one = Path'.refl; val = Laws'7.val NodeRecord.the-type Laws''.the-laws; tells = Laws'7.tells
-    NodeRecord.the-type Laws''.the-laws; still = Laws'7.still NodeRecord.the-type Laws''.the-copy Exit.yes; row = Rows.whole (Declared'.row
-    NodeRecord.the-type); rd = λ x. x; mk = λ x. x } λ M 𝓤 H A W. record { copies = Laws'7.copy NodeRecord.the-type Laws''.the-copy 𝓤 H A W; lawful =
-    Laws'7.lawful NodeRecord.the-type Laws''.the-laws 𝓤 H A W; makes = Laws'7.makes NodeRecord.the-type Laws''.the-plain 𝓤 H A; in-mem = Local.mem-whole 𝓤 H A
+r·1 = Value.rVal record { ty = Declared'.row NodeRecord.the-type; one = Path'.refl; val = Laws'7.val NodeRecord.the-type Laws'3.the-laws; tells = Laws'7.tells
+    NodeRecord.the-type Laws'3.the-laws; still = Laws'7.still NodeRecord.the-type Laws'3.the-copy Exit.yes; row = Rows.whole (Declared'.row
+    NodeRecord.the-type); rd = λ x. x; mk = λ x. x } λ M 𝓤 H A W. record { copies = Laws'7.copy NodeRecord.the-type Laws'3.the-copy 𝓤 H A W; lawful =
+    Laws'7.lawful NodeRecord.the-type Laws'3.the-laws 𝓤 H A W; makes = Laws'7.makes NodeRecord.the-type Laws'3.the-plain 𝓤 H A; in-mem = Local.mem-whole 𝓤 H A
     W (Declared'.row NodeRecord.the-type); of-mem = Local.whole-mem 𝓤 H A W (Declared'.row NodeRecord.the-type) }
 abbrev pub hs : List Syntax.Home
 hs = Syntax.valueLocal ∷ Syntax.valueLocal ∷ Syntax.valueLocal ∷ Syntax.valueLocal ∷ Syntax.valueLocal ∷ Syntax.valueLocal ∷ Syntax.valueLocal ∷
@@ -387,7 +387,7 @@ abbrev pub O3 : Typed.Outs
 O3 = Typed.withNext (Option.some T24) O0
 module _ (claims· : Claims) where
   abbrev s0 : (bs : List Nat.ℕ) → Typed.Mo T0 → Typed.Mo T2
-  s0 = λ bs. Scalar.n-use T0 (Scalar.oFld 2 ((Syntax.field 5) ∷ []) Syntax.tyBool 81 (Reads.fieldV Reached.the-type Laws'3.the-laws 5)) 3 (Rows.sc-here
+  s0 = λ bs. Scalar.n-use T0 (Scalar.oFld 2 ((Syntax.field 5) ∷ []) Syntax.tyBool 81 (Reads.fieldV Reached.the-type Laws'4.the-laws 5)) 3 (Rows.sc-here
       Row.sBool) (Row.sBool .of)
   abbrev s1 : (bs : List Nat.ℕ) → Typed.Mo T2 → Typed.Mo T3
   s1 = λ bs. Scalar.n-use T2 (Scalar.oAt 3 Syntax.tyBool (Row.valS Row.sBool)) 8 (Rows.sc-here Row.sBool) (Row.sBool .of)
@@ -402,9 +402,9 @@ module _ (claims· : Claims) where
   abbrev s6 : (bs : List Nat.ℕ) → Typed.Mo T3 → Typed.Mo T9
   s6 = λ bs. Scalar.n-room T3 8 Syntax.tyBool
   abbrev s7 : (bs : List Nat.ℕ) → Typed.Gives T4 T10
-  s7 = λ bs. Know.k-struct-known Reached.the-type Laws'3.the-laws T4 2 λ x. x
+  s7 = λ bs. Know.k-struct-known Reached.the-type Laws'4.the-laws T4 2 λ x. x
   abbrev s8 : (bs : List Nat.ℕ) → Typed.Asks T10 T11
-  s8 = λ bs. Scalar.k-op2 T10 Syntax.ne (Scalar.oFld 2 ((Syntax.field 1) ∷ []) y3 56 (Reads.fieldV Reached.the-type Laws'3.the-laws 1)) (Scalar.oInt
+  s8 = λ bs. Scalar.k-op2 T10 Syntax.ne (Scalar.oFld 2 ((Syntax.field 1) ∷ []) y3 56 (Reads.fieldV Reached.the-type Laws'4.the-laws 1)) (Scalar.oInt
       Syntax.w64 0) 8 (Rows.sc-here Row.sBool) (Row.sBool .of)
   abbrev s9 : (bs : List Nat.ℕ) → Typed.Mo T11 → Typed.Mo T13
   s9 = λ bs. Scalar.n-room T11 2 y9
@@ -452,12 +452,12 @@ module _ (claims· : Claims) where
   abbrev s28 : (bs : List Nat.ℕ) → Typed.Mo T32 → Typed.Mo T33
   s28 = λ bs. Scalar.n-room T32 4 y5
   abbrev s29 : (bs : List Nat.ℕ) → Typed.Gives T33 T34
-  s29 = λ bs. Know.k-struct-known NodeRecord.the-type Laws''.the-laws T33 7 λ x. x
+  s29 = λ bs. Know.k-struct-known NodeRecord.the-type Laws'3.the-laws T33 7 λ x. x
   abbrev s30 : (bs : List Nat.ℕ) → Typed.Gives T34 T35
-  s30 = λ bs. Know.k-struct-known Ref.the-type Laws'.the-laws T34 6 λ x. x
+  s30 = λ bs. Know.k-struct-known Ref.the-type Laws''.the-laws T34 6 λ x. x
   abbrev s31 : (bs : List Nat.ℕ) → Typed.Asks T35 T36
-  s31 = λ bs. Scalar.k-op2 T35 Syntax.eq (Scalar.oFld 7 ((Syntax.field 4) ∷ []) y0 16 (Reads.fieldV NodeRecord.the-type Laws''.the-laws 4)) (Scalar.oFld 6
-      ((Syntax.field 1) ∷ []) y0 4 (Reads.fieldV Ref.the-type Laws'.the-laws 1)) 0 (Rows.sc-here Row.sBool) (Row.sBool .of)
+  s31 = λ bs. Scalar.k-op2 T35 Syntax.eq (Scalar.oFld 7 ((Syntax.field 4) ∷ []) y0 16 (Reads.fieldV NodeRecord.the-type Laws'3.the-laws 4)) (Scalar.oFld 6
+      ((Syntax.field 1) ∷ []) y0 4 (Reads.fieldV Ref.the-type Laws''.the-laws 1)) 0 (Rows.sc-here Row.sBool) (Row.sBool .of)
   abbrev s32 : (bs : List Nat.ℕ) → Typed.Mo T36 → Typed.Mo T37
   s32 = λ bs. Scalar.n-room T36 3 Syntax.tyBool
   abbrev s33 : (bs : List Nat.ℕ) → Typed.Mo T37 → Typed.Mo T38
@@ -753,15 +753,15 @@ module _ (claims· : Claims) where
               H A W Row.sBool)) d27
           d29 : Typed.Typed 𝓤 H A 𝓣 E G35 b26 Δ0 (at29 bs)
           d29 = Typed.s-seq 𝓤 H A W 𝓣 E G35 G36 b24 b25 Δ0 (Typed.ask (s31 bs)) (at28 bs) (Scalar.t-op2 𝓤 H A W E 𝓣 G35 Syntax.eq (Scalar.oFld 7
-              ((Syntax.field 4) ∷ []) y0 16 (Reads.fieldV NodeRecord.the-type Laws''.the-laws 4)) (Scalar.oFld 6 ((Syntax.field 1) ∷ []) y0 4 (Reads.fieldV
-              Ref.the-type Laws'.the-laws 1)) 0 (Rows.sc-here Row.sBool) Syntax.tyBool (Row.valS Row.sBool) (Row.sBool .of) (Reads.reads-field 𝓤 H A W
-              NodeRecord.the-type Laws''.the-laws 4 y0 16 Path'.refl, Path'.refl) (Reads.reads-field 𝓤 H A W Ref.the-type Laws'.the-laws 1 y0 4 Path'.refl,
+              ((Syntax.field 4) ∷ []) y0 16 (Reads.fieldV NodeRecord.the-type Laws'3.the-laws 4)) (Scalar.oFld 6 ((Syntax.field 1) ∷ []) y0 4 (Reads.fieldV
+              Ref.the-type Laws''.the-laws 1)) 0 (Rows.sc-here Row.sBool) Syntax.tyBool (Row.valS Row.sBool) (Row.sBool .of) (Reads.reads-field 𝓤 H A W
+              NodeRecord.the-type Laws'3.the-laws 4 y0 16 Path'.refl, Path'.refl) (Reads.reads-field 𝓤 H A W Ref.the-type Laws''.the-laws 1 y0 4 Path'.refl,
               Path'.refl) (Reads'.room-gone 𝓤 H A Syntax.tyBool) (Scalar.holds-sc 𝓤 H A W Row.sBool) Path'.refl (λ u. Path'.refl) λ u. tt) d28
           d30 : Typed.Typed 𝓤 H A 𝓣 E G34 b26 Δ0 (at30 bs)
-          d30 = Typed.g-pre 𝓤 H A W 𝓣 E G34 G35 b26 Δ0 (Typed.give (s30 bs)) (at29 bs) (Know.g-struct-known 𝓤 H A W E Ref.the-type Laws'.the-laws G34 6 (λ x.
+          d30 = Typed.g-pre 𝓤 H A W 𝓣 E G34 G35 b26 Δ0 (Typed.give (s30 bs)) (at29 bs) (Know.g-struct-known 𝓤 H A W E Ref.the-type Laws''.the-laws G34 6 (λ x.
               x) (Reads'.as-is 𝓤 H A (Rows.whole (Declared'.row Ref.the-type)))) d29
           d31 : Typed.Typed 𝓤 H A 𝓣 E G33 b26 Δ0 (at31 bs)
-          d31 = Typed.g-pre 𝓤 H A W 𝓣 E G33 G34 b26 Δ0 (Typed.give (s29 bs)) (at30 bs) (Know.g-struct-known 𝓤 H A W E NodeRecord.the-type Laws''.the-laws G33
+          d31 = Typed.g-pre 𝓤 H A W 𝓣 E G33 G34 b26 Δ0 (Typed.give (s29 bs)) (at30 bs) (Know.g-struct-known 𝓤 H A W E NodeRecord.the-type Laws'3.the-laws G33
               7 (λ x. x) (Reads'.as-is 𝓤 H A (Rows.whole (Declared'.row NodeRecord.the-type)))) d30
           d32 : Typed.Typed 𝓤 H A 𝓣 E G32 b26 Δ0 (at32 bs)
           d32 = Typed.g-pre 𝓤 H A W 𝓣 E G32 G33 b26 Δ0 (Typed.pass T32 T33 (s28 bs)) (at31 bs) (Scalar.g-room 𝓤 H A W E G32 4 y5 (Local.room-whole 𝓤 H A W
@@ -771,12 +771,12 @@ module _ (claims· : Claims) where
               "work_table::get" (known .1) E (λ pos β. β) G31 (record { pos = 1; ty = y7; ref = λ x. x }, (Num.vFld 4 ((Syntax.field 4) ∷ []) 48 λ x.
               Run.struct .as-values x .1 .1 .1 .1 .0, (Num.vFld 6 ((Syntax.field 0) ∷ []) 0 λ x. Ref.struct .as-values x .0, tt))) 7 (0 ∷ []) (Call.sub-id 𝓤 H
               A W (G31 .slots)) (ShrSlice.spares-sslice 𝓤 H A W NodeRecordT.row y7 0, Shared.reads-sslice 𝓤 H A W NodeRecordT.row y7 0, Path'.refl,
-              ((Reads.reads-field 𝓤 H A W Run.the-type Laws'4.the-laws 4 y0 48 Path'.refl, Path'.refl), ((Reads.reads-field 𝓤 H A W Ref.the-type
-              Laws'.the-laws 0 y0 0 Path'.refl, Path'.refl), tt))) (Reads'.room-gone 𝓤 H A y6) (tt, tt) Path'.refl) d32
+              ((Reads.reads-field 𝓤 H A W Run.the-type Laws.the-laws 4 y0 48 Path'.refl, Path'.refl), ((Reads.reads-field 𝓤 H A W Ref.the-type Laws''.the-laws
+              0 y0 0 Path'.refl, Path'.refl), tt))) (Reads'.room-gone 𝓤 H A y6) (tt, tt) Path'.refl) d32
           d34 : Typed.Typed 𝓤 H A 𝓣 E G24 b28 Δ0 (at34 bs)
           d34 = Typed.s-seq 𝓤 H A W 𝓣 E G24 G31 b22 b27 Δ0 (Typed.both (s26 bs)) (at33 bs) (WayStmt.t-way-copy-out 𝓤 H A W E 𝓣 (Declared'.row Ref.the-type)
-              Path'.refl (Copies.cStruct Ref.the-type Laws'.the-laws Laws'.the-copy .copy 𝓤 H A W) (λ ρ. Unit) G24 (Row.out 4 (G24 .locals)) (λ u. Row.drop 4
-              (G24 .locals) u) (G24 .slots) 4 (λ t. (Syntax.field 0) ∷ t) y1 y1 6 (Rows.whole (Declared'.row Ref.the-type)) (λ x. x) (λ u. At.getAt
+              Path'.refl (Copies.cStruct Ref.the-type Laws''.the-laws Laws''.the-copy .copy 𝓤 H A W) (λ ρ. Unit) G24 (Row.out 4 (G24 .locals)) (λ u. Row.drop
+              4 (G24 .locals) u) (G24 .slots) 4 (λ t. (Syntax.field 0) ∷ t) y1 y1 6 (Rows.whole (Declared'.row Ref.the-type)) (λ x. x) (λ u. At.getAt
               (Run.the-type .parts) 0 (Run.struct .as-values (u .1 .1 .1 .1 .0))) (λ u. (Row.hd 0 (Row.tl (Row.tl (Row.tl (Row.tl bs)))), Nat._+_ 0 0)) (λ T′.
               record { locals = Row.setRow 4 (4, Rows.whole (Declared'.row Run.the-type)) T′; slots = G24 .slots }) (λ u T′ m′. Row.set 4 (4, Rows.whole
               (Declared'.row Run.the-type)) (u .1 .1 .1 .1 .0) T′ m′) (λ u. Unit) (λ x. Unit) (Own.told-none 𝓤 H A (G24 .slots)) (DerefMove.learns-nothing 𝓤 H
@@ -787,7 +787,7 @@ module _ (claims· : Claims) where
               (Row.tl bs)))))) (Local.whole-mem 𝓤 H A W (Declared'.row Run.the-type) ρ (u .1 .1 .1 .1 .0) (Row.hd 0 (Row.tl (Row.tl (Row.tl (Row.tl bs))))))))
               Path'.refl λ q. Inner.cut-record 𝓤 H A q (Declared'.row Run.the-type) Ref.the-type 0 (u .1 .1 .1 .1 .0) (u .1 .1 .1 .1 .0) (At.getAt
               (Run.the-type .parts) 0 (Run.struct .as-values (u .1 .1 .1 .1 .0))) (At.getAt (Run.the-type .parts) 0 (Run.struct .as-values (u .1 .1 .1 .1
-              .0))) (Row.hd 0 (Row.tl (Row.tl (Row.tl (Row.tl bs)))), 0) (Behind.look-at 𝓤 H A W q Run.the-type Laws'4.the-laws 0 0 Path'.refl Path'.refl
+              .0))) (Row.hd 0 (Row.tl (Row.tl (Row.tl (Row.tl bs)))), 0) (Behind.look-at 𝓤 H A W q Run.the-type Laws.the-laws 0 0 Path'.refl Path'.refl
               (Row.hd 0 (Row.tl (Row.tl (Row.tl (Row.tl bs)))), 0) (u .1 .1 .1 .1 .0) (Run.struct .as-values (u .1 .1 .1 .1 .0)) Path'.refl))
               (Reads'.room-gone 𝓤 H A y1) (Yields.makes-mem 𝓤 H A W (λ ρ. Unit) (Declared'.row Ref.the-type) Path'.refl (Rows.whole (Declared'.row
               Ref.the-type)) (λ x. x) λ ρ told. Local.whole-mem 𝓤 H A W (Declared'.row Ref.the-type) ρ) Path'.refl Path'.refl Path'.refl) d33
@@ -803,28 +803,28 @@ module _ (claims· : Claims) where
           d38 : Typed.Typed 𝓤 H A 𝓣 E G20 b31 Δ0 (at38 bs)
           d38 = Typed.s-seq 𝓤 H A W 𝓣 E G20 G21 b15 b30 Δ0 (Typed.both (s17 bs)) (at37 bs) (Plain.t-call-plain 𝓤 H A W 𝓣 0 ps·0 r·0 (claims· .0) (claims· .1)
               "blocks::has_ended" (known .0) E (λ pos β. β) G20 (record { pos = 5; st = []; d = 0; at = λ x. x }, tt) 8 [] (Call.sub-id 𝓤 H A W (G20 .slots))
-              ((Yields.yields-copy 𝓤 H A W (λ ρ. Unit) (Declared.row Context.the-type) Path'.refl (Copies.cEnum Context.the-type Laws.the-laws Laws.the-copy
+              ((Yields.yields-copy 𝓤 H A W (λ ρ. Unit) (Declared.row Context.the-type) Path'.refl (Copies.cEnum Context.the-type Laws'.the-laws Laws'.the-copy
               .copy 𝓤 H A W) (Rows.whole (Declared.row Context.the-type)) (λ x. x) (λ x. x) (λ ρ told. Local.mem-whole 𝓤 H A W (Declared.row Context.the-type)
               ρ) λ ρ told. Local.whole-mem 𝓤 H A W (Declared.row Context.the-type) ρ, Path'.refl), tt) (Reads'.room-gone 𝓤 H A Syntax.tyBool) tt Path'.refl)
               d37
           d39 : Typed.Typed 𝓤 H A 𝓣 E G19 b32 Δ0 (at39 bs)
           d39 = Typed.s-seq 𝓤 H A W 𝓣 E G19 G20 b14 b31 Δ0 (Typed.pass T19 T20 (s16 bs)) (at38 bs) (CopyOut.t-copy-told 𝓤 H A W E 𝓣 (Declared.row
-              Context.the-type) Path'.refl (Laws'5.val Context.the-type Laws.the-laws) (Laws'5.lawful Context.the-type Laws.the-laws 𝓤 H A W tt) (Laws'5.makes
-              Context.the-type Laws.the-plain 𝓤 H A) G19 5 (Scalar.oFld 4 ((Syntax.field 5) ∷ []) y4 52 λ x. Laws'5.val Context.the-type Laws.the-laws
-              (Run.struct .as-values x .1 .1 .1 .1 .1 .0)) (λ m. Run.struct .as-values (m .1 .1 .1 .1 .0) .1 .1 .1 .1 .1 .0) (λ m. Laws'6.Is (Declared'.row
-              Run.the-type) (m .1 .1 .1 .1 .0) (Laws'7.vals Run.the-type Laws'4.the-laws (m .1 .1 .1 .1 .0))) (Reads'.room-gone 𝓤 H A y4) (Reads.reads-field 𝓤
-              H A W Run.the-type Laws'4.the-laws 5 y4 52 Path'.refl, Path'.refl) Path'.refl (λ ρ m. Make.tells-row 𝓤 H A W E ρ (Row.out 5 (G19 .locals)) m 4
-              (Laws'6.Is (Declared'.row Run.the-type) (m .1 .1 .1 .1 .0) (Laws'7.vals Run.the-type Laws'4.the-laws (m .1 .1 .1 .1 .0))) (Make.whole-is 𝓤 H A W
-              E (Declared'.row Run.the-type) Path'.refl (Laws'7.val Run.the-type Laws'4.the-laws) (Laws'7.tells Run.the-type Laws'4.the-laws) ρ 4 (m .1 .1 .1
-              .1 .0))) (λ m k wa. Path'.refl) λ m k wa. Laws'7.owed Run.the-type Laws'4.the-laws (m .1 .1 .1 .1 .0) (Laws'7.vals Run.the-type Laws'4.the-laws
-              (m .1 .1 .1 .1 .0)) k .1 .1 .1 .1 .1 .0) d38
+              Context.the-type) Path'.refl (Laws'5.val Context.the-type Laws'.the-laws) (Laws'5.lawful Context.the-type Laws'.the-laws 𝓤 H A W tt)
+              (Laws'5.makes Context.the-type Laws'.the-plain 𝓤 H A) G19 5 (Scalar.oFld 4 ((Syntax.field 5) ∷ []) y4 52 λ x. Laws'5.val Context.the-type
+              Laws'.the-laws (Run.struct .as-values x .1 .1 .1 .1 .1 .0)) (λ m. Run.struct .as-values (m .1 .1 .1 .1 .0) .1 .1 .1 .1 .1 .0) (λ m. Laws'6.Is
+              (Declared'.row Run.the-type) (m .1 .1 .1 .1 .0) (Laws'7.vals Run.the-type Laws.the-laws (m .1 .1 .1 .1 .0))) (Reads'.room-gone 𝓤 H A y4)
+              (Reads.reads-field 𝓤 H A W Run.the-type Laws.the-laws 5 y4 52 Path'.refl, Path'.refl) Path'.refl (λ ρ m. Make.tells-row 𝓤 H A W E ρ (Row.out 5
+              (G19 .locals)) m 4 (Laws'6.Is (Declared'.row Run.the-type) (m .1 .1 .1 .1 .0) (Laws'7.vals Run.the-type Laws.the-laws (m .1 .1 .1 .1 .0)))
+              (Make.whole-is 𝓤 H A W E (Declared'.row Run.the-type) Path'.refl (Laws'7.val Run.the-type Laws.the-laws) (Laws'7.tells Run.the-type
+              Laws.the-laws) ρ 4 (m .1 .1 .1 .1 .0))) (λ m k wa. Path'.refl) λ m k wa. Laws'7.owed Run.the-type Laws.the-laws (m .1 .1 .1 .1 .0) (Laws'7.vals
+              Run.the-type Laws.the-laws (m .1 .1 .1 .1 .0)) k .1 .1 .1 .1 .1 .0) d38
           d40 : Typed.Typed 𝓤 H A 𝓣 E G18 b32 Δ0 (at40 bs)
           d40 = Typed.g-pre 𝓤 H A W 𝓣 E G18 G19 b32 Δ0 (Typed.pass T18 T19 (s15 bs)) (at39 bs) (Scalar.g-room 𝓤 H A W E G18 2 y9 (Local.room-whole 𝓤 H A W
               (Declared'.row Reached.the-type) y9 Path'.refl)) d39
           d41 : Typed.Typed 𝓤 H A 𝓣 E G12 b33 Δ0 (at41 bs)
           d41 = Typed.s-seq 𝓤 H A W 𝓣 E G12 G18 b13 b32 Δ0 (Typed.both (s14 bs)) (at40 bs) (WayStmt.t-way-copy-out 𝓤 H A W E 𝓣 (Declared'.row Run.the-type)
-              Path'.refl (Copies.cStruct Run.the-type Laws'4.the-laws Laws'4.the-copy .copy 𝓤 H A W) (λ ρ. Unit) G12 (Row.out 2 (G12 .locals)) (λ u. Row.drop
-              2 (G12 .locals) u) (G12 .slots) 2 (λ t. (Syntax.field 0) ∷ t) y5 y5 4 (Rows.whole (Declared'.row Run.the-type)) (λ x. x) (λ u. At.getAt
+              Path'.refl (Copies.cStruct Run.the-type Laws.the-laws Laws.the-copy .copy 𝓤 H A W) (λ ρ. Unit) G12 (Row.out 2 (G12 .locals)) (λ u. Row.drop 2
+              (G12 .locals) u) (G12 .slots) 2 (λ t. (Syntax.field 0) ∷ t) y5 y5 4 (Rows.whole (Declared'.row Run.the-type)) (λ x. x) (λ u. At.getAt
               (Reached.the-type .parts) 0 (Reached.struct .as-values (u .1 .1 .0))) (λ u. (Row.hd 0 (Row.tl (Row.tl bs)), Nat._+_ 0 0)) (λ T′. record { locals
               = Row.setRow 2 (2, Rows.whole (Declared'.row Reached.the-type)) T′; slots = G12 .slots }) (λ u T′ m′. Row.set 2 (2, Rows.whole (Declared'.row
               Reached.the-type)) (u .1 .1 .0) T′ m′) (λ u. Unit) (λ x. Unit) (Own.told-none 𝓤 H A (G12 .slots)) (DerefMove.learns-nothing 𝓤 H A (Declared'.row
@@ -835,18 +835,18 @@ module _ (claims· : Claims) where
               (Declared'.row Reached.the-type) ρ (u .1 .1 .0) (Row.hd 0 (Row.tl (Row.tl bs)))))) Path'.refl λ q. Inner.cut-record 𝓤 H A q (Declared'.row
               Reached.the-type) Run.the-type 0 (u .1 .1 .0) (u .1 .1 .0) (At.getAt (Reached.the-type .parts) 0 (Reached.struct .as-values (u .1 .1 .0)))
               (At.getAt (Reached.the-type .parts) 0 (Reached.struct .as-values (u .1 .1 .0))) (Row.hd 0 (Row.tl (Row.tl bs)), 0) (Behind.look-at 𝓤 H A W q
-              Reached.the-type Laws'3.the-laws 0 0 Path'.refl Path'.refl (Row.hd 0 (Row.tl (Row.tl bs)), 0) (u .1 .1 .0) (Reached.struct .as-values (u .1 .1
+              Reached.the-type Laws'4.the-laws 0 0 Path'.refl Path'.refl (Row.hd 0 (Row.tl (Row.tl bs)), 0) (u .1 .1 .0) (Reached.struct .as-values (u .1 .1
               .0)) Path'.refl)) (Reads'.room-gone 𝓤 H A y5) (Yields.makes-mem 𝓤 H A W (λ ρ. Unit) (Declared'.row Run.the-type) Path'.refl (Rows.whole
               (Declared'.row Run.the-type)) (λ x. x) λ ρ told. Local.whole-mem 𝓤 H A W (Declared'.row Run.the-type) ρ) Path'.refl Path'.refl Path'.refl) d40
           d42 : Typed.Typed 𝓤 H A 𝓣 E G11 b34 Δ0 (at42 bs)
           d42 = Typed.t-seq 𝓤 H A W 𝓣 E G11 G12 b12 b33 Δ0 (at15 bs) (at41 bs) d15 d41
           d43 : Typed.Typed 𝓤 H A 𝓣 E G10 b35 Δ0 (at43 bs)
           d43 = Typed.s-seq 𝓤 H A W 𝓣 E G10 G11 b7 b34 Δ0 (Typed.ask (s8 bs)) (at42 bs) (Scalar.t-op2 𝓤 H A W E 𝓣 G10 Syntax.ne (Scalar.oFld 2 ((Syntax.field
-              1) ∷ []) y3 56 (Reads.fieldV Reached.the-type Laws'3.the-laws 1)) (Scalar.oInt Syntax.w64 0) 8 (Rows.sc-here Row.sBool) Syntax.tyBool (Row.valS
-              Row.sBool) (Row.sBool .of) (Reads.reads-field 𝓤 H A W Reached.the-type Laws'3.the-laws 1 y3 56 Path'.refl, Path'.refl) tt (Reads'.room-gone 𝓤 H
+              1) ∷ []) y3 56 (Reads.fieldV Reached.the-type Laws'4.the-laws 1)) (Scalar.oInt Syntax.w64 0) 8 (Rows.sc-here Row.sBool) Syntax.tyBool (Row.valS
+              Row.sBool) (Row.sBool .of) (Reads.reads-field 𝓤 H A W Reached.the-type Laws'4.the-laws 1 y3 56 Path'.refl, Path'.refl) tt (Reads'.room-gone 𝓤 H
               A Syntax.tyBool) (Scalar.holds-sc 𝓤 H A W Row.sBool) Path'.refl (λ u. Path'.refl) λ u. tt) d42
           d44 : Typed.Typed 𝓤 H A 𝓣 E G4 b35 Δ0 (at44 bs)
-          d44 = Typed.g-pre 𝓤 H A W 𝓣 E G4 G10 b35 Δ0 (Typed.give (s7 bs)) (at43 bs) (Know.g-struct-known 𝓤 H A W E Reached.the-type Laws'3.the-laws G4 2 (λ
+          d44 = Typed.g-pre 𝓤 H A W 𝓣 E G4 G10 b35 Δ0 (Typed.give (s7 bs)) (at43 bs) (Know.g-struct-known 𝓤 H A W E Reached.the-type Laws'4.the-laws G4 2 (λ
               x. x) (Reads'.as-is 𝓤 H A (Rows.whole (Declared'.row Reached.the-type)))) d43
           d45 : Typed.Typed 𝓤 H A 𝓣 E G3 b36 Δ0 (at45 bs)
           d45 = Typed.t-seq 𝓤 H A W 𝓣 E G3 G4 b6 b35 Δ0 (at7 bs) (at44 bs) d7 d44
@@ -856,8 +856,8 @@ module _ (claims· : Claims) where
               Path'.refl) (Reads'.room-gone 𝓤 H A Syntax.tyBool) (Scalar.holds-sc 𝓤 H A W Row.sBool) Path'.refl (λ u. Path'.refl) λ u. tt) d45
           d47 : Typed.Typed 𝓤 H A 𝓣 E G0 b38 Δ0 (at47 bs)
           d47 = Typed.s-seq 𝓤 H A W 𝓣 E G0 G2 b0 b37 Δ0 (Typed.pass T0 T2 (s0 bs)) (at46 bs) (Scalar.t-use 𝓤 H A W E 𝓣 G0 (Scalar.oFld 2 ((Syntax.field 5) ∷
-              []) Syntax.tyBool 81 (Reads.fieldV Reached.the-type Laws'3.the-laws 5)) 3 (Rows.sc-here Row.sBool) Syntax.tyBool (Row.valS Row.sBool) (Row.sBool
-              .of) (Reads.reads-field 𝓤 H A W Reached.the-type Laws'3.the-laws 5 Syntax.tyBool 81 Path'.refl, Path'.refl) (Reads'.room-gone 𝓤 H A
+              []) Syntax.tyBool 81 (Reads.fieldV Reached.the-type Laws'4.the-laws 5)) 3 (Rows.sc-here Row.sBool) Syntax.tyBool (Row.valS Row.sBool) (Row.sBool
+              .of) (Reads.reads-field 𝓤 H A W Reached.the-type Laws'4.the-laws 5 Syntax.tyBool 81 Path'.refl, Path'.refl) (Reads'.room-gone 𝓤 H A
               Syntax.tyBool) (Scalar.holds-sc 𝓤 H A W Row.sBool) Path'.refl (λ u. Path'.refl) λ u. tt) d46
           pub typed : Typed.Typed 𝓤 H A 𝓣 E (Function.Γin 1 ps r xs m κs qs) b38 (Function.Δret 1 ps r xs m κs qs) (Φ bs)
           typed = d47
@@ -865,9 +865,9 @@ module _ (claims· : Claims) where
         pub record Args : Type 0 where
           pub t : Kinds.Den {n = 1} κs (ShrSlice.pShrS NodeRecordT.row 0 tt)
           pub r : Kinds.Den {n = 1} κs (Value.pVal record { ty = Declared'.row Reached.the-type; one = Path'.refl; val = Laws'7.val Reached.the-type
-              Laws'3.the-laws; tells = Laws'7.tells Reached.the-type Laws'3.the-laws; still = Laws'7.still Reached.the-type Laws'3.the-copy Exit.yes; row =
+              Laws'4.the-laws; tells = Laws'7.tells Reached.the-type Laws'4.the-laws; still = Laws'7.still Reached.the-type Laws'4.the-copy Exit.yes; row =
               Rows.whole (Declared'.row Reached.the-type); rd = λ x. x; mk = λ x. x } λ M 𝓤 H A W. record { copies = Laws'7.copy Reached.the-type
-              Laws'3.the-copy 𝓤 H A W; lawful = Laws'7.lawful Reached.the-type Laws'3.the-laws 𝓤 H A W; makes = Laws'7.makes Reached.the-type Laws'3.the-plain
+              Laws'4.the-copy 𝓤 H A W; lawful = Laws'7.lawful Reached.the-type Laws'4.the-laws 𝓤 H A W; makes = Laws'7.makes Reached.the-type Laws'4.the-plain
               𝓤 H A; in-mem = Local.mem-whole 𝓤 H A W (Declared'.row Reached.the-type); of-mem = Local.whole-mem 𝓤 H A W (Declared'.row Reached.the-type) })
         abbrev pub dens : (a : Args) → Kinds.Dens κs ps
         dens = λ a. (a .t, (a .r, tt))

@@ -1,5 +1,5 @@
 -- Generated: the needs of is_whole at its contract, and how its theorem closes.
--- From 71391a4dd03baf5b, as 29617e4edd7fc3e7.
+-- From d64a6d5617382004, as 29617e4edd7fc3e7.
 use borrow.Fn.Run
 use borrow.Fn.Written
 use contract.Running.{givenOf, tablesOf}

@@ -1,31 +1,31 @@
 -- Generated: the derivation of a body.
--- From 71391a4dd03baf5b, as 20e0008c54bbbd7d.
+-- From d64a6d5617382004, as 10cca661c0a816af.
 use Prim.Native.Nat
+use Rattle.answers.proofs.Checked
+use Rattle.answers.proofs.Checked.Laws
+use Rattle.answers.proofs.Checking
+use Rattle.answers.proofs.Checking.Laws as Laws'
+use Rattle.answers.proofs.Refusal
+use Rattle.answers.proofs.Refusal.Laws as Laws''
 use Rattle.blocks.proofs.Block
-use Rattle.blocks.proofs.Block.Laws
+use Rattle.blocks.proofs.Block.Laws as Laws'3
 use Rattle.blocks.proofs.Loaded
-use Rattle.blocks.proofs.Loaded.Laws as Laws'
-use Rattle.checker.proofs.Checked
-use Rattle.checker.proofs.Checked.Laws as Laws''
-use Rattle.checker.proofs.Checking
-use Rattle.checker.proofs.Checking.Laws as Laws'3
-use Rattle.checker.proofs.Refusal
-use Rattle.checker.proofs.Refusal.Laws as Laws'4
+use Rattle.blocks.proofs.Loaded.Laws as Laws'4
+use Rattle.cursors.proofs.Cursor
+use Rattle.cursors.proofs.Cursor.Laws as Laws'5
+use Rattle.cursors.proofs.Pair
+use Rattle.cursors.proofs.Pair.Laws as Laws'6
+use Rattle.cursors.proofs.Run
+use Rattle.cursors.proofs.Run.Laws as Laws'7
 use Rattle.elements.proofs.Cause
-use Rattle.elements.proofs.Cause.Laws as Laws'5
+use Rattle.elements.proofs.Cause.Laws as Laws'8
 use Rattle.elements.proofs.Context
-use Rattle.elements.proofs.Context.Laws as Laws'6
+use Rattle.elements.proofs.Context.Laws as Laws'9
 use Rattle.elements.proofs.Ref
-use Rattle.elements.proofs.Ref.Laws as Laws'7
+use Rattle.elements.proofs.Ref.Laws as Laws'10
 use Rattle.node_records.proofs.Tables.NodeRecord as NodeRecordT
-use Rattle.reader.proofs.Cursor
-use Rattle.reader.proofs.Cursor.Laws as Laws'8
-use Rattle.reader.proofs.Pair
-use Rattle.reader.proofs.Pair.Laws as Laws'9
 use Rattle.reader.proofs.Reached
-use Rattle.reader.proofs.Reached.Laws as Laws'10
-use Rattle.reader.proofs.Run
-use Rattle.reader.proofs.Run.Laws as Laws'11
+use Rattle.reader.proofs.Reached.Laws as Laws'11
 use borrow.Author.Called
 use borrow.Author.Tests
 use borrow.Enum.Make
@@ -111,8 +111,8 @@ y2 = Syntax.tyArray y1 32
 abbrev y3 : Syntax.Ty
 y3 = Syntax.tyStruct (101 ∷ 108 ∷ 101 ∷ 109 ∷ 101 ∷ 110 ∷ 116 ∷ 115 ∷ 58 ∷ 58 ∷ 82 ∷ 101 ∷ 102 ∷ []) (Syntax.tcons y0 (Syntax.tcons y0 Syntax.tnil))
 abbrev y4 : Syntax.Ty
-y4 = Syntax.tyStruct (114 ∷ 101 ∷ 97 ∷ 100 ∷ 101 ∷ 114 ∷ 58 ∷ 58 ∷ 80 ∷ 97 ∷ 105 ∷ 114 ∷ []) (Syntax.tcons Syntax.tyBool (Syntax.tcons y3 (Syntax.tcons y3
-    Syntax.tnil)))
+y4 = Syntax.tyStruct (99 ∷ 117 ∷ 114 ∷ 115 ∷ 111 ∷ 114 ∷ 115 ∷ 58 ∷ 58 ∷ 80 ∷ 97 ∷ 105 ∷ 114 ∷ []) (Syntax.tcons Syntax.tyBool (Syntax.tcons y3 (Syntax.tcons
+    y3 Syntax.tnil)))
 abbrev y5 : Syntax.Ty
 y5 = Syntax.tyInt Syntax.w64
 abbrev y6 : Syntax.Ty
@@ -120,8 +120,8 @@ y6 = Syntax.tyEnum (101 ∷ 108 ∷ 101 ∷ 109 ∷ 101 ∷ 110 ∷ 116 ∷ 115 
     (Syntax.ttcons Syntax.tnil (Syntax.ttcons Syntax.tnil (Syntax.ttcons Syntax.tnil (Syntax.ttcons Syntax.tnil (Syntax.ttcons Syntax.tnil (Syntax.ttcons
     Syntax.tnil Syntax.ttnil)))))))
 abbrev y7 : Syntax.Ty
-y7 = Syntax.tyStruct (114 ∷ 101 ∷ 97 ∷ 100 ∷ 101 ∷ 114 ∷ 58 ∷ 58 ∷ 82 ∷ 117 ∷ 110 ∷ []) (Syntax.tcons y3 (Syntax.tcons y4 (Syntax.tcons y5 (Syntax.tcons y5
-    (Syntax.tcons y0 (Syntax.tcons y6 (Syntax.tcons Syntax.tyBool Syntax.tnil)))))))
+y7 = Syntax.tyStruct (99 ∷ 117 ∷ 114 ∷ 115 ∷ 111 ∷ 114 ∷ 115 ∷ 58 ∷ 58 ∷ 82 ∷ 117 ∷ 110 ∷ []) (Syntax.tcons y3 (Syntax.tcons y4 (Syntax.tcons y5 (Syntax.tcons
+    y5 (Syntax.tcons y0 (Syntax.tcons y6 (Syntax.tcons Syntax.tyBool Syntax.tnil)))))))
 abbrev y8 : Syntax.Ty
 y8 = Syntax.tyEnum (101 ∷ 108 ∷ 101 ∷ 109 ∷ 101 ∷ 110 ∷ 116 ∷ 115 ∷ 58 ∷ 58 ∷ 67 ∷ 97 ∷ 117 ∷ 115 ∷ 101 ∷ []) (Syntax.ttcons Syntax.tnil (Syntax.ttcons
     Syntax.tnil (Syntax.ttcons Syntax.tnil (Syntax.ttcons Syntax.tnil (Syntax.ttcons Syntax.tnil (Syntax.ttcons Syntax.tnil (Syntax.ttcons Syntax.tnil
@@ -131,7 +131,8 @@ abbrev y9 : Syntax.Ty
 y9 = Syntax.tyStruct (114 ∷ 101 ∷ 97 ∷ 100 ∷ 101 ∷ 114 ∷ 58 ∷ 58 ∷ 82 ∷ 101 ∷ 97 ∷ 99 ∷ 104 ∷ 101 ∷ 100 ∷ []) (Syntax.tcons y7 (Syntax.tcons y5 (Syntax.tcons
     y5 (Syntax.tcons y5 (Syntax.tcons Syntax.tyBool (Syntax.tcons Syntax.tyBool (Syntax.tcons y8 (Syntax.tcons y5 Syntax.tnil))))))))
 abbrev y10 : Syntax.Ty
-y10 = Syntax.tyStruct (114 ∷ 101 ∷ 97 ∷ 100 ∷ 101 ∷ 114 ∷ 58 ∷ 58 ∷ 67 ∷ 117 ∷ 114 ∷ 115 ∷ 111 ∷ 114 ∷ []) (Syntax.tcons y7 (Syntax.tcons y5 Syntax.tnil))
+y10 = Syntax.tyStruct (99 ∷ 117 ∷ 114 ∷ 115 ∷ 111 ∷ 114 ∷ 115 ∷ 58 ∷ 58 ∷ 67 ∷ 117 ∷ 114 ∷ 115 ∷ 111 ∷ 114 ∷ []) (Syntax.tcons y7 (Syntax.tcons y5
+    Syntax.tnil))
 abbrev y11 : Syntax.Ty
 y11 = Syntax.tyStruct (98 ∷ 108 ∷ 111 ∷ 99 ∷ 107 ∷ 115 ∷ 58 ∷ 58 ∷ 66 ∷ 108 ∷ 111 ∷ 99 ∷ 107 ∷ []) (Syntax.tcons y10 (Syntax.tcons y5 (Syntax.tcons y5
     (Syntax.tcons y0 (Syntax.tcons Syntax.tyBool (Syntax.tcons Syntax.tyBool Syntax.tnil))))))
@@ -148,13 +149,13 @@ y16 = Syntax.tyStruct (38 ∷ 91 ∷ 93 ∷ []) (Syntax.tcons y15 (Syntax.tcons 
 abbrev y17 : Syntax.Ty
 y17 = Syntax.tyRef Syntax.erased Syntax.imm y2
 abbrev y18 : Syntax.Ty
-y18 = Syntax.tyStruct (99 ∷ 104 ∷ 101 ∷ 99 ∷ 107 ∷ 101 ∷ 114 ∷ 58 ∷ 58 ∷ 82 ∷ 101 ∷ 102 ∷ 117 ∷ 115 ∷ 97 ∷ 108 ∷ []) (Syntax.tcons y8 (Syntax.tcons y0
+y18 = Syntax.tyStruct (97 ∷ 110 ∷ 115 ∷ 119 ∷ 101 ∷ 114 ∷ 115 ∷ 58 ∷ 58 ∷ 82 ∷ 101 ∷ 102 ∷ 117 ∷ 115 ∷ 97 ∷ 108 ∷ []) (Syntax.tcons y8 (Syntax.tcons y0
     (Syntax.tcons y5 Syntax.tnil)))
 abbrev y19 : Syntax.Ty
-y19 = Syntax.tyStruct (99 ∷ 104 ∷ 101 ∷ 99 ∷ 107 ∷ 101 ∷ 114 ∷ 58 ∷ 58 ∷ 67 ∷ 104 ∷ 101 ∷ 99 ∷ 107 ∷ 101 ∷ 100 ∷ []) (Syntax.tcons y0 (Syntax.tcons y5
+y19 = Syntax.tyStruct (97 ∷ 110 ∷ 115 ∷ 119 ∷ 101 ∷ 114 ∷ 115 ∷ 58 ∷ 58 ∷ 67 ∷ 104 ∷ 101 ∷ 99 ∷ 107 ∷ 101 ∷ 100 ∷ []) (Syntax.tcons y0 (Syntax.tcons y5
     (Syntax.tcons Syntax.tyBool Syntax.tnil)))
 abbrev y20 : Syntax.Ty
-y20 = Syntax.tyEnum (99 ∷ 104 ∷ 101 ∷ 99 ∷ 107 ∷ 101 ∷ 114 ∷ 58 ∷ 58 ∷ 67 ∷ 104 ∷ 101 ∷ 99 ∷ 107 ∷ 105 ∷ 110 ∷ 103 ∷ []) (Syntax.ttcons (Syntax.tcons y18
+y20 = Syntax.tyEnum (97 ∷ 110 ∷ 115 ∷ 119 ∷ 101 ∷ 114 ∷ 115 ∷ 58 ∷ 58 ∷ 67 ∷ 104 ∷ 101 ∷ 99 ∷ 107 ∷ 105 ∷ 110 ∷ 103 ∷ []) (Syntax.ttcons (Syntax.tcons y18
     Syntax.tnil) (Syntax.ttcons (Syntax.tcons y19 Syntax.tnil) Syntax.ttnil))
 abbrev y21 : Syntax.Ty
 y21 = Syntax.tyStruct (98 ∷ 108 ∷ 111 ∷ 99 ∷ 107 ∷ 115 ∷ 58 ∷ 58 ∷ 76 ∷ 111 ∷ 97 ∷ 100 ∷ 101 ∷ 100 ∷ []) (Syntax.tcons y20 (Syntax.tcons y11 (Syntax.tcons
@@ -253,82 +254,82 @@ e0b = (0, Rows'.whole (Declared'.row (Apart.apartT Loaded.the-type)))
 abbrev pub ps : List (Kinds.PK 2)
 ps = (Num.pNum Syntax.w32) ∷ (ShrSlice.pShrS (Referent.rtF (Referent.fInt Syntax.w8)) 0 tt) ∷ (MutSlice.pMutS NodeRecordT.row 1 tt) ∷ []
 abbrev pub r : Kinds.RK 2
-r = Value.rVal record { ty = Declared'.row Loaded.the-type; one = Path'.refl; val = Laws'13.val Loaded.the-type Laws'.the-laws; tells = Laws'13.tells
-    Loaded.the-type Laws'.the-laws; still = Laws'13.still Loaded.the-type Laws'.the-copy Exit.yes; row = Rows'.whole (Declared'.row Loaded.the-type); rd = λ
-    x. x; mk = λ x. x } λ M 𝓤 H A W. record { copies = Laws'13.copy Loaded.the-type Laws'.the-copy 𝓤 H A W; lawful = Laws'13.lawful Loaded.the-type
-    Laws'.the-laws 𝓤 H A W; makes = Laws'13.makes Loaded.the-type Laws'.the-plain 𝓤 H A; in-mem = Local.mem-whole 𝓤 H A W (Declared'.row Loaded.the-type);
+r = Value.rVal record { ty = Declared'.row Loaded.the-type; one = Path'.refl; val = Laws'13.val Loaded.the-type Laws'4.the-laws; tells = Laws'13.tells
+    Loaded.the-type Laws'4.the-laws; still = Laws'13.still Loaded.the-type Laws'4.the-copy Exit.yes; row = Rows'.whole (Declared'.row Loaded.the-type); rd = λ
+    x. x; mk = λ x. x } λ M 𝓤 H A W. record { copies = Laws'13.copy Loaded.the-type Laws'4.the-copy 𝓤 H A W; lawful = Laws'13.lawful Loaded.the-type
+    Laws'4.the-laws 𝓤 H A W; makes = Laws'13.makes Loaded.the-type Laws'4.the-plain 𝓤 H A; in-mem = Local.mem-whole 𝓤 H A W (Declared'.row Loaded.the-type);
     of-mem = Local.whole-mem 𝓤 H A W (Declared'.row Loaded.the-type) }
 abbrev pub xs : List Syntax.Ty
 xs = y2 ∷ y9 ∷ Syntax.tyBool ∷ y11 ∷ Syntax.tyBool ∷ y8 ∷ y5 ∷ y8 ∷ y1 ∷ y12 ∷ y13 ∷ y14 ∷ y10 ∷ y15 ∷ y16 ∷ y17 ∷ y20 ∷ []
 abbrev pub m : Nat.ℕ
 m = 4
 abbrev pub ps·0 : List (Kinds.PK 0)
-ps·0 = (Value.pVal record { ty = Declared.row Cause.the-type; one = Path'.refl; val = Laws'12.val Cause.the-type Laws'5.the-laws; tells = Laws'12.tells
-    Cause.the-type Laws'5.the-laws; still = Laws'12.still Cause.the-type Laws'5.the-copy Exit.yes; row = Rows'.whole (Declared.row Cause.the-type); rd = λ x.
-    x; mk = λ x. x } λ M 𝓤 H A W. record { copies = Laws'12.copy Cause.the-type Laws'5.the-copy 𝓤 H A W; lawful = Laws'12.lawful Cause.the-type
-    Laws'5.the-laws 𝓤 H A W tt; makes = Laws'12.makes Cause.the-type Laws'5.the-plain 𝓤 H A; in-mem = Local.mem-whole 𝓤 H A W (Declared.row Cause.the-type);
+ps·0 = (Value.pVal record { ty = Declared.row Cause.the-type; one = Path'.refl; val = Laws'12.val Cause.the-type Laws'8.the-laws; tells = Laws'12.tells
+    Cause.the-type Laws'8.the-laws; still = Laws'12.still Cause.the-type Laws'8.the-copy Exit.yes; row = Rows'.whole (Declared.row Cause.the-type); rd = λ x.
+    x; mk = λ x. x } λ M 𝓤 H A W. record { copies = Laws'12.copy Cause.the-type Laws'8.the-copy 𝓤 H A W; lawful = Laws'12.lawful Cause.the-type
+    Laws'8.the-laws 𝓤 H A W tt; makes = Laws'12.makes Cause.the-type Laws'8.the-plain 𝓤 H A; in-mem = Local.mem-whole 𝓤 H A W (Declared.row Cause.the-type);
     of-mem = Local.whole-mem 𝓤 H A W (Declared.row Cause.the-type) }) ∷ []
 abbrev pub r·0 : Kinds.RK 0
-r·0 = Value.rVal record { ty = Declared'.row Loaded.the-type; one = Path'.refl; val = Laws'13.val Loaded.the-type Laws'.the-laws; tells = Laws'13.tells
-    Loaded.the-type Laws'.the-laws; still = Laws'13.still Loaded.the-type Laws'.the-copy Exit.yes; row = Rows'.whole (Declared'.row Loaded.the-type); rd = λ
-    x. x; mk = λ x. x } λ M 𝓤 H A W. record { copies = Laws'13.copy Loaded.the-type Laws'.the-copy 𝓤 H A W; lawful = Laws'13.lawful Loaded.the-type
-    Laws'.the-laws 𝓤 H A W; makes = Laws'13.makes Loaded.the-type Laws'.the-plain 𝓤 H A; in-mem = Local.mem-whole 𝓤 H A W (Declared'.row Loaded.the-type);
+r·0 = Value.rVal record { ty = Declared'.row Loaded.the-type; one = Path'.refl; val = Laws'13.val Loaded.the-type Laws'4.the-laws; tells = Laws'13.tells
+    Loaded.the-type Laws'4.the-laws; still = Laws'13.still Loaded.the-type Laws'4.the-copy Exit.yes; row = Rows'.whole (Declared'.row Loaded.the-type); rd = λ
+    x. x; mk = λ x. x } λ M 𝓤 H A W. record { copies = Laws'13.copy Loaded.the-type Laws'4.the-copy 𝓤 H A W; lawful = Laws'13.lawful Loaded.the-type
+    Laws'4.the-laws 𝓤 H A W; makes = Laws'13.makes Loaded.the-type Laws'4.the-plain 𝓤 H A; in-mem = Local.mem-whole 𝓤 H A W (Declared'.row Loaded.the-type);
     of-mem = Local.whole-mem 𝓤 H A W (Declared'.row Loaded.the-type) }
 abbrev pub ps·1 : List (Kinds.PK 0)
 ps·1 = []
 abbrev pub r·1 : Kinds.RK 0
-r·1 = Value.rVal record { ty = Declared'.row Cursor.the-type; one = Path'.refl; val = Laws'13.val Cursor.the-type Laws'8.the-laws; tells = Laws'13.tells
-    Cursor.the-type Laws'8.the-laws; still = Laws'13.still Cursor.the-type Laws'8.the-copy Exit.yes; row = Rows'.whole (Declared'.row Cursor.the-type); rd = λ
-    x. x; mk = λ x. x } λ M 𝓤 H A W. record { copies = Laws'13.copy Cursor.the-type Laws'8.the-copy 𝓤 H A W; lawful = Laws'13.lawful Cursor.the-type
-    Laws'8.the-laws 𝓤 H A W; makes = Laws'13.makes Cursor.the-type Laws'8.the-plain 𝓤 H A; in-mem = Local.mem-whole 𝓤 H A W (Declared'.row Cursor.the-type);
+r·1 = Value.rVal record { ty = Declared'.row Cursor.the-type; one = Path'.refl; val = Laws'13.val Cursor.the-type Laws'5.the-laws; tells = Laws'13.tells
+    Cursor.the-type Laws'5.the-laws; still = Laws'13.still Cursor.the-type Laws'5.the-copy Exit.yes; row = Rows'.whole (Declared'.row Cursor.the-type); rd = λ
+    x. x; mk = λ x. x } λ M 𝓤 H A W. record { copies = Laws'13.copy Cursor.the-type Laws'5.the-copy 𝓤 H A W; lawful = Laws'13.lawful Cursor.the-type
+    Laws'5.the-laws 𝓤 H A W; makes = Laws'13.makes Cursor.the-type Laws'5.the-plain 𝓤 H A; in-mem = Local.mem-whole 𝓤 H A W (Declared'.row Cursor.the-type);
     of-mem = Local.whole-mem 𝓤 H A W (Declared'.row Cursor.the-type) }
 abbrev pub ps·2 : List (Kinds.PK 3)
 ps·2 = (Num.pNum Syntax.w32) ∷ (ShrSlice.pShrS (Referent.rtF (Referent.fInt Syntax.w8)) 0 tt) ∷ (MutSlice.pMutS NodeRecordT.row 1 tt) ∷ (Kinds.pMut
     (Array'.Array (Array'.Array (Referent.rtF (Referent.fInt Syntax.w32)) 4) 32) 2 tt) ∷ (Value.pVal record { ty = Declared'.row Cursor.the-type; one =
-    Path'.refl; val = Laws'13.val Cursor.the-type Laws'8.the-laws; tells = Laws'13.tells Cursor.the-type Laws'8.the-laws; still = Laws'13.still
-    Cursor.the-type Laws'8.the-copy Exit.yes; row = Rows'.whole (Declared'.row Cursor.the-type); rd = λ x. x; mk = λ x. x } λ M 𝓤 H A W. record { copies =
-    Laws'13.copy Cursor.the-type Laws'8.the-copy 𝓤 H A W; lawful = Laws'13.lawful Cursor.the-type Laws'8.the-laws 𝓤 H A W; makes = Laws'13.makes
-    Cursor.the-type Laws'8.the-plain 𝓤 H A; in-mem = Local.mem-whole 𝓤 H A W (Declared'.row Cursor.the-type); of-mem = Local.whole-mem 𝓤 H A W (Declared'.row
+    Path'.refl; val = Laws'13.val Cursor.the-type Laws'5.the-laws; tells = Laws'13.tells Cursor.the-type Laws'5.the-laws; still = Laws'13.still
+    Cursor.the-type Laws'5.the-copy Exit.yes; row = Rows'.whole (Declared'.row Cursor.the-type); rd = λ x. x; mk = λ x. x } λ M 𝓤 H A W. record { copies =
+    Laws'13.copy Cursor.the-type Laws'5.the-copy 𝓤 H A W; lawful = Laws'13.lawful Cursor.the-type Laws'5.the-laws 𝓤 H A W; makes = Laws'13.makes
+    Cursor.the-type Laws'5.the-plain 𝓤 H A; in-mem = Local.mem-whole 𝓤 H A W (Declared'.row Cursor.the-type); of-mem = Local.whole-mem 𝓤 H A W (Declared'.row
     Cursor.the-type) }) ∷ (Num.pNum Syntax.w64) ∷ []
 abbrev pub r·2 : Kinds.RK 3
-r·2 = Value.rVal record { ty = Declared'.row Reached.the-type; one = Path'.refl; val = Laws'13.val Reached.the-type Laws'10.the-laws; tells = Laws'13.tells
-    Reached.the-type Laws'10.the-laws; still = Laws'13.still Reached.the-type Laws'10.the-copy Exit.yes; row = Rows'.whole (Declared'.row Reached.the-type);
-    rd = λ x. x; mk = λ x. x } λ M 𝓤 H A W. record { copies = Laws'13.copy Reached.the-type Laws'10.the-copy 𝓤 H A W; lawful = Laws'13.lawful Reached.the-type
-    Laws'10.the-laws 𝓤 H A W; makes = Laws'13.makes Reached.the-type Laws'10.the-plain 𝓤 H A; in-mem = Local.mem-whole 𝓤 H A W (Declared'.row
+r·2 = Value.rVal record { ty = Declared'.row Reached.the-type; one = Path'.refl; val = Laws'13.val Reached.the-type Laws'11.the-laws; tells = Laws'13.tells
+    Reached.the-type Laws'11.the-laws; still = Laws'13.still Reached.the-type Laws'11.the-copy Exit.yes; row = Rows'.whole (Declared'.row Reached.the-type);
+    rd = λ x. x; mk = λ x. x } λ M 𝓤 H A W. record { copies = Laws'13.copy Reached.the-type Laws'11.the-copy 𝓤 H A W; lawful = Laws'13.lawful Reached.the-type
+    Laws'11.the-laws 𝓤 H A W; makes = Laws'13.makes Reached.the-type Laws'11.the-plain 𝓤 H A; in-mem = Local.mem-whole 𝓤 H A W (Declared'.row
     Reached.the-type); of-mem = Local.whole-mem 𝓤 H A W (Declared'.row Reached.the-type) }
 abbrev pub ps·3 : List (Kinds.PK 1)
 ps·3 = (ShrSlice.pShrS NodeRecordT.row 0 tt) ∷ (Value.pVal record { ty = Declared'.row Reached.the-type; one = Path'.refl; val = Laws'13.val Reached.the-type
-    Laws'10.the-laws; tells = Laws'13.tells Reached.the-type Laws'10.the-laws; still = Laws'13.still Reached.the-type Laws'10.the-copy Exit.yes; row =
-    Rows'.whole (Declared'.row Reached.the-type); rd = λ x. x; mk = λ x. x } λ M 𝓤 H A W. record { copies = Laws'13.copy Reached.the-type Laws'10.the-copy 𝓤 H
-    A W; lawful = Laws'13.lawful Reached.the-type Laws'10.the-laws 𝓤 H A W; makes = Laws'13.makes Reached.the-type Laws'10.the-plain 𝓤 H A; in-mem =
+    Laws'11.the-laws; tells = Laws'13.tells Reached.the-type Laws'11.the-laws; still = Laws'13.still Reached.the-type Laws'11.the-copy Exit.yes; row =
+    Rows'.whole (Declared'.row Reached.the-type); rd = λ x. x; mk = λ x. x } λ M 𝓤 H A W. record { copies = Laws'13.copy Reached.the-type Laws'11.the-copy 𝓤 H
+    A W; lawful = Laws'13.lawful Reached.the-type Laws'11.the-laws 𝓤 H A W; makes = Laws'13.makes Reached.the-type Laws'11.the-plain 𝓤 H A; in-mem =
     Local.mem-whole 𝓤 H A W (Declared'.row Reached.the-type); of-mem = Local.whole-mem 𝓤 H A W (Declared'.row Reached.the-type) }) ∷ []
 abbrev pub r·3 : Kinds.RK 1
 r·3 = Bool.rBool
 abbrev pub ps·4 : List (Kinds.PK 1)
-ps·4 = (Value.pVal record { ty = Declared'.row Reached.the-type; one = Path'.refl; val = Laws'13.val Reached.the-type Laws'10.the-laws; tells = Laws'13.tells
-    Reached.the-type Laws'10.the-laws; still = Laws'13.still Reached.the-type Laws'10.the-copy Exit.yes; row = Rows'.whole (Declared'.row Reached.the-type);
-    rd = λ x. x; mk = λ x. x } λ M 𝓤 H A W. record { copies = Laws'13.copy Reached.the-type Laws'10.the-copy 𝓤 H A W; lawful = Laws'13.lawful Reached.the-type
-    Laws'10.the-laws 𝓤 H A W; makes = Laws'13.makes Reached.the-type Laws'10.the-plain 𝓤 H A; in-mem = Local.mem-whole 𝓤 H A W (Declared'.row
+ps·4 = (Value.pVal record { ty = Declared'.row Reached.the-type; one = Path'.refl; val = Laws'13.val Reached.the-type Laws'11.the-laws; tells = Laws'13.tells
+    Reached.the-type Laws'11.the-laws; still = Laws'13.still Reached.the-type Laws'11.the-copy Exit.yes; row = Rows'.whole (Declared'.row Reached.the-type);
+    rd = λ x. x; mk = λ x. x } λ M 𝓤 H A W. record { copies = Laws'13.copy Reached.the-type Laws'11.the-copy 𝓤 H A W; lawful = Laws'13.lawful Reached.the-type
+    Laws'11.the-laws 𝓤 H A W; makes = Laws'13.makes Reached.the-type Laws'11.the-plain 𝓤 H A; in-mem = Local.mem-whole 𝓤 H A W (Declared'.row
     Reached.the-type); of-mem = Local.whole-mem 𝓤 H A W (Declared'.row Reached.the-type) }) ∷ (ShrRef.pShr (Array'.Array (Array'.Array (Referent.rtF
     (Referent.fInt Syntax.w32)) 4) 32) 0 tt) ∷ []
 abbrev pub r·4 : Kinds.RK 1
-r·4 = Value.rVal record { ty = Declared'.row Block.the-type; one = Path'.refl; val = Laws'13.val Block.the-type Laws.the-laws; tells = Laws'13.tells
-    Block.the-type Laws.the-laws; still = Laws'13.still Block.the-type Laws.the-copy Exit.yes; row = Rows'.whole (Declared'.row Block.the-type); rd = λ x. x;
-    mk = λ x. x } λ M 𝓤 H A W. record { copies = Laws'13.copy Block.the-type Laws.the-copy 𝓤 H A W; lawful = Laws'13.lawful Block.the-type Laws.the-laws 𝓤 H A
-    W; makes = Laws'13.makes Block.the-type Laws.the-plain 𝓤 H A; in-mem = Local.mem-whole 𝓤 H A W (Declared'.row Block.the-type); of-mem = Local.whole-mem 𝓤
-    H A W (Declared'.row Block.the-type) }
+r·4 = Value.rVal record { ty = Declared'.row Block.the-type; one = Path'.refl; val = Laws'13.val Block.the-type Laws'3.the-laws; tells = Laws'13.tells
+    Block.the-type Laws'3.the-laws; still = Laws'13.still Block.the-type Laws'3.the-copy Exit.yes; row = Rows'.whole (Declared'.row Block.the-type); rd = λ x.
+    x; mk = λ x. x } λ M 𝓤 H A W. record { copies = Laws'13.copy Block.the-type Laws'3.the-copy 𝓤 H A W; lawful = Laws'13.lawful Block.the-type
+    Laws'3.the-laws 𝓤 H A W; makes = Laws'13.makes Block.the-type Laws'3.the-plain 𝓤 H A; in-mem = Local.mem-whole 𝓤 H A W (Declared'.row Block.the-type);
+    of-mem = Local.whole-mem 𝓤 H A W (Declared'.row Block.the-type) }
 abbrev pub ps·5 : List (Kinds.PK 0)
-ps·5 = (Value.pVal record { ty = Declared'.row Reached.the-type; one = Path'.refl; val = Laws'13.val Reached.the-type Laws'10.the-laws; tells = Laws'13.tells
-    Reached.the-type Laws'10.the-laws; still = Laws'13.still Reached.the-type Laws'10.the-copy Exit.yes; row = Rows'.whole (Declared'.row Reached.the-type);
-    rd = λ x. x; mk = λ x. x } λ M 𝓤 H A W. record { copies = Laws'13.copy Reached.the-type Laws'10.the-copy 𝓤 H A W; lawful = Laws'13.lawful Reached.the-type
-    Laws'10.the-laws 𝓤 H A W; makes = Laws'13.makes Reached.the-type Laws'10.the-plain 𝓤 H A; in-mem = Local.mem-whole 𝓤 H A W (Declared'.row
+ps·5 = (Value.pVal record { ty = Declared'.row Reached.the-type; one = Path'.refl; val = Laws'13.val Reached.the-type Laws'11.the-laws; tells = Laws'13.tells
+    Reached.the-type Laws'11.the-laws; still = Laws'13.still Reached.the-type Laws'11.the-copy Exit.yes; row = Rows'.whole (Declared'.row Reached.the-type);
+    rd = λ x. x; mk = λ x. x } λ M 𝓤 H A W. record { copies = Laws'13.copy Reached.the-type Laws'11.the-copy 𝓤 H A W; lawful = Laws'13.lawful Reached.the-type
+    Laws'11.the-laws 𝓤 H A W; makes = Laws'13.makes Reached.the-type Laws'11.the-plain 𝓤 H A; in-mem = Local.mem-whole 𝓤 H A W (Declared'.row
     Reached.the-type); of-mem = Local.whole-mem 𝓤 H A W (Declared'.row Reached.the-type) }) ∷ []
 abbrev pub r·5 : Kinds.RK 0
-r·5 = Value.rVal record { ty = Declared.row Checking.the-type; one = Path'.refl; val = Laws'12.val Checking.the-type Laws'3.the-laws; tells = Laws'12.tells
-    Checking.the-type Laws'3.the-laws; still = Laws'12.still Checking.the-type Laws'3.the-copy Exit.yes; row = Rows'.whole (Declared.row Checking.the-type);
-    rd = λ x. x; mk = λ x. x } λ M 𝓤 H A W. record { copies = Laws'12.copy Checking.the-type Laws'3.the-copy 𝓤 H A W; lawful = Laws'12.lawful
-    Checking.the-type Laws'3.the-laws 𝓤 H A W tt; makes = Laws'12.makes Checking.the-type Laws'3.the-plain 𝓤 H A; in-mem = Local.mem-whole 𝓤 H A W
-    (Declared.row Checking.the-type); of-mem = Local.whole-mem 𝓤 H A W (Declared.row Checking.the-type) }
+r·5 = Value.rVal record { ty = Declared.row Checking.the-type; one = Path'.refl; val = Laws'12.val Checking.the-type Laws'.the-laws; tells = Laws'12.tells
+    Checking.the-type Laws'.the-laws; still = Laws'12.still Checking.the-type Laws'.the-copy Exit.yes; row = Rows'.whole (Declared.row Checking.the-type); rd
+    = λ x. x; mk = λ x. x } λ M 𝓤 H A W. record { copies = Laws'12.copy Checking.the-type Laws'.the-copy 𝓤 H A W; lawful = Laws'12.lawful Checking.the-type
+    Laws'.the-laws 𝓤 H A W tt; makes = Laws'12.makes Checking.the-type Laws'.the-plain 𝓤 H A; in-mem = Local.mem-whole 𝓤 H A W (Declared.row
+    Checking.the-type); of-mem = Local.whole-mem 𝓤 H A W (Declared.row Checking.the-type) }
 abbrev pub hs : List Syntax.Home
 hs = Syntax.valueLocal ∷ Syntax.valueLocal ∷ Syntax.valueLocal ∷ Syntax.valueLocal ∷ Syntax.memorySlot ∷ Syntax.valueLocal ∷ Syntax.valueLocal ∷
     Syntax.valueLocal ∷ Syntax.valueLocal ∷ Syntax.valueLocal ∷ Syntax.valueLocal ∷ Syntax.valueLocal ∷ Syntax.valueLocal ∷ Syntax.valueLocal ∷
@@ -378,7 +379,7 @@ b20 = Syntax.assign (Syntax.place 14 []) (Syntax.aggregate ((Syntax.copy (Syntax
 abbrev b21 : Syntax.Body
 b21 = Syntax.assign (Syntax.place 15 []) (Syntax.addrOf (Syntax.place 4 []))
 abbrev b22 : Syntax.Body
-b22 = Syntax.call "reader::first_cursor" [] (Syntax.place 16 [])
+b22 = Syntax.call "cursors::first_cursor" [] (Syntax.place 16 [])
 abbrev b23 : Syntax.Body
 b23 = Syntax.call "reader::read_on" ((Syntax.copy (Syntax.place 1 [])) ∷ (Syntax.copy (Syntax.place 2 [])) ∷ (Syntax.copy (Syntax.place 14 [])) ∷ (Syntax.copy
     (Syntax.place 15 [])) ∷ (Syntax.copy (Syntax.place 16 [])) ∷ (Syntax.intBig Syntax.w64 4294967296) ∷ []) (Syntax.place 5 [])
@@ -640,11 +641,11 @@ module _ (claims· : Claims) where
     module _ (M : Type 1) where
       abbrev pub Closed : Type 2
       Closed = (𝓤 : URA.URA M) (H : Wp.Heap 𝓤) (A : Atoms.Atoms 𝓤) (W : Kit.Given 𝓤 H A) (𝓣 : Wp.Tables 𝓤 H) (known0 : Plain.Known 𝓤 H A W 𝓣 0 ps·0 r·0
-          (claims· .0) (claims· .1) "blocks::not_loaded") (known1 : Plain.Known 𝓤 H A W 𝓣 0 ps·1 r·1 (claims· .2) (claims· .3) "reader::first_cursor") (known2
-          : Plain.Known 𝓤 H A W 𝓣 3 ps·2 r·2 (claims· .4) (claims· .5) "reader::read_on") (known3 : Plain.Known 𝓤 H A W 𝓣 1 ps·3 r·3 (claims· .6) (claims· .7)
-          "blocks::is_whole") (known4 : Plain.Known 𝓤 H A W 𝓣 1 ps·4 r·4 (claims· .8) (claims· .9) "blocks::block_of") (known5 : Plain.Known 𝓤 H A W 𝓣 0 ps·5
-          r·5 (claims· .10) (claims· .11) "checker::checked_at") → Statement.Triple 𝓤 (Wp.WpFn 𝓤 H (𝓣 .C) (𝓣 .Λ) (Function.fnOf 2 ps r xs m hs body))
-          (Function.plainOf 𝓤 H A 2 ps r Pre· Post·)
+          (claims· .0) (claims· .1) "blocks::not_loaded") (known1 : Plain.Known 𝓤 H A W 𝓣 0 ps·1 r·1 (claims· .2) (claims· .3) "cursors::first_cursor")
+          (known2 : Plain.Known 𝓤 H A W 𝓣 3 ps·2 r·2 (claims· .4) (claims· .5) "reader::read_on") (known3 : Plain.Known 𝓤 H A W 𝓣 1 ps·3 r·3 (claims· .6)
+          (claims· .7) "blocks::is_whole") (known4 : Plain.Known 𝓤 H A W 𝓣 1 ps·4 r·4 (claims· .8) (claims· .9) "blocks::block_of") (known5 : Plain.Known 𝓤 H
+          A W 𝓣 0 ps·5 r·5 (claims· .10) (claims· .11) "checker::checked_at") → Statement.Triple 𝓤 (Wp.WpFn 𝓤 H (𝓣 .C) (𝓣 .Λ) (Function.fnOf 2 ps r xs m hs
+          body)) (Function.plainOf 𝓤 H A 2 ps r Pre· Post·)
     module _ where
       abbrev at0 : Typed.TF (cx t2 t1) O1
       at0 = Typed.atRet O1
@@ -789,7 +790,7 @@ module _ (claims· : Claims) where
       module _ {M : Type 1} (𝓤 : URA.URA M) (H : Wp.Heap 𝓤) (A : Atoms.Atoms 𝓤) (W : Kit.Given 𝓤 H A) (𝓣 : Wp.Tables 𝓤 H) where
         abbrev Knowns : Type 1
         Knowns = Plain.Known 𝓤 H A W 𝓣 0 ps·0 r·0 (claims· .0) (claims· .1) "blocks::not_loaded" × Plain.Known 𝓤 H A W 𝓣 0 ps·1 r·1 (claims· .2) (claims· .3)
-            "reader::first_cursor" × Plain.Known 𝓤 H A W 𝓣 3 ps·2 r·2 (claims· .4) (claims· .5) "reader::read_on" × Plain.Known 𝓤 H A W 𝓣 1 ps·3 r·3 (claims·
+            "cursors::first_cursor" × Plain.Known 𝓤 H A W 𝓣 3 ps·2 r·2 (claims· .4) (claims· .5) "reader::read_on" × Plain.Known 𝓤 H A W 𝓣 1 ps·3 r·3 (claims·
             .6) (claims· .7) "blocks::is_whole" × Plain.Known 𝓤 H A W 𝓣 1 ps·4 r·4 (claims· .8) (claims· .9) "blocks::block_of" × Plain.Known 𝓤 H A W 𝓣 0 ps·5
             r·5 (claims· .10) (claims· .11) "checker::checked_at"
       module _ (κs : Lifetimes.Lfts 2) (qs : Lifetimes.Shares 2) where
@@ -863,14 +864,14 @@ module _ (claims· : Claims) where
           d3 = Typed.s-seq 𝓤 H A W 𝓣 E (gx t4 t1 l0) (gx t5 t1 l0) b2 b3 Δ1 (Typed.both s4) at2 (Plain.t-call-plain 𝓤 H A W 𝓣 0 ps·0 r·0 (claims· .0) (claims·
               .1) "blocks::not_loaded" (known .0) E (λ pos β. β) (gx t4 t1 l0) (record { pos = 9; st = []; d = 0; at = λ x. x }, tt) 0 [] (Call.sub-id 𝓤 H A W
               ((gx t4 t1 l0) .slots)) ((Yields.yields-copy 𝓤 H A W (λ ρ. Unit) (Declared.row Cause.the-type) Path'.refl (Copies.cEnum Cause.the-type
-              Laws'5.the-laws Laws'5.the-copy .copy 𝓤 H A W) (Rows'.whole (Declared.row Cause.the-type)) (λ x. x) (λ x. x) (λ ρ told. Local.mem-whole 𝓤 H A W
+              Laws'8.the-laws Laws'8.the-copy .copy 𝓤 H A W) (Rows'.whole (Declared.row Cause.the-type)) (λ x. x) (λ x. x) (λ ρ told. Local.mem-whole 𝓤 H A W
               (Declared.row Cause.the-type) ρ) λ ρ told. Local.whole-mem 𝓤 H A W (Declared.row Cause.the-type) ρ, Path'.refl), tt) (Reads'.room-gone 𝓤 H A
               y21) tt Path'.refl) d2
           d4 : Typed.Typed 𝓤 H A 𝓣 E (gx t0 t1 l0) b5 Δ1 at4
           d4 = Typed.s-seq 𝓤 H A W 𝓣 E (gx t0 t1 l0) (gx t4 t1 l0) b1 b4 Δ1 (Typed.pass (cx t0 t1) (cx t4 t1) s3) at3 (Make.t-enum-make-wt 𝓤 H A W E 𝓣
-              Cause.the-type Laws'5.the-laws Laws'5.the-plain tt (gx t0 t1 l0) 9 ((Scalar.oInt Syntax.w8 0) ∷ []) (λ m. Cause.enum .make (Logic.inl tt))
-              (Reads'.room-gone 𝓤 H A y8) (tt, tt) Path'.refl (λ m wa. Make.made-val Cause.the-type Laws'5.the-laws [] (Cause.enum .make (Logic.inl tt)) tt
-              (wa .1)) λ m wa. Make.made-is Cause.the-type Laws'5.the-laws [] (Cause.enum .make (Logic.inl tt)) tt (wa .1)) d3
+              Cause.the-type Laws'8.the-laws Laws'8.the-plain tt (gx t0 t1 l0) 9 ((Scalar.oInt Syntax.w8 0) ∷ []) (λ m. Cause.enum .make (Logic.inl tt))
+              (Reads'.room-gone 𝓤 H A y8) (tt, tt) Path'.refl (λ m wa. Make.made-val Cause.the-type Laws'8.the-laws [] (Cause.enum .make (Logic.inl tt)) tt
+              (wa .1)) λ m wa. Make.made-is Cause.the-type Laws'8.the-laws [] (Cause.enum .make (Logic.inl tt)) tt (wa .1)) d3
           d5 : Typed.Typed 𝓤 H A 𝓣 E (gx t3 t1 l0) b5 Δ1 at5
           d5 = Typed.g-pre 𝓤 H A W 𝓣 E (gx t3 t1 l0) (gx t0 t1 l0) b5 Δ1 (Typed.pass (cx t3 t1) (cx t0 t1) s2) at4 (Scalar.g-room 𝓤 H A W E (gx t3 t1 l0) 8
               Syntax.tyBool (Scalar.room-sc 𝓤 H A W Row.sBool)) d4
@@ -893,14 +894,14 @@ module _ (claims· : Claims) where
           d12 = Typed.s-seq 𝓤 H A W 𝓣 E (gx t9 t1 l0) (gx t10 t1 l0) b11 b12 Δ2 (Typed.both s13) at11 (Plain.t-call-plain 𝓤 H A W 𝓣 0 ps·0 r·0 (claims· .0)
               (claims· .1) "blocks::not_loaded" (known .0) E (λ pos β. β) (gx t9 t1 l0) (record { pos = 11; st = []; d = 0; at = λ x. x }, tt) 0 []
               (Call.sub-id 𝓤 H A W ((gx t9 t1 l0) .slots)) ((Yields.yields-copy 𝓤 H A W (λ ρ. Unit) (Declared.row Cause.the-type) Path'.refl (Copies.cEnum
-              Cause.the-type Laws'5.the-laws Laws'5.the-copy .copy 𝓤 H A W) (Rows'.whole (Declared.row Cause.the-type)) (λ x. x) (λ x. x) (λ ρ told.
+              Cause.the-type Laws'8.the-laws Laws'8.the-copy .copy 𝓤 H A W) (Rows'.whole (Declared.row Cause.the-type)) (λ x. x) (λ x. x) (λ ρ told.
               Local.mem-whole 𝓤 H A W (Declared.row Cause.the-type) ρ) λ ρ told. Local.whole-mem 𝓤 H A W (Declared.row Cause.the-type) ρ, Path'.refl), tt)
               (Reads'.room-gone 𝓤 H A y21) tt Path'.refl) d11
           d13 : Typed.Typed 𝓤 H A 𝓣 E (gx t0 t1 l0) b14 Δ2 at13
           d13 = Typed.s-seq 𝓤 H A W 𝓣 E (gx t0 t1 l0) (gx t9 t1 l0) b10 b13 Δ2 (Typed.pass (cx t0 t1) (cx t9 t1) s12) at12 (Make.t-enum-make-wt 𝓤 H A W E 𝓣
-              Cause.the-type Laws'5.the-laws Laws'5.the-plain tt (gx t0 t1 l0) 11 ((Scalar.oInt Syntax.w8 3) ∷ []) (λ m. Cause.enum .make (Logic.inr
-              (Logic.inr (Logic.inr (Logic.inl tt))))) (Reads'.room-gone 𝓤 H A y8) (tt, tt) Path'.refl (λ m wa. Make.made-val Cause.the-type Laws'5.the-laws
-              [] (Cause.enum .make (Logic.inr (Logic.inr (Logic.inr (Logic.inl tt))))) tt (wa .1)) λ m wa. Make.made-is Cause.the-type Laws'5.the-laws []
+              Cause.the-type Laws'8.the-laws Laws'8.the-plain tt (gx t0 t1 l0) 11 ((Scalar.oInt Syntax.w8 3) ∷ []) (λ m. Cause.enum .make (Logic.inr
+              (Logic.inr (Logic.inr (Logic.inl tt))))) (Reads'.room-gone 𝓤 H A y8) (tt, tt) Path'.refl (λ m wa. Make.made-val Cause.the-type Laws'8.the-laws
+              [] (Cause.enum .make (Logic.inr (Logic.inr (Logic.inr (Logic.inl tt))))) tt (wa .1)) λ m wa. Make.made-is Cause.the-type Laws'8.the-laws []
               (Cause.enum .make (Logic.inr (Logic.inr (Logic.inr (Logic.inl tt))))) tt (wa .1)) d12
           d14 : Typed.Typed 𝓤 H A 𝓣 E (gx t3 t1 l0) b14 Δ2 at14
           d14 = Typed.g-pre 𝓤 H A W 𝓣 E (gx t3 t1 l0) (gx t0 t1 l0) b14 Δ2 (Typed.pass (cx t3 t1) (cx t0 t1) s11) at13 (Scalar.g-room 𝓤 H A W E (gx t3 t1 l0)
@@ -935,19 +936,19 @@ module _ (claims· : Claims) where
               t35 t33 l0) 6 Syntax.tyBool (Scalar.room-sc 𝓤 H A W Row.sBool)) d23
           d25 : Typed.Typed 𝓤 H A 𝓣 E (gx t34 t33 l0) b32 Δ0 at25
           d25 = Typed.s-seq 𝓤 H A W 𝓣 E (gx t34 t33 l0) (gx t35 t33 l0) b30 b31 Δ0 (Typed.pass (cx t34 t33) (cx t35 t33) s54) at24 (Make'.t-struct-make 𝓤 H A
-              W E 𝓣 (Apart.apartT Loaded.the-type) Laws'.the-laws Laws'.the-plain (gx t34 t33 l0) 0 ((Scalar.oAt 20 y20 (Laws'12.val Checking.the-type
-              Laws'3.the-laws)) ∷ (Scalar.oAt 7 y11 (Laws'13.val Block.the-type Laws.the-laws)) ∷ (Scalar.oAt 6 Syntax.tyBool (Row.valS Row.sBool)) ∷ []) (λ
+              W E 𝓣 (Apart.apartT Loaded.the-type) Laws'4.the-laws Laws'4.the-plain (gx t34 t33 l0) 0 ((Scalar.oAt 20 y20 (Laws'12.val Checking.the-type
+              Laws'.the-laws)) ∷ (Scalar.oAt 7 y11 (Laws'13.val Block.the-type Laws'3.the-laws)) ∷ (Scalar.oAt 6 Syntax.tyBool (Row.valS Row.sBool)) ∷ []) (λ
               m. (m .1 .1 .1 .1 .1 .1 .1 .1 .1 .1 .1 .1 .1 .1 .1 .1 .1 .1 .1 .1 .0, (m .1 .1 .1 .1 .1 .1 .1 .0, (m .1 .1 .1 .1 .1 .1 .0, tt))))
-              (Reads'.room-gone 𝓤 H A y21) ((Whole.reads-enum 𝓤 H A W Checking.the-type Laws'3.the-laws, Path'.refl), ((Reads.reads-struct 𝓤 H A W
-              Block.the-type Laws.the-laws, Path'.refl), ((Scalar.reads-sc 𝓤 H A W Row.sBool, Path'.refl), tt))) Path'.refl (λ u. Path'.refl) λ m. Make'.is-wt
-              (Apart.apartT Loaded.the-type) Laws'.the-laws (Whole.enum-wt Checking.the-type Laws'3.the-laws ((Make'.struct-wt Refusal.the-type
-              Laws'4.the-laws (Whole.enum-wt Cause.the-type Laws'5.the-laws (tt, (tt, (tt, (tt, (tt, (tt, (tt, (tt, (tt, (tt, (tt, (tt, (tt, tt))))))))))))),
-              (Make'.u32-wt, (Make'.u64-wt, tt))), tt), ((Make'.struct-wt Checked.the-type Laws''.the-laws (Make'.u32-wt, (Make'.u64-wt, (Make'.bool-wt,
-              tt))), tt), tt)), (Make'.struct-wt Block.the-type Laws.the-laws (Make'.struct-wt Cursor.the-type Laws'8.the-laws (Make'.struct-wt Run.the-type
-              Laws'11.the-laws (Make'.struct-wt Ref.the-type Laws'7.the-laws (Make'.u32-wt, (Make'.u32-wt, tt)), (Make'.struct-wt Pair.the-type
-              Laws'9.the-laws (Make'.bool-wt, (Make'.struct-wt Ref.the-type Laws'7.the-laws (Make'.u32-wt, (Make'.u32-wt, tt)), (Make'.struct-wt Ref.the-type
-              Laws'7.the-laws (Make'.u32-wt, (Make'.u32-wt, tt)), tt))), (Make'.u64-wt, (Make'.u64-wt, (Make'.u32-wt, (Whole.enum-wt Context.the-type
-              Laws'6.the-laws (tt, (tt, (tt, (tt, (tt, (tt, (tt, tt))))))), (Make'.bool-wt, tt))))))), (Make'.u64-wt, tt)), (Make'.u64-wt, (Make'.u64-wt,
+              (Reads'.room-gone 𝓤 H A y21) ((Whole.reads-enum 𝓤 H A W Checking.the-type Laws'.the-laws, Path'.refl), ((Reads.reads-struct 𝓤 H A W
+              Block.the-type Laws'3.the-laws, Path'.refl), ((Scalar.reads-sc 𝓤 H A W Row.sBool, Path'.refl), tt))) Path'.refl (λ u. Path'.refl) λ m.
+              Make'.is-wt (Apart.apartT Loaded.the-type) Laws'4.the-laws (Whole.enum-wt Checking.the-type Laws'.the-laws ((Make'.struct-wt Refusal.the-type
+              Laws''.the-laws (Whole.enum-wt Cause.the-type Laws'8.the-laws (tt, (tt, (tt, (tt, (tt, (tt, (tt, (tt, (tt, (tt, (tt, (tt, (tt, tt))))))))))))),
+              (Make'.u32-wt, (Make'.u64-wt, tt))), tt), ((Make'.struct-wt Checked.the-type Laws.the-laws (Make'.u32-wt, (Make'.u64-wt, (Make'.bool-wt, tt))),
+              tt), tt)), (Make'.struct-wt Block.the-type Laws'3.the-laws (Make'.struct-wt Cursor.the-type Laws'5.the-laws (Make'.struct-wt Run.the-type
+              Laws'7.the-laws (Make'.struct-wt Ref.the-type Laws'10.the-laws (Make'.u32-wt, (Make'.u32-wt, tt)), (Make'.struct-wt Pair.the-type
+              Laws'6.the-laws (Make'.bool-wt, (Make'.struct-wt Ref.the-type Laws'10.the-laws (Make'.u32-wt, (Make'.u32-wt, tt)), (Make'.struct-wt Ref.the-type
+              Laws'10.the-laws (Make'.u32-wt, (Make'.u32-wt, tt)), tt))), (Make'.u64-wt, (Make'.u64-wt, (Make'.u32-wt, (Whole.enum-wt Context.the-type
+              Laws'9.the-laws (tt, (tt, (tt, (tt, (tt, (tt, (tt, tt))))))), (Make'.bool-wt, tt))))))), (Make'.u64-wt, tt)), (Make'.u64-wt, (Make'.u64-wt,
               (Make'.u32-wt, (Make'.bool-wt, (Make'.bool-wt, tt)))))), (Make'.bool-wt, tt))) (m .1 .1 .1 .1 .1 .1 .1 .1 .1 .1 .1 .1 .1 .1 .1 .1 .1 .1 .1 .1
               .0, (m .1 .1 .1 .1 .1 .1 .1 .0, (m .1 .1 .1 .1 .1 .1 .0, tt)))) d24
           d26 : Typed.Typed 𝓤 H A 𝓣 E (gx t32 t33 l0) b32 Δ0 at26
@@ -957,7 +958,7 @@ module _ (claims· : Claims) where
           d27 = Typed.s-seq 𝓤 H A W 𝓣 E (gx t32 t1 l0) (gx t32 t33 l0) b29 b32 Δ0 (Typed.both s52) at26 (Plain.t-call-plain 𝓤 H A W 𝓣 0 ps·5 r·5 (claims· .10)
               (claims· .11) "checker::checked_at" (known .5) E (λ pos β. β) (gx t32 t1 l0) (record { pos = 5; st = []; d = 0; at = λ x. x }, tt) 20 []
               (Call.sub-id 𝓤 H A W ((gx t32 t1 l0) .slots)) ((Yields.yields-copy 𝓤 H A W (λ ρ. Unit) (Declared'.row Reached.the-type) Path'.refl
-              (Copies.cStruct Reached.the-type Laws'10.the-laws Laws'10.the-copy .copy 𝓤 H A W) (Rows'.whole (Declared'.row Reached.the-type)) (λ x. x) (λ x.
+              (Copies.cStruct Reached.the-type Laws'11.the-laws Laws'11.the-copy .copy 𝓤 H A W) (Rows'.whole (Declared'.row Reached.the-type)) (λ x. x) (λ x.
               x) (λ ρ told. Local.mem-whole 𝓤 H A W (Declared'.row Reached.the-type) ρ) λ ρ told. Local.whole-mem 𝓤 H A W (Declared'.row Reached.the-type) ρ,
               Path'.refl), tt) (Reads'.room-gone 𝓤 H A y20) tt Path'.refl) d26
           d28 : Typed.Typed 𝓤 H A 𝓣 E (gx t31 t1 l0) b33 Δ0 at28
@@ -983,7 +984,7 @@ module _ (claims· : Claims) where
           d33 = Typed.s-seq 𝓤 H A W 𝓣 E (gx t28 t29 l12) (gx t30 t29 l12) b28 b33 Δ0 (Typed.both s46) at32 (Plain.t-call-plain 𝓤 H A W 𝓣 1 ps·4 r·4 (claims·
               .8) (claims· .9) "blocks::block_of" (known .4) E (λ pos β. β) (gx t28 t29 l12) (record { pos = 5; st = []; d = 0; at = λ x. x }, (record { pos =
               19; ty = y17; ref = λ x. x }, tt)) 7 (5 ∷ []) (Call.sub-id 𝓤 H A W ((gx t28 t29 l12) .slots)) ((Yields.yields-copy 𝓤 H A W (λ ρ. Unit)
-              (Declared'.row Reached.the-type) Path'.refl (Copies.cStruct Reached.the-type Laws'10.the-laws Laws'10.the-copy .copy 𝓤 H A W) (Rows'.whole
+              (Declared'.row Reached.the-type) Path'.refl (Copies.cStruct Reached.the-type Laws'11.the-laws Laws'11.the-copy .copy 𝓤 H A W) (Rows'.whole
               (Declared'.row Reached.the-type)) (λ x. x) (λ x. x) (λ ρ told. Local.mem-whole 𝓤 H A W (Declared'.row Reached.the-type) ρ) λ ρ told.
               Local.whole-mem 𝓤 H A W (Declared'.row Reached.the-type) ρ, Path'.refl), (ShrRef.spares-sref 𝓤 H A W (Array'.Array (Array'.Array (Referent.rtF
               (Referent.fInt Syntax.w32)) 4) 32) y17 5, Reads'.reads-sref 𝓤 H A W (Array'.Array (Array'.Array (Referent.rtF (Referent.fInt Syntax.w32)) 4) 32)
@@ -1012,7 +1013,7 @@ module _ (claims· : Claims) where
               (claims· .7) "blocks::is_whole" (known .3) E (λ pos β. β) (gx g23 t25 l9) (record { pos = 18; ty = y15; ref = λ x. x }, (record { pos = 5; st =
               []; d = 0; at = λ x. x }, tt)) 6 (4 ∷ []) (Call.sub-id 𝓤 H A W ((gx g23 t25 l9) .slots)) (ShrSlice.spares-sslice 𝓤 H A W NodeRecordT.row y15 4,
               Shared.reads-sslice 𝓤 H A W NodeRecordT.row y15 4, Path'.refl, ((Yields.yields-copy 𝓤 H A W (λ ρ. Unit) (Declared'.row Reached.the-type)
-              Path'.refl (Copies.cStruct Reached.the-type Laws'10.the-laws Laws'10.the-copy .copy 𝓤 H A W) (Rows'.whole (Declared'.row Reached.the-type)) (λ
+              Path'.refl (Copies.cStruct Reached.the-type Laws'11.the-laws Laws'11.the-copy .copy 𝓤 H A W) (Rows'.whole (Declared'.row Reached.the-type)) (λ
               x. x) (λ x. x) (λ ρ told. Local.mem-whole 𝓤 H A W (Declared'.row Reached.the-type) ρ) λ ρ told. Local.whole-mem 𝓤 H A W (Declared'.row
               Reached.the-type) ρ, Path'.refl), tt)) (Reads'.room-gone 𝓤 H A Syntax.tyBool) (tt, tt) Path'.refl) d39
           d41 : Typed.Typed 𝓤 H A 𝓣 E (gx g23 t24 l9) b37 Δ0 at41
@@ -1059,13 +1060,13 @@ module _ (claims· : Claims) where
               (Referent.fInt Syntax.w8)) y23 0, Path'.refl, (Reads'.as-is 𝓤 H A (Mut.mslice NodeRecordT.row y12 2), Mut.reads-mslice 𝓤 H A W NodeRecordT.row
               y12 2, Path'.refl, (Reads'.as-is 𝓤 H A (Rows'.mref (Array'.Array (Array'.Array (Referent.rtF (Referent.fInt Syntax.w32)) 4) 32) y14 3),
               Reads'.reads-mref 𝓤 H A W (Array'.Array (Array'.Array (Referent.rtF (Referent.fInt Syntax.w32)) 4) 32) y14 3, Path'.refl, ((Yields.yields-copy 𝓤
-              H A W (λ ρ. Unit) (Declared'.row Cursor.the-type) Path'.refl (Copies.cStruct Cursor.the-type Laws'8.the-laws Laws'8.the-copy .copy 𝓤 H A W)
+              H A W (λ ρ. Unit) (Declared'.row Cursor.the-type) Path'.refl (Copies.cStruct Cursor.the-type Laws'5.the-laws Laws'5.the-copy .copy 𝓤 H A W)
               (Rows'.whole (Declared'.row Cursor.the-type)) (λ x. x) (λ x. x) (λ ρ told. Local.mem-whole 𝓤 H A W (Declared'.row Cursor.the-type) ρ) λ ρ told.
               Local.whole-mem 𝓤 H A W (Declared'.row Cursor.the-type) ρ, Path'.refl), (record { lower = record { fits = Dec'.lit< tt } }, tt))))))
               (Reads'.room-gone 𝓤 H A y9) (tt, (tt, (tt, tt))) Path'.refl) d50
           d52 : Typed.Typed 𝓤 H A 𝓣 E (gx g18 t1 l3) b40 Δ0 at52
           d52 = Typed.s-seq 𝓤 H A W 𝓣 E (gx g18 t1 l3) (gx g18 t19 l3) b22 b39 Δ0 (Typed.both s27) at51 (Plain.t-call-plain 𝓤 H A W 𝓣 0 ps·1 r·1 (claims· .2)
-              (claims· .3) "reader::first_cursor" (known .1) E (λ pos β. β) (gx g18 t1 l3) tt 16 [] (Call.sub-id 𝓤 H A W ((gx g18 t1 l3) .slots)) tt
+              (claims· .3) "cursors::first_cursor" (known .1) E (λ pos β. β) (gx g18 t1 l3) tt 16 [] (Call.sub-id 𝓤 H A W ((gx g18 t1 l3) .slots)) tt
               (Reads'.room-gone 𝓤 H A y10) tt Path'.refl) d51
           d53 : Typed.Typed 𝓤 H A 𝓣 E (gx g17 t1 l3) b41 Δ0 at53
           d53 = Typed.s-seq 𝓤 H A W 𝓣 E (gx g17 t1 l3) (gx g18 t1 l3) b21 b40 Δ0 (Typed.give s26) at52 (Local.t-sc-borrow 𝓤 H A W E 𝓣 (gx g17 t1 l3) 4 15 3
@@ -1503,7 +1504,7 @@ module _ (claims· : Claims) where
               fits = good .0 .1 } }; pre = pre }
         module _ {M : Type 1} (𝓤 : URA.URA M) (H : Wp.Heap 𝓤) (A : Atoms.Atoms 𝓤) (W : Kit.Given 𝓤 H A) (𝓣 : Wp.Tables 𝓤 H) (known0 : Plain.Known 𝓤 H A W 𝓣 0
             ps·0 r·0 (claims· .0) (claims· .1) "blocks::not_loaded") (known1 : Plain.Known 𝓤 H A W 𝓣 0 ps·1 r·1 (claims· .2) (claims· .3)
-            "reader::first_cursor") (known2 : Plain.Known 𝓤 H A W 𝓣 3 ps·2 r·2 (claims· .4) (claims· .5) "reader::read_on") (known3 : Plain.Known 𝓤 H A W 𝓣 1
+            "cursors::first_cursor") (known2 : Plain.Known 𝓤 H A W 𝓣 3 ps·2 r·2 (claims· .4) (claims· .5) "reader::read_on") (known3 : Plain.Known 𝓤 H A W 𝓣 1
             ps·3 r·3 (claims· .6) (claims· .7) "blocks::is_whole") (known4 : Plain.Known 𝓤 H A W 𝓣 1 ps·4 r·4 (claims· .8) (claims· .9) "blocks::block_of")
             (known5 : Plain.Known 𝓤 H A W 𝓣 0 ps·5 r·5 (claims· .10) (claims· .11) "checker::checked_at") where
           pub spec : Statement.Triple 𝓤 (Wp.WpFn 𝓤 H (𝓣 .C) (𝓣 .Λ) (Function.fnOf 2 ps r xs m hs body)) (Function.plainOf 𝓤 H A 2 ps r Pre· Post·)

@@ -1,14 +1,14 @@
 -- Generated: the needs of load at its contract, and how its theorem closes.
--- From 71391a4dd03baf5b, as 02ed3f81d1f0bd0a.
+-- From d64a6d5617382004, as 25cf3c4c1ba3d94e.
 use borrow.Fn.Run
 use borrow.Fn.Written
 use contract.Running.{givenOf, tablesOf}
 use Rattle.blocks.proofs.not_loaded.Reads as not-loaded-reads
 use Rattle.blocks.proofs.not_loaded.Met as not-loaded-met
 use Rattle.blocks.proofs.not_loaded.Symbol as not-loaded-symbol
-use Rattle.reader.proofs.first_cursor.Reads as first-cursor-reads
-use Rattle.reader.proofs.first_cursor.Met as first-cursor-met
-use Rattle.reader.proofs.first_cursor.Symbol as first-cursor-symbol
+use Rattle.cursors.proofs.first_cursor.Reads as first-cursor-reads
+use Rattle.cursors.proofs.first_cursor.Met as first-cursor-met
+use Rattle.cursors.proofs.first_cursor.Symbol as first-cursor-symbol
 use Rattle.reader.proofs.Lifted.read_on as read-on-reads
 use Rattle.reader.proofs.read_on.Met as read-on-met
 use Rattle.reader.proofs.read_on.Symbol as read-on-symbol
@@ -73,7 +73,7 @@ module _ {M : Type 1} where
       Written.close 2 self.ps self.r self.Ghost self.requires self.ensures self.pre-read self.Pinned self.Owned self.post-read record { M = M; 𝓤 = 𝓤; H = H; 𝓜 = 𝓜; 𝓖 = 𝓖; 𝓡 = 𝓡 } code.env Key.name code.function (code.unfolded 𝓤 H 𝓜 𝓡)
       (λ κs a g. tt) (λ κs. self.owns κs record { M = M; 𝓤 = 𝓤; H = H; 𝓜 = 𝓜; 𝓖 = 𝓖; 𝓡 = 𝓡 }) (self.passes record { M = M; 𝓤 = 𝓤; H = H; 𝓜 = 𝓜; 𝓖 = 𝓖; 𝓡 = 𝓡 }) λ g. closed 𝓤 H (𝓖 .A) (givenOf 𝓤 H 𝓜 𝓖) (Run.Over 𝓤 H 𝓜 𝓖 𝓡 code.env)
       (not-loaded-reads.known record { M = M; 𝓤 = 𝓤; H = H; 𝓜 = 𝓜; 𝓖 = 𝓖; 𝓡 = 𝓡 } code.env not-loaded-symbol.name not-loaded-symbol.routine code.calls-blocks·not-loaded (not-loaded-met.met 𝓤 H 𝓜 𝓖 𝓡))
-      (first-cursor-reads.known record { M = M; 𝓤 = 𝓤; H = H; 𝓜 = 𝓜; 𝓖 = 𝓖; 𝓡 = 𝓡 } code.env first-cursor-symbol.name first-cursor-symbol.routine code.calls-reader·first-cursor (first-cursor-met.met 𝓤 H 𝓜 𝓖 𝓡))
+      (first-cursor-reads.known record { M = M; 𝓤 = 𝓤; H = H; 𝓜 = 𝓜; 𝓖 = 𝓖; 𝓡 = 𝓡 } code.env first-cursor-symbol.name first-cursor-symbol.routine code.calls-cursors·first-cursor (first-cursor-met.met 𝓤 H 𝓜 𝓖 𝓡))
       (read-on-reads.known record { M = M; 𝓤 = 𝓤; H = H; 𝓜 = 𝓜; 𝓖 = 𝓖; 𝓡 = 𝓡 } code.env read-on-symbol.name read-on-symbol.routine code.calls-reader·read-on (read-on-met.met 𝓤 H 𝓜 𝓖 𝓡))
       (is-whole-reads.known record { M = M; 𝓤 = 𝓤; H = H; 𝓜 = 𝓜; 𝓖 = 𝓖; 𝓡 = 𝓡 } code.env is-whole-symbol.name is-whole-symbol.routine code.calls-blocks·is-whole (is-whole-met.met 𝓤 H 𝓜 𝓖 𝓡))
       (block-of-reads.known record { M = M; 𝓤 = 𝓤; H = H; 𝓜 = 𝓜; 𝓖 = 𝓖; 𝓡 = 𝓡 } code.env block-of-symbol.name block-of-symbol.routine code.calls-blocks·block-of (block-of-met.met 𝓤 H 𝓜 𝓖 𝓡))

@@ -1,15 +1,15 @@
 -- Generated: the derivation of a body.
--- From 71391a4dd03baf5b, as 776715b6423805ad.
+-- From d64a6d5617382004, as 378b19c712f63259.
 use Prim.Native.Nat
 use Rattle.blocks.proofs.Block
 use Rattle.blocks.proofs.Block.Laws
+use Rattle.cursors.proofs.Cursor
+use Rattle.cursors.proofs.Cursor.Laws as Laws'
+use Rattle.cursors.proofs.Run
+use Rattle.cursors.proofs.Run.Laws as Laws''
 use Rattle.node_records.proofs.Tables.NodeRecord as NodeRecordT
-use Rattle.reader.proofs.Cursor
-use Rattle.reader.proofs.Cursor.Laws as Laws'
 use Rattle.reader.proofs.Reached
-use Rattle.reader.proofs.Reached.Laws as Laws''
-use Rattle.reader.proofs.Run
-use Rattle.reader.proofs.Run.Laws as Laws'3
+use Rattle.reader.proofs.Reached.Laws as Laws'3
 use borrow.Author.Called
 use borrow.Fn.Any
 use borrow.Fn.Call
@@ -77,8 +77,8 @@ y0 = Syntax.tyInt Syntax.w32
 abbrev y1 : Syntax.Ty
 y1 = Syntax.tyStruct (101 ∷ 108 ∷ 101 ∷ 109 ∷ 101 ∷ 110 ∷ 116 ∷ 115 ∷ 58 ∷ 58 ∷ 82 ∷ 101 ∷ 102 ∷ []) (Syntax.tcons y0 (Syntax.tcons y0 Syntax.tnil))
 abbrev y2 : Syntax.Ty
-y2 = Syntax.tyStruct (114 ∷ 101 ∷ 97 ∷ 100 ∷ 101 ∷ 114 ∷ 58 ∷ 58 ∷ 80 ∷ 97 ∷ 105 ∷ 114 ∷ []) (Syntax.tcons Syntax.tyBool (Syntax.tcons y1 (Syntax.tcons y1
-    Syntax.tnil)))
+y2 = Syntax.tyStruct (99 ∷ 117 ∷ 114 ∷ 115 ∷ 111 ∷ 114 ∷ 115 ∷ 58 ∷ 58 ∷ 80 ∷ 97 ∷ 105 ∷ 114 ∷ []) (Syntax.tcons Syntax.tyBool (Syntax.tcons y1 (Syntax.tcons
+    y1 Syntax.tnil)))
 abbrev y3 : Syntax.Ty
 y3 = Syntax.tyInt Syntax.w64
 abbrev y4 : Syntax.Ty
@@ -86,8 +86,8 @@ y4 = Syntax.tyEnum (101 ∷ 108 ∷ 101 ∷ 109 ∷ 101 ∷ 110 ∷ 116 ∷ 115 
     (Syntax.ttcons Syntax.tnil (Syntax.ttcons Syntax.tnil (Syntax.ttcons Syntax.tnil (Syntax.ttcons Syntax.tnil (Syntax.ttcons Syntax.tnil (Syntax.ttcons
     Syntax.tnil Syntax.ttnil)))))))
 abbrev y5 : Syntax.Ty
-y5 = Syntax.tyStruct (114 ∷ 101 ∷ 97 ∷ 100 ∷ 101 ∷ 114 ∷ 58 ∷ 58 ∷ 82 ∷ 117 ∷ 110 ∷ []) (Syntax.tcons y1 (Syntax.tcons y2 (Syntax.tcons y3 (Syntax.tcons y3
-    (Syntax.tcons y0 (Syntax.tcons y4 (Syntax.tcons Syntax.tyBool Syntax.tnil)))))))
+y5 = Syntax.tyStruct (99 ∷ 117 ∷ 114 ∷ 115 ∷ 111 ∷ 114 ∷ 115 ∷ 58 ∷ 58 ∷ 82 ∷ 117 ∷ 110 ∷ []) (Syntax.tcons y1 (Syntax.tcons y2 (Syntax.tcons y3 (Syntax.tcons
+    y3 (Syntax.tcons y0 (Syntax.tcons y4 (Syntax.tcons Syntax.tyBool Syntax.tnil)))))))
 abbrev y6 : Syntax.Ty
 y6 = Syntax.tyEnum (101 ∷ 108 ∷ 101 ∷ 109 ∷ 101 ∷ 110 ∷ 116 ∷ 115 ∷ 58 ∷ 58 ∷ 67 ∷ 97 ∷ 117 ∷ 115 ∷ 101 ∷ []) (Syntax.ttcons Syntax.tnil (Syntax.ttcons
     Syntax.tnil (Syntax.ttcons Syntax.tnil (Syntax.ttcons Syntax.tnil (Syntax.ttcons Syntax.tnil (Syntax.ttcons Syntax.tnil (Syntax.ttcons Syntax.tnil
@@ -109,7 +109,8 @@ y12 = Syntax.tyRef Syntax.erased Syntax.mut y11
 abbrev y13 : Syntax.Ty
 y13 = Syntax.tyRef Syntax.erased Syntax.imm y11
 abbrev y14 : Syntax.Ty
-y14 = Syntax.tyStruct (114 ∷ 101 ∷ 97 ∷ 100 ∷ 101 ∷ 114 ∷ 58 ∷ 58 ∷ 67 ∷ 117 ∷ 114 ∷ 115 ∷ 111 ∷ 114 ∷ []) (Syntax.tcons y5 (Syntax.tcons y3 Syntax.tnil))
+y14 = Syntax.tyStruct (99 ∷ 117 ∷ 114 ∷ 115 ∷ 111 ∷ 114 ∷ 115 ∷ 58 ∷ 58 ∷ 67 ∷ 117 ∷ 114 ∷ 115 ∷ 111 ∷ 114 ∷ []) (Syntax.tcons y5 (Syntax.tcons y3
+    Syntax.tnil))
 abbrev y15 : Syntax.Ty
 y15 = Syntax.tyStruct (98 ∷ 108 ∷ 111 ∷ 99 ∷ 107 ∷ 115 ∷ 58 ∷ 58 ∷ 66 ∷ 108 ∷ 111 ∷ 99 ∷ 107 ∷ []) (Syntax.tcons y14 (Syntax.tcons y3 (Syntax.tcons y3
     (Syntax.tcons y0 (Syntax.tcons Syntax.tyBool (Syntax.tcons Syntax.tyBool Syntax.tnil))))))
@@ -197,16 +198,16 @@ ps·0 = (Num.pNum Syntax.w32) ∷ (ShrSlice.pShrS (Referent.rtF (Referent.fInt S
     Laws'.the-plain 𝓤 H A; in-mem = Local.mem-whole 𝓤 H A W (Declared.row Cursor.the-type); of-mem = Local.whole-mem 𝓤 H A W (Declared.row Cursor.the-type) })
     ∷ (Num.pNum Syntax.w64) ∷ []
 abbrev pub r·0 : Kinds.RK 3
-r·0 = Value.rVal record { ty = Declared.row Reached.the-type; one = Path'.refl; val = Laws'4.val Reached.the-type Laws''.the-laws; tells = Laws'4.tells
-    Reached.the-type Laws''.the-laws; still = Laws'4.still Reached.the-type Laws''.the-copy Exit.yes; row = Rows.whole (Declared.row Reached.the-type); rd = λ
-    x. x; mk = λ x. x } λ M 𝓤 H A W. record { copies = Laws'4.copy Reached.the-type Laws''.the-copy 𝓤 H A W; lawful = Laws'4.lawful Reached.the-type
-    Laws''.the-laws 𝓤 H A W; makes = Laws'4.makes Reached.the-type Laws''.the-plain 𝓤 H A; in-mem = Local.mem-whole 𝓤 H A W (Declared.row Reached.the-type);
+r·0 = Value.rVal record { ty = Declared.row Reached.the-type; one = Path'.refl; val = Laws'4.val Reached.the-type Laws'3.the-laws; tells = Laws'4.tells
+    Reached.the-type Laws'3.the-laws; still = Laws'4.still Reached.the-type Laws'3.the-copy Exit.yes; row = Rows.whole (Declared.row Reached.the-type); rd = λ
+    x. x; mk = λ x. x } λ M 𝓤 H A W. record { copies = Laws'4.copy Reached.the-type Laws'3.the-copy 𝓤 H A W; lawful = Laws'4.lawful Reached.the-type
+    Laws'3.the-laws 𝓤 H A W; makes = Laws'4.makes Reached.the-type Laws'3.the-plain 𝓤 H A; in-mem = Local.mem-whole 𝓤 H A W (Declared.row Reached.the-type);
     of-mem = Local.whole-mem 𝓤 H A W (Declared.row Reached.the-type) }
 abbrev pub ps·1 : List (Kinds.PK 1)
-ps·1 = (Value.pVal record { ty = Declared.row Reached.the-type; one = Path'.refl; val = Laws'4.val Reached.the-type Laws''.the-laws; tells = Laws'4.tells
-    Reached.the-type Laws''.the-laws; still = Laws'4.still Reached.the-type Laws''.the-copy Exit.yes; row = Rows.whole (Declared.row Reached.the-type); rd = λ
-    x. x; mk = λ x. x } λ M 𝓤 H A W. record { copies = Laws'4.copy Reached.the-type Laws''.the-copy 𝓤 H A W; lawful = Laws'4.lawful Reached.the-type
-    Laws''.the-laws 𝓤 H A W; makes = Laws'4.makes Reached.the-type Laws''.the-plain 𝓤 H A; in-mem = Local.mem-whole 𝓤 H A W (Declared.row Reached.the-type);
+ps·1 = (Value.pVal record { ty = Declared.row Reached.the-type; one = Path'.refl; val = Laws'4.val Reached.the-type Laws'3.the-laws; tells = Laws'4.tells
+    Reached.the-type Laws'3.the-laws; still = Laws'4.still Reached.the-type Laws'3.the-copy Exit.yes; row = Rows.whole (Declared.row Reached.the-type); rd = λ
+    x. x; mk = λ x. x } λ M 𝓤 H A W. record { copies = Laws'4.copy Reached.the-type Laws'3.the-copy 𝓤 H A W; lawful = Laws'4.lawful Reached.the-type
+    Laws'3.the-laws 𝓤 H A W; makes = Laws'4.makes Reached.the-type Laws'3.the-plain 𝓤 H A; in-mem = Local.mem-whole 𝓤 H A W (Declared.row Reached.the-type);
     of-mem = Local.whole-mem 𝓤 H A W (Declared.row Reached.the-type) }) ∷ (ShrRef.pShr (Array.Array (Array.Array (Referent.rtF (Referent.fInt Syntax.w32)) 4)
     32) 0 tt) ∷ []
 abbrev pub r·1 : Kinds.RK 1
@@ -576,7 +577,7 @@ module _ (claims· : Claims) where
           d7 = Typed.s-seq 𝓤 H A W 𝓣 E G19 G20 b6 b7 Δ0 (Typed.both (s18 bs)) (at6 bs) (Plain.t-call-plain 𝓤 H A W 𝓣 1 ps·1 r·1 (claims· .2) (claims· .3)
               "blocks::block_of" (known .1) E (λ pos β. β) G19 (record { pos = 7; st = []; d = 0; at = λ x. x }, (record { pos = 11; ty = y13; ref = λ x. x },
               tt)) 0 (5 ∷ []) (Call.sub-id 𝓤 H A W (G19 .slots)) ((Yields.yields-copy 𝓤 H A W (λ ρ. Unit) (Declared.row Reached.the-type) Path'.refl
-              (Copies.cStruct Reached.the-type Laws''.the-laws Laws''.the-copy .copy 𝓤 H A W) (Rows.whole (Declared.row Reached.the-type)) (λ x. x) (λ x. x)
+              (Copies.cStruct Reached.the-type Laws'3.the-laws Laws'3.the-copy .copy 𝓤 H A W) (Rows.whole (Declared.row Reached.the-type)) (λ x. x) (λ x. x)
               (λ ρ told. Local.mem-whole 𝓤 H A W (Declared.row Reached.the-type) ρ) λ ρ told. Local.whole-mem 𝓤 H A W (Declared.row Reached.the-type) ρ,
               Path'.refl), (ShrRef.spares-sref 𝓤 H A W (Array.Array (Array.Array (Referent.rtF (Referent.fInt Syntax.w32)) 4) 32) y13 5, Reads'.reads-sref 𝓤 H
               A W (Array.Array (Array.Array (Referent.rtF (Referent.fInt Syntax.w32)) 4) 32) y13 5, Path'.refl, tt)) (Reads'.room-gone 𝓤 H A y15) (tt, tt)
@@ -622,7 +623,7 @@ module _ (claims· : Claims) where
               4), Reads'.reads-mref 𝓤 H A W (Array.Array (Array.Array (Referent.rtF (Referent.fInt Syntax.w32)) 4) 32) y12 4, Path'.refl, ((Yields.yields-copy
               𝓤 H A W (λ ρ. Unit) (Declared.row Cursor.the-type) Path'.refl (Copies.cStruct Cursor.the-type Laws'.the-laws Laws'.the-copy .copy 𝓤 H A W)
               (Rows.whole (Declared.row Cursor.the-type)) (λ x. x) (λ x. x) (λ ρ told. Local.mem-whole 𝓤 H A W (Declared.row Cursor.the-type) ρ) λ ρ told.
-              Local.whole-mem 𝓤 H A W (Declared.row Cursor.the-type) ρ, Path'.refl), ((Reads.reads-field 𝓤 H A W Run.the-type Laws'3.the-laws 3 y3 40
+              Local.whole-mem 𝓤 H A W (Declared.row Cursor.the-type) ρ, Path'.refl), ((Reads.reads-field 𝓤 H A W Run.the-type Laws''.the-laws 3 y3 40
               Path'.refl, Path'.refl), tt)))))) (Reads'.room-gone 𝓤 H A y7) (tt, (tt, (tt, tt))) Path'.refl) d17
           d19 : Typed.Typed 𝓤 H A 𝓣 E G7 b11 Δ0 (at19 bs)
           d19 = Typed.s-seq 𝓤 H A W 𝓣 E G7 G8 b3 b10 Δ0 (Typed.give (s6 bs)) (at18 bs) (Reborrow.t-mref-relend 𝓤 H A W E 𝓣 G7 4 10 2 4 (Array.Array
@@ -645,7 +646,7 @@ module _ (claims· : Claims) where
               (tt, (tt, tt))))))))))))) d22
           d24 : Typed.Typed 𝓤 H A 𝓣 E G2 b14 Δ0 (at24 bs)
           d24 = Typed.s-seq 𝓤 H A W 𝓣 E G2 G3 b0 b13 Δ0 (Typed.both (s1 bs)) (at23 bs) (WayStmt.t-way-copy-out 𝓤 H A W E 𝓣 (Declared.row Run.the-type)
-              Path'.refl (Copies.cStruct Run.the-type Laws'3.the-laws Laws'3.the-copy .copy 𝓤 H A W) (λ ρ. Unit) G2 (Row.out 5 (G2 .locals)) (λ u. Row.drop 5
+              Path'.refl (Copies.cStruct Run.the-type Laws''.the-laws Laws''.the-copy .copy 𝓤 H A W) (λ ρ. Unit) G2 (Row.out 5 (G2 .locals)) (λ u. Row.drop 5
               (G2 .locals) u) (G2 .slots) 5 (λ t. (Syntax.field 0) ∷ t) y5 y5 6 (Rows.whole (Declared.row Run.the-type)) (λ x. x) (λ u. At.getAt
               (Cursor.the-type .parts) 0 (Cursor.struct .as-values (u .1 .1 .1 .1 .1 .0))) (λ u. (Row.hd 0 (Row.tl (Row.tl (Row.tl (Row.tl (Row.tl bs))))),
               Nat._+_ 0 0)) (λ T′. record { locals = Row.setRow 5 (5, Rows.whole (Declared.row Cursor.the-type)) T′; slots = G2 .slots }) (λ u T′ m′. Row.set

@@ -1,5 +1,5 @@
 -- Generated: the needs of next_block at its contract, and how its theorem closes.
--- From 71391a4dd03baf5b, as 0ac61af526c668b2.
+-- From d64a6d5617382004, as 0ac61af526c668b2.
 use borrow.Fn.Run
 use borrow.Fn.Written
 use contract.Running.{givenOf, tablesOf}

@@ -1,15 +1,15 @@
 -- Generated: the derivation of a body.
--- From 81b96f92f05e5f86, as 3cf0db9d37652b7e.
+-- From 42bafd3c7e323c4b, as 7ab05678197c927f.
 use Prim.Native.Nat
-use Rattle.checker.proofs.Checking
-use Rattle.checker.proofs.Checking.Laws
-use Rattle.checker.proofs.Refusal
-use Rattle.checker.proofs.Refusal.Laws as Laws'
+use Rattle.answers.proofs.Checking
+use Rattle.answers.proofs.Checking.Laws
+use Rattle.answers.proofs.Refusal
+use Rattle.answers.proofs.Refusal.Laws as Laws'
+use Rattle.cursors.proofs.Cursor
+use Rattle.cursors.proofs.Cursor.Laws as Laws''
 use Rattle.elements.proofs.Cause
-use Rattle.elements.proofs.Cause.Laws as Laws''
+use Rattle.elements.proofs.Cause.Laws as Laws'3
 use Rattle.node_records.proofs.Tables.NodeRecord as NodeRecordT
-use Rattle.reader.proofs.Cursor
-use Rattle.reader.proofs.Cursor.Laws as Laws'3
 use Rattle.reader.proofs.Reached
 use Rattle.reader.proofs.Reached.Laws as Laws'4
 use borrow.Author.Called
@@ -95,8 +95,8 @@ y2 = Syntax.tyArray y1 32
 abbrev y3 : Syntax.Ty
 y3 = Syntax.tyStruct (101 ∷ 108 ∷ 101 ∷ 109 ∷ 101 ∷ 110 ∷ 116 ∷ 115 ∷ 58 ∷ 58 ∷ 82 ∷ 101 ∷ 102 ∷ []) (Syntax.tcons y0 (Syntax.tcons y0 Syntax.tnil))
 abbrev y4 : Syntax.Ty
-y4 = Syntax.tyStruct (114 ∷ 101 ∷ 97 ∷ 100 ∷ 101 ∷ 114 ∷ 58 ∷ 58 ∷ 80 ∷ 97 ∷ 105 ∷ 114 ∷ []) (Syntax.tcons Syntax.tyBool (Syntax.tcons y3 (Syntax.tcons y3
-    Syntax.tnil)))
+y4 = Syntax.tyStruct (99 ∷ 117 ∷ 114 ∷ 115 ∷ 111 ∷ 114 ∷ 115 ∷ 58 ∷ 58 ∷ 80 ∷ 97 ∷ 105 ∷ 114 ∷ []) (Syntax.tcons Syntax.tyBool (Syntax.tcons y3 (Syntax.tcons
+    y3 Syntax.tnil)))
 abbrev y5 : Syntax.Ty
 y5 = Syntax.tyInt Syntax.w64
 abbrev y6 : Syntax.Ty
@@ -104,8 +104,8 @@ y6 = Syntax.tyEnum (101 ∷ 108 ∷ 101 ∷ 109 ∷ 101 ∷ 110 ∷ 116 ∷ 115 
     (Syntax.ttcons Syntax.tnil (Syntax.ttcons Syntax.tnil (Syntax.ttcons Syntax.tnil (Syntax.ttcons Syntax.tnil (Syntax.ttcons Syntax.tnil (Syntax.ttcons
     Syntax.tnil Syntax.ttnil)))))))
 abbrev y7 : Syntax.Ty
-y7 = Syntax.tyStruct (114 ∷ 101 ∷ 97 ∷ 100 ∷ 101 ∷ 114 ∷ 58 ∷ 58 ∷ 82 ∷ 117 ∷ 110 ∷ []) (Syntax.tcons y3 (Syntax.tcons y4 (Syntax.tcons y5 (Syntax.tcons y5
-    (Syntax.tcons y0 (Syntax.tcons y6 (Syntax.tcons Syntax.tyBool Syntax.tnil)))))))
+y7 = Syntax.tyStruct (99 ∷ 117 ∷ 114 ∷ 115 ∷ 111 ∷ 114 ∷ 115 ∷ 58 ∷ 58 ∷ 82 ∷ 117 ∷ 110 ∷ []) (Syntax.tcons y3 (Syntax.tcons y4 (Syntax.tcons y5 (Syntax.tcons
+    y5 (Syntax.tcons y0 (Syntax.tcons y6 (Syntax.tcons Syntax.tyBool Syntax.tnil)))))))
 abbrev y8 : Syntax.Ty
 y8 = Syntax.tyEnum (101 ∷ 108 ∷ 101 ∷ 109 ∷ 101 ∷ 110 ∷ 116 ∷ 115 ∷ 58 ∷ 58 ∷ 67 ∷ 97 ∷ 117 ∷ 115 ∷ 101 ∷ []) (Syntax.ttcons Syntax.tnil (Syntax.ttcons
     Syntax.tnil (Syntax.ttcons Syntax.tnil (Syntax.ttcons Syntax.tnil (Syntax.ttcons Syntax.tnil (Syntax.ttcons Syntax.tnil (Syntax.ttcons Syntax.tnil
@@ -115,7 +115,7 @@ abbrev y9 : Syntax.Ty
 y9 = Syntax.tyStruct (114 ∷ 101 ∷ 97 ∷ 100 ∷ 101 ∷ 114 ∷ 58 ∷ 58 ∷ 82 ∷ 101 ∷ 97 ∷ 99 ∷ 104 ∷ 101 ∷ 100 ∷ []) (Syntax.tcons y7 (Syntax.tcons y5 (Syntax.tcons
     y5 (Syntax.tcons y5 (Syntax.tcons Syntax.tyBool (Syntax.tcons Syntax.tyBool (Syntax.tcons y8 (Syntax.tcons y5 Syntax.tnil))))))))
 abbrev y10 : Syntax.Ty
-y10 = Syntax.tyStruct (99 ∷ 104 ∷ 101 ∷ 99 ∷ 107 ∷ 101 ∷ 114 ∷ 58 ∷ 58 ∷ 82 ∷ 101 ∷ 102 ∷ 117 ∷ 115 ∷ 97 ∷ 108 ∷ []) (Syntax.tcons y8 (Syntax.tcons y0
+y10 = Syntax.tyStruct (97 ∷ 110 ∷ 115 ∷ 119 ∷ 101 ∷ 114 ∷ 115 ∷ 58 ∷ 58 ∷ 82 ∷ 101 ∷ 102 ∷ 117 ∷ 115 ∷ 97 ∷ 108 ∷ []) (Syntax.tcons y8 (Syntax.tcons y0
     (Syntax.tcons y5 Syntax.tnil)))
 abbrev y11 : Syntax.Ty
 y11 = Syntax.tyRef Syntax.erased Syntax.mut NodeRecordT.behind
@@ -124,12 +124,13 @@ y12 = Syntax.tyStruct (38 ∷ 91 ∷ 93 ∷ []) (Syntax.tcons y11 (Syntax.tcons 
 abbrev y13 : Syntax.Ty
 y13 = Syntax.tyRef Syntax.erased Syntax.mut y2
 abbrev y14 : Syntax.Ty
-y14 = Syntax.tyStruct (114 ∷ 101 ∷ 97 ∷ 100 ∷ 101 ∷ 114 ∷ 58 ∷ 58 ∷ 67 ∷ 117 ∷ 114 ∷ 115 ∷ 111 ∷ 114 ∷ []) (Syntax.tcons y7 (Syntax.tcons y5 Syntax.tnil))
+y14 = Syntax.tyStruct (99 ∷ 117 ∷ 114 ∷ 115 ∷ 111 ∷ 114 ∷ 115 ∷ 58 ∷ 58 ∷ 67 ∷ 117 ∷ 114 ∷ 115 ∷ 111 ∷ 114 ∷ []) (Syntax.tcons y7 (Syntax.tcons y5
+    Syntax.tnil))
 abbrev y15 : Syntax.Ty
-y15 = Syntax.tyStruct (99 ∷ 104 ∷ 101 ∷ 99 ∷ 107 ∷ 101 ∷ 114 ∷ 58 ∷ 58 ∷ 67 ∷ 104 ∷ 101 ∷ 99 ∷ 107 ∷ 101 ∷ 100 ∷ []) (Syntax.tcons y0 (Syntax.tcons y5
+y15 = Syntax.tyStruct (97 ∷ 110 ∷ 115 ∷ 119 ∷ 101 ∷ 114 ∷ 115 ∷ 58 ∷ 58 ∷ 67 ∷ 104 ∷ 101 ∷ 99 ∷ 107 ∷ 101 ∷ 100 ∷ []) (Syntax.tcons y0 (Syntax.tcons y5
     (Syntax.tcons Syntax.tyBool Syntax.tnil)))
 abbrev y16 : Syntax.Ty
-y16 = Syntax.tyEnum (99 ∷ 104 ∷ 101 ∷ 99 ∷ 107 ∷ 101 ∷ 114 ∷ 58 ∷ 58 ∷ 67 ∷ 104 ∷ 101 ∷ 99 ∷ 107 ∷ 105 ∷ 110 ∷ 103 ∷ []) (Syntax.ttcons (Syntax.tcons y10
+y16 = Syntax.tyEnum (97 ∷ 110 ∷ 115 ∷ 119 ∷ 101 ∷ 114 ∷ 115 ∷ 58 ∷ 58 ∷ 67 ∷ 104 ∷ 101 ∷ 99 ∷ 107 ∷ 105 ∷ 110 ∷ 103 ∷ []) (Syntax.ttcons (Syntax.tcons y10
     Syntax.tnil) (Syntax.ttcons (Syntax.tcons y15 Syntax.tnil) Syntax.ttnil))
 abbrev y17 : Syntax.Ty
 y17 = Syntax.tyInt Syntax.w8
@@ -232,10 +233,10 @@ xs = y2 ∷ y9 ∷ y5 ∷ Syntax.tyBool ∷ y10 ∷ y8 ∷ y5 ∷ y10 ∷ y8 ∷
 abbrev pub m : Nat.ℕ
 m = 3
 abbrev pub ps·0 : List (Kinds.PK 0)
-ps·0 = (Value.pVal record { ty = Declared.row Cause.the-type; one = Path'.refl; val = Laws'5.val Cause.the-type Laws''.the-laws; tells = Laws'5.tells
-    Cause.the-type Laws''.the-laws; still = Laws'5.still Cause.the-type Laws''.the-copy Exit.yes; row = Rows'.whole (Declared.row Cause.the-type); rd = λ x.
-    x; mk = λ x. x } λ M 𝓤 H A W. record { copies = Laws'5.copy Cause.the-type Laws''.the-copy 𝓤 H A W; lawful = Laws'5.lawful Cause.the-type Laws''.the-laws
-    𝓤 H A W tt; makes = Laws'5.makes Cause.the-type Laws''.the-plain 𝓤 H A; in-mem = Local.mem-whole 𝓤 H A W (Declared.row Cause.the-type); of-mem =
+ps·0 = (Value.pVal record { ty = Declared.row Cause.the-type; one = Path'.refl; val = Laws'5.val Cause.the-type Laws'3.the-laws; tells = Laws'5.tells
+    Cause.the-type Laws'3.the-laws; still = Laws'5.still Cause.the-type Laws'3.the-copy Exit.yes; row = Rows'.whole (Declared.row Cause.the-type); rd = λ x.
+    x; mk = λ x. x } λ M 𝓤 H A W. record { copies = Laws'5.copy Cause.the-type Laws'3.the-copy 𝓤 H A W; lawful = Laws'5.lawful Cause.the-type Laws'3.the-laws
+    𝓤 H A W tt; makes = Laws'5.makes Cause.the-type Laws'3.the-plain 𝓤 H A; in-mem = Local.mem-whole 𝓤 H A W (Declared.row Cause.the-type); of-mem =
     Local.whole-mem 𝓤 H A W (Declared.row Cause.the-type) }) ∷ []
 abbrev pub r·0 : Kinds.RK 0
 r·0 = Value.rVal record { ty = Declared'.row Refusal.the-type; one = Path'.refl; val = Laws'6.val Refusal.the-type Laws'.the-laws; tells = Laws'6.tells
@@ -246,18 +247,18 @@ r·0 = Value.rVal record { ty = Declared'.row Refusal.the-type; one = Path'.refl
 abbrev pub ps·1 : List (Kinds.PK 0)
 ps·1 = []
 abbrev pub r·1 : Kinds.RK 0
-r·1 = Value.rVal record { ty = Declared'.row Cursor.the-type; one = Path'.refl; val = Laws'6.val Cursor.the-type Laws'3.the-laws; tells = Laws'6.tells
-    Cursor.the-type Laws'3.the-laws; still = Laws'6.still Cursor.the-type Laws'3.the-copy Exit.yes; row = Rows'.whole (Declared'.row Cursor.the-type); rd = λ
-    x. x; mk = λ x. x } λ M 𝓤 H A W. record { copies = Laws'6.copy Cursor.the-type Laws'3.the-copy 𝓤 H A W; lawful = Laws'6.lawful Cursor.the-type
-    Laws'3.the-laws 𝓤 H A W; makes = Laws'6.makes Cursor.the-type Laws'3.the-plain 𝓤 H A; in-mem = Local.mem-whole 𝓤 H A W (Declared'.row Cursor.the-type);
+r·1 = Value.rVal record { ty = Declared'.row Cursor.the-type; one = Path'.refl; val = Laws'6.val Cursor.the-type Laws''.the-laws; tells = Laws'6.tells
+    Cursor.the-type Laws''.the-laws; still = Laws'6.still Cursor.the-type Laws''.the-copy Exit.yes; row = Rows'.whole (Declared'.row Cursor.the-type); rd = λ
+    x. x; mk = λ x. x } λ M 𝓤 H A W. record { copies = Laws'6.copy Cursor.the-type Laws''.the-copy 𝓤 H A W; lawful = Laws'6.lawful Cursor.the-type
+    Laws''.the-laws 𝓤 H A W; makes = Laws'6.makes Cursor.the-type Laws''.the-plain 𝓤 H A; in-mem = Local.mem-whole 𝓤 H A W (Declared'.row Cursor.the-type);
     of-mem = Local.whole-mem 𝓤 H A W (Declared'.row Cursor.the-type) }
 abbrev pub ps·2 : List (Kinds.PK 3)
 ps·2 = (Num.pNum Syntax.w32) ∷ (ShrSlice.pShrS (Referent.rtF (Referent.fInt Syntax.w8)) 0 tt) ∷ (MutSlice.pMutS NodeRecordT.row 1 tt) ∷ (Kinds.pMut
     (Array'.Array (Array'.Array (Referent.rtF (Referent.fInt Syntax.w32)) 4) 32) 2 tt) ∷ (Value.pVal record { ty = Declared'.row Cursor.the-type; one =
-    Path'.refl; val = Laws'6.val Cursor.the-type Laws'3.the-laws; tells = Laws'6.tells Cursor.the-type Laws'3.the-laws; still = Laws'6.still Cursor.the-type
-    Laws'3.the-copy Exit.yes; row = Rows'.whole (Declared'.row Cursor.the-type); rd = λ x. x; mk = λ x. x } λ M 𝓤 H A W. record { copies = Laws'6.copy
-    Cursor.the-type Laws'3.the-copy 𝓤 H A W; lawful = Laws'6.lawful Cursor.the-type Laws'3.the-laws 𝓤 H A W; makes = Laws'6.makes Cursor.the-type
-    Laws'3.the-plain 𝓤 H A; in-mem = Local.mem-whole 𝓤 H A W (Declared'.row Cursor.the-type); of-mem = Local.whole-mem 𝓤 H A W (Declared'.row Cursor.the-type)
+    Path'.refl; val = Laws'6.val Cursor.the-type Laws''.the-laws; tells = Laws'6.tells Cursor.the-type Laws''.the-laws; still = Laws'6.still Cursor.the-type
+    Laws''.the-copy Exit.yes; row = Rows'.whole (Declared'.row Cursor.the-type); rd = λ x. x; mk = λ x. x } λ M 𝓤 H A W. record { copies = Laws'6.copy
+    Cursor.the-type Laws''.the-copy 𝓤 H A W; lawful = Laws'6.lawful Cursor.the-type Laws''.the-laws 𝓤 H A W; makes = Laws'6.makes Cursor.the-type
+    Laws''.the-plain 𝓤 H A; in-mem = Local.mem-whole 𝓤 H A W (Declared'.row Cursor.the-type); of-mem = Local.whole-mem 𝓤 H A W (Declared'.row Cursor.the-type)
     }) ∷ (Num.pNum Syntax.w64) ∷ []
 abbrev pub r·2 : Kinds.RK 3
 r·2 = Value.rVal record { ty = Declared'.row Reached.the-type; one = Path'.refl; val = Laws'6.val Reached.the-type Laws'4.the-laws; tells = Laws'6.tells
@@ -290,7 +291,7 @@ b0 = Syntax.assign (Syntax.place 7 []) (Syntax.op2 (Syntax.lt Syntax.unsigned) (
 abbrev b1 : Syntax.Body
 b1 = Syntax.assign (Syntax.place 9 []) (Syntax.aggregate ((Syntax.int Syntax.w8 0) ∷ []))
 abbrev b2 : Syntax.Body
-b2 = Syntax.call "checker::early" ((Syntax.copy (Syntax.place 9 [])) ∷ []) (Syntax.place 8 [])
+b2 = Syntax.call "answers::early" ((Syntax.copy (Syntax.place 9 [])) ∷ []) (Syntax.place 8 [])
 abbrev b3 : Syntax.Body
 b3 = Syntax.assign (Syntax.place 0 []) (Syntax.aggregate ((Syntax.int Syntax.w8 0) ∷ (Syntax.copy (Syntax.place 8 [])) ∷ []))
 abbrev b4 : Syntax.Body
@@ -312,7 +313,7 @@ b11 = Syntax.assign (Syntax.place 7 []) (Syntax.op2 (Syntax.lt Syntax.unsigned) 
 abbrev b12 : Syntax.Body
 b12 = Syntax.assign (Syntax.place 12 []) (Syntax.aggregate ((Syntax.int Syntax.w8 3) ∷ []))
 abbrev b13 : Syntax.Body
-b13 = Syntax.call "checker::early" ((Syntax.copy (Syntax.place 12 [])) ∷ []) (Syntax.place 11 [])
+b13 = Syntax.call "answers::early" ((Syntax.copy (Syntax.place 12 [])) ∷ []) (Syntax.place 11 [])
 abbrev b14 : Syntax.Body
 b14 = Syntax.assign (Syntax.place 0 []) (Syntax.aggregate ((Syntax.int Syntax.w8 0) ∷ (Syntax.copy (Syntax.place 11 [])) ∷ []))
 abbrev b15 : Syntax.Body
@@ -338,7 +339,7 @@ b24 = Syntax.assign (Syntax.place 15 []) (Syntax.aggregate ((Syntax.copy (Syntax
 abbrev b25 : Syntax.Body
 b25 = Syntax.assign (Syntax.place 16 []) (Syntax.addrOf (Syntax.place 4 []))
 abbrev b26 : Syntax.Body
-b26 = Syntax.call "reader::first_cursor" [] (Syntax.place 17 [])
+b26 = Syntax.call "cursors::first_cursor" [] (Syntax.place 17 [])
 abbrev b27 : Syntax.Body
 b27 = Syntax.call "reader::read_on" ((Syntax.copy (Syntax.place 1 [])) ∷ (Syntax.copy (Syntax.place 2 [])) ∷ (Syntax.copy (Syntax.place 15 [])) ∷ (Syntax.copy
     (Syntax.place 16 [])) ∷ (Syntax.copy (Syntax.place 17 [])) ∷ (Syntax.intBig Syntax.w64 4294967296) ∷ []) (Syntax.place 5 [])
@@ -583,7 +584,7 @@ module _ (claims· : Claims) where
     module _ (M : Type 1) where
       abbrev pub Closed : Type 2
       Closed = (𝓤 : URA.URA M) (H : Wp.Heap 𝓤) (A : Atoms.Atoms 𝓤) (W : Kit.Given 𝓤 H A) (𝓣 : Wp.Tables 𝓤 H) (known0 : Plain.Known 𝓤 H A W 𝓣 0 ps·0 r·0
-          (claims· .0) (claims· .1) "checker::early") (known1 : Plain.Known 𝓤 H A W 𝓣 0 ps·1 r·1 (claims· .2) (claims· .3) "reader::first_cursor") (known2 :
+          (claims· .0) (claims· .1) "answers::early") (known1 : Plain.Known 𝓤 H A W 𝓣 0 ps·1 r·1 (claims· .2) (claims· .3) "cursors::first_cursor") (known2 :
           Plain.Known 𝓤 H A W 𝓣 3 ps·2 r·2 (claims· .4) (claims· .5) "reader::read_on") (known3 : Plain.Known 𝓤 H A W 𝓣 1 ps·3 r·3 (claims· .6) (claims· .7)
           "record_tables::clear_records") (known4 : Plain.Known 𝓤 H A W 𝓣 0 ps·4 r·4 (claims· .8) (claims· .9) "checker::checked_at") → Statement.Triple 𝓤
           (Wp.WpFn 𝓤 H (𝓣 .C) (𝓣 .Λ) (Function.fnOf 2 ps r xs m hs body)) (Function.plainOf 𝓤 H A 2 ps r Pre· Post·)
@@ -718,8 +719,8 @@ module _ (claims· : Claims) where
       Φ = at62
       module _ {M : Type 1} (𝓤 : URA.URA M) (H : Wp.Heap 𝓤) (A : Atoms.Atoms 𝓤) (W : Kit.Given 𝓤 H A) (𝓣 : Wp.Tables 𝓤 H) where
         abbrev Knowns : Type 1
-        Knowns = Plain.Known 𝓤 H A W 𝓣 0 ps·0 r·0 (claims· .0) (claims· .1) "checker::early" × Plain.Known 𝓤 H A W 𝓣 0 ps·1 r·1 (claims· .2) (claims· .3)
-            "reader::first_cursor" × Plain.Known 𝓤 H A W 𝓣 3 ps·2 r·2 (claims· .4) (claims· .5) "reader::read_on" × Plain.Known 𝓤 H A W 𝓣 1 ps·3 r·3 (claims·
+        Knowns = Plain.Known 𝓤 H A W 𝓣 0 ps·0 r·0 (claims· .0) (claims· .1) "answers::early" × Plain.Known 𝓤 H A W 𝓣 0 ps·1 r·1 (claims· .2) (claims· .3)
+            "cursors::first_cursor" × Plain.Known 𝓤 H A W 𝓣 3 ps·2 r·2 (claims· .4) (claims· .5) "reader::read_on" × Plain.Known 𝓤 H A W 𝓣 1 ps·3 r·3 (claims·
             .6) (claims· .7) "record_tables::clear_records" × Plain.Known 𝓤 H A W 𝓣 0 ps·4 r·4 (claims· .8) (claims· .9) "checker::checked_at"
       module _ (κs : Lifetimes.Lfts 2) (qs : Lifetimes.Shares 2) where
         abbrev K0 : Row.Life
@@ -787,27 +788,27 @@ module _ (claims· : Claims) where
               ((Reads.reads-struct 𝓤 H A W Refusal.the-type Laws'.the-laws, Path'.refl), tt)) Path'.refl (λ m wa. Make.made-val Checking.the-type
               Laws.the-laws ((Laws'6.val Refusal.the-type Laws'.the-laws (m .1 .1 .1 .1 .1 .1 .1 .1 .0)) ∷ []) (Checking.enum .make (Logic.inl (m .1 .1 .1 .1
               .1 .1 .1 .1 .0, tt))) (Signed.made-wt Refusal.the-field Laws'.the-field-laws (Make'.struct-wt Refusal.the-type Laws'.the-laws (Whole.enum-wt
-              Cause.the-type Laws''.the-laws (tt, (tt, (tt, (tt, (tt, (tt, (tt, (tt, (tt, (tt, (tt, (tt, (tt, tt))))))))))))), (Make'.u32-wt, (Make'.u64-wt,
+              Cause.the-type Laws'3.the-laws (tt, (tt, (tt, (tt, (tt, (tt, (tt, (tt, (tt, (tt, (tt, (tt, (tt, tt))))))))))))), (Make'.u32-wt, (Make'.u64-wt,
               tt)))) (Refusal.the-type .to (m .1 .1 .1 .1 .1 .1 .1 .1 .0)), tt) (wa .1)) λ m wa. Make.made-is Checking.the-type Laws.the-laws ((Laws'6.val
               Refusal.the-type Laws'.the-laws (m .1 .1 .1 .1 .1 .1 .1 .1 .0)) ∷ []) (Checking.enum .make (Logic.inl (m .1 .1 .1 .1 .1 .1 .1 .1 .0, tt)))
               (Signed.made-wt Refusal.the-field Laws'.the-field-laws (Make'.struct-wt Refusal.the-type Laws'.the-laws (Whole.enum-wt Cause.the-type
-              Laws''.the-laws (tt, (tt, (tt, (tt, (tt, (tt, (tt, (tt, (tt, (tt, (tt, (tt, (tt, tt))))))))))))), (Make'.u32-wt, (Make'.u64-wt, tt))))
+              Laws'3.the-laws (tt, (tt, (tt, (tt, (tt, (tt, (tt, (tt, (tt, (tt, (tt, (tt, (tt, tt))))))))))))), (Make'.u32-wt, (Make'.u64-wt, tt))))
               (Refusal.the-type .to (m .1 .1 .1 .1 .1 .1 .1 .1 .0)), tt) (wa .1)) d2
           d4 : Typed.Typed 𝓤 H A 𝓣 E (gx t5 t1 l0) b5 Δ1 at4
           d4 = Typed.g-pre 𝓤 H A W 𝓣 E (gx t5 t1 l0) (gx t6 t1 l0) b5 Δ1 (Typed.pass (cx t5 t1) (cx t6 t1) s5) at3 (Scalar.g-room 𝓤 H A W E (gx t5 t1 l0) 9 y8
               (Local.room-whole 𝓤 H A W (Declared.row Cause.the-type) y8 Path'.refl)) d3
           d5 : Typed.Typed 𝓤 H A 𝓣 E (gx t4 t1 l0) b6 Δ1 at5
           d5 = Typed.s-seq 𝓤 H A W 𝓣 E (gx t4 t1 l0) (gx t5 t1 l0) b2 b5 Δ1 (Typed.both s4) at4 (Plain.t-call-plain 𝓤 H A W 𝓣 0 ps·0 r·0 (claims· .0) (claims·
-              .1) "checker::early" (known .0) E (λ pos β. β) (gx t4 t1 l0) (record { pos = 9; st = []; d = 0; at = λ x. x }, tt) 8 [] (Call.sub-id 𝓤 H A W
+              .1) "answers::early" (known .0) E (λ pos β. β) (gx t4 t1 l0) (record { pos = 9; st = []; d = 0; at = λ x. x }, tt) 8 [] (Call.sub-id 𝓤 H A W
               ((gx t4 t1 l0) .slots)) ((Yields.yields-copy 𝓤 H A W (λ ρ. Unit) (Declared.row Cause.the-type) Path'.refl (Copies.cEnum Cause.the-type
-              Laws''.the-laws Laws''.the-copy .copy 𝓤 H A W) (Rows'.whole (Declared.row Cause.the-type)) (λ x. x) (λ x. x) (λ ρ told. Local.mem-whole 𝓤 H A W
+              Laws'3.the-laws Laws'3.the-copy .copy 𝓤 H A W) (Rows'.whole (Declared.row Cause.the-type)) (λ x. x) (λ x. x) (λ ρ told. Local.mem-whole 𝓤 H A W
               (Declared.row Cause.the-type) ρ) λ ρ told. Local.whole-mem 𝓤 H A W (Declared.row Cause.the-type) ρ, Path'.refl), tt) (Reads'.room-gone 𝓤 H A
               y10) tt Path'.refl) d4
           d6 : Typed.Typed 𝓤 H A 𝓣 E (gx t0 t1 l0) b7 Δ1 at6
           d6 = Typed.s-seq 𝓤 H A W 𝓣 E (gx t0 t1 l0) (gx t4 t1 l0) b1 b6 Δ1 (Typed.pass (cx t0 t1) (cx t4 t1) s3) at5 (Make.t-enum-make-wt 𝓤 H A W E 𝓣
-              Cause.the-type Laws''.the-laws Laws''.the-plain tt (gx t0 t1 l0) 9 ((Scalar.oInt Syntax.w8 0) ∷ []) (λ m. Cause.enum .make (Logic.inl tt))
-              (Reads'.room-gone 𝓤 H A y8) (tt, tt) Path'.refl (λ m wa. Make.made-val Cause.the-type Laws''.the-laws [] (Cause.enum .make (Logic.inl tt)) tt
-              (wa .1)) λ m wa. Make.made-is Cause.the-type Laws''.the-laws [] (Cause.enum .make (Logic.inl tt)) tt (wa .1)) d5
+              Cause.the-type Laws'3.the-laws Laws'3.the-plain tt (gx t0 t1 l0) 9 ((Scalar.oInt Syntax.w8 0) ∷ []) (λ m. Cause.enum .make (Logic.inl tt))
+              (Reads'.room-gone 𝓤 H A y8) (tt, tt) Path'.refl (λ m wa. Make.made-val Cause.the-type Laws'3.the-laws [] (Cause.enum .make (Logic.inl tt)) tt
+              (wa .1)) λ m wa. Make.made-is Cause.the-type Laws'3.the-laws [] (Cause.enum .make (Logic.inl tt)) tt (wa .1)) d5
           d7 : Typed.Typed 𝓤 H A 𝓣 E (gx t3 t1 l0) b7 Δ1 at7
           d7 = Typed.g-pre 𝓤 H A W 𝓣 E (gx t3 t1 l0) (gx t0 t1 l0) b7 Δ1 (Typed.pass (cx t3 t1) (cx t0 t1) s2) at6 (Scalar.g-room 𝓤 H A W E (gx t3 t1 l0) 7
               Syntax.tyBool (Scalar.room-sc 𝓤 H A W Row.sBool)) d6
@@ -833,27 +834,27 @@ module _ (claims· : Claims) where
               A y16) (tt, ((Reads.reads-struct 𝓤 H A W Refusal.the-type Laws'.the-laws, Path'.refl), tt)) Path'.refl (λ m wa. Make.made-val Checking.the-type
               Laws.the-laws ((Laws'6.val Refusal.the-type Laws'.the-laws (m .1 .1 .1 .1 .1 .1 .1 .1 .1 .1 .1 .0)) ∷ []) (Checking.enum .make (Logic.inl (m .1
               .1 .1 .1 .1 .1 .1 .1 .1 .1 .1 .0, tt))) (Signed.made-wt Refusal.the-field Laws'.the-field-laws (Make'.struct-wt Refusal.the-type Laws'.the-laws
-              (Whole.enum-wt Cause.the-type Laws''.the-laws (tt, (tt, (tt, (tt, (tt, (tt, (tt, (tt, (tt, (tt, (tt, (tt, (tt, tt))))))))))))), (Make'.u32-wt,
+              (Whole.enum-wt Cause.the-type Laws'3.the-laws (tt, (tt, (tt, (tt, (tt, (tt, (tt, (tt, (tt, (tt, (tt, (tt, (tt, tt))))))))))))), (Make'.u32-wt,
               (Make'.u64-wt, tt)))) (Refusal.the-type .to (m .1 .1 .1 .1 .1 .1 .1 .1 .1 .1 .1 .0)), tt) (wa .1)) λ m wa. Make.made-is Checking.the-type
               Laws.the-laws ((Laws'6.val Refusal.the-type Laws'.the-laws (m .1 .1 .1 .1 .1 .1 .1 .1 .1 .1 .1 .0)) ∷ []) (Checking.enum .make (Logic.inl (m .1
               .1 .1 .1 .1 .1 .1 .1 .1 .1 .1 .0, tt))) (Signed.made-wt Refusal.the-field Laws'.the-field-laws (Make'.struct-wt Refusal.the-type Laws'.the-laws
-              (Whole.enum-wt Cause.the-type Laws''.the-laws (tt, (tt, (tt, (tt, (tt, (tt, (tt, (tt, (tt, (tt, (tt, (tt, (tt, tt))))))))))))), (Make'.u32-wt,
+              (Whole.enum-wt Cause.the-type Laws'3.the-laws (tt, (tt, (tt, (tt, (tt, (tt, (tt, (tt, (tt, (tt, (tt, (tt, (tt, tt))))))))))))), (Make'.u32-wt,
               (Make'.u64-wt, tt)))) (Refusal.the-type .to (m .1 .1 .1 .1 .1 .1 .1 .1 .1 .1 .1 .0)), tt) (wa .1)) d13
           d15 : Typed.Typed 𝓤 H A 𝓣 E (gx t12 t1 l0) b16 Δ2 at15
           d15 = Typed.g-pre 𝓤 H A W 𝓣 E (gx t12 t1 l0) (gx t13 t1 l0) b16 Δ2 (Typed.pass (cx t12 t1) (cx t13 t1) s16) at14 (Scalar.g-room 𝓤 H A W E (gx t12 t1
               l0) 12 y8 (Local.room-whole 𝓤 H A W (Declared.row Cause.the-type) y8 Path'.refl)) d14
           d16 : Typed.Typed 𝓤 H A 𝓣 E (gx t11 t1 l0) b17 Δ2 at16
           d16 = Typed.s-seq 𝓤 H A W 𝓣 E (gx t11 t1 l0) (gx t12 t1 l0) b13 b16 Δ2 (Typed.both s15) at15 (Plain.t-call-plain 𝓤 H A W 𝓣 0 ps·0 r·0 (claims· .0)
-              (claims· .1) "checker::early" (known .0) E (λ pos β. β) (gx t11 t1 l0) (record { pos = 12; st = []; d = 0; at = λ x. x }, tt) 11 [] (Call.sub-id
+              (claims· .1) "answers::early" (known .0) E (λ pos β. β) (gx t11 t1 l0) (record { pos = 12; st = []; d = 0; at = λ x. x }, tt) 11 [] (Call.sub-id
               𝓤 H A W ((gx t11 t1 l0) .slots)) ((Yields.yields-copy 𝓤 H A W (λ ρ. Unit) (Declared.row Cause.the-type) Path'.refl (Copies.cEnum Cause.the-type
-              Laws''.the-laws Laws''.the-copy .copy 𝓤 H A W) (Rows'.whole (Declared.row Cause.the-type)) (λ x. x) (λ x. x) (λ ρ told. Local.mem-whole 𝓤 H A W
+              Laws'3.the-laws Laws'3.the-copy .copy 𝓤 H A W) (Rows'.whole (Declared.row Cause.the-type)) (λ x. x) (λ x. x) (λ ρ told. Local.mem-whole 𝓤 H A W
               (Declared.row Cause.the-type) ρ) λ ρ told. Local.whole-mem 𝓤 H A W (Declared.row Cause.the-type) ρ, Path'.refl), tt) (Reads'.room-gone 𝓤 H A
               y10) tt Path'.refl) d15
           d17 : Typed.Typed 𝓤 H A 𝓣 E (gx t0 t1 l0) b18 Δ2 at17
           d17 = Typed.s-seq 𝓤 H A W 𝓣 E (gx t0 t1 l0) (gx t11 t1 l0) b12 b17 Δ2 (Typed.pass (cx t0 t1) (cx t11 t1) s14) at16 (Make.t-enum-make-wt 𝓤 H A W E 𝓣
-              Cause.the-type Laws''.the-laws Laws''.the-plain tt (gx t0 t1 l0) 12 ((Scalar.oInt Syntax.w8 3) ∷ []) (λ m. Cause.enum .make (Logic.inr
-              (Logic.inr (Logic.inr (Logic.inl tt))))) (Reads'.room-gone 𝓤 H A y8) (tt, tt) Path'.refl (λ m wa. Make.made-val Cause.the-type Laws''.the-laws
-              [] (Cause.enum .make (Logic.inr (Logic.inr (Logic.inr (Logic.inl tt))))) tt (wa .1)) λ m wa. Make.made-is Cause.the-type Laws''.the-laws []
+              Cause.the-type Laws'3.the-laws Laws'3.the-plain tt (gx t0 t1 l0) 12 ((Scalar.oInt Syntax.w8 3) ∷ []) (λ m. Cause.enum .make (Logic.inr
+              (Logic.inr (Logic.inr (Logic.inl tt))))) (Reads'.room-gone 𝓤 H A y8) (tt, tt) Path'.refl (λ m wa. Make.made-val Cause.the-type Laws'3.the-laws
+              [] (Cause.enum .make (Logic.inr (Logic.inr (Logic.inr (Logic.inl tt))))) tt (wa .1)) λ m wa. Make.made-is Cause.the-type Laws'3.the-laws []
               (Cause.enum .make (Logic.inr (Logic.inr (Logic.inr (Logic.inl tt))))) tt (wa .1)) d16
           d18 : Typed.Typed 𝓤 H A 𝓣 E (gx t3 t1 l0) b18 Δ2 at18
           d18 = Typed.g-pre 𝓤 H A W 𝓣 E (gx t3 t1 l0) (gx t0 t1 l0) b18 Δ2 (Typed.pass (cx t3 t1) (cx t0 t1) s13) at17 (Scalar.g-room 𝓤 H A W E (gx t3 t1 l0)
@@ -956,13 +957,13 @@ module _ (claims· : Claims) where
               (Referent.fInt Syntax.w8)) y18 0, Path'.refl, (Reads'.as-is 𝓤 H A (Mut.mslice NodeRecordT.row y11 2), Mut.reads-mslice 𝓤 H A W NodeRecordT.row
               y11 2, Path'.refl, (Reads'.as-is 𝓤 H A (Rows'.mref (Array'.Array (Array'.Array (Referent.rtF (Referent.fInt Syntax.w32)) 4) 32) y13 3),
               Reads'.reads-mref 𝓤 H A W (Array'.Array (Array'.Array (Referent.rtF (Referent.fInt Syntax.w32)) 4) 32) y13 3, Path'.refl, ((Yields.yields-copy 𝓤
-              H A W (λ ρ. Unit) (Declared'.row Cursor.the-type) Path'.refl (Copies.cStruct Cursor.the-type Laws'3.the-laws Laws'3.the-copy .copy 𝓤 H A W)
+              H A W (λ ρ. Unit) (Declared'.row Cursor.the-type) Path'.refl (Copies.cStruct Cursor.the-type Laws''.the-laws Laws''.the-copy .copy 𝓤 H A W)
               (Rows'.whole (Declared'.row Cursor.the-type)) (λ x. x) (λ x. x) (λ ρ told. Local.mem-whole 𝓤 H A W (Declared'.row Cursor.the-type) ρ) λ ρ told.
               Local.whole-mem 𝓤 H A W (Declared'.row Cursor.the-type) ρ, Path'.refl), (record { lower = record { fits = Dec'.lit< tt } }, tt))))))
               (Reads'.room-gone 𝓤 H A y9) (tt, (tt, (tt, tt))) Path'.refl) d44
           d46 : Typed.Typed 𝓤 H A 𝓣 E (gx g22 t23 l3) b40 Δ0 at46
           d46 = Typed.s-seq 𝓤 H A W 𝓣 E (gx g22 t23 l3) (gx g22 t24 l3) b26 b39 Δ0 (Typed.both s31) at45 (Plain.t-call-plain 𝓤 H A W 𝓣 0 ps·1 r·1 (claims· .2)
-              (claims· .3) "reader::first_cursor" (known .1) E (λ pos β. β) (gx g22 t23 l3) tt 17 [] (Call.sub-id 𝓤 H A W ((gx g22 t23 l3) .slots)) tt
+              (claims· .3) "cursors::first_cursor" (known .1) E (λ pos β. β) (gx g22 t23 l3) tt 17 [] (Call.sub-id 𝓤 H A W ((gx g22 t23 l3) .slots)) tt
               (Reads'.room-gone 𝓤 H A y14) tt Path'.refl) d45
           d47 : Typed.Typed 𝓤 H A 𝓣 E (gx g21 t1 l3) b41 Δ0 at47
           d47 = Typed.s-seq 𝓤 H A W 𝓣 E (gx g21 t1 l3) (gx g22 t23 l3) b25 b40 Δ0 (Typed.give s30) at46 (Local.t-sc-borrow 𝓤 H A W E 𝓣 (gx g21 t1 l3) 4 16 3
@@ -1375,7 +1376,7 @@ module _ (claims· : Claims) where
           asked = λ a good pre bs. laid record { κs = κs; args = record { n = a .0; s = a .1 .0; t = a .1 .1 .0 }; good = good; fits = record { n = record {
               fits = good .0 .1 } }; pre = pre }
         module _ {M : Type 1} (𝓤 : URA.URA M) (H : Wp.Heap 𝓤) (A : Atoms.Atoms 𝓤) (W : Kit.Given 𝓤 H A) (𝓣 : Wp.Tables 𝓤 H) (known0 : Plain.Known 𝓤 H A W 𝓣 0
-            ps·0 r·0 (claims· .0) (claims· .1) "checker::early") (known1 : Plain.Known 𝓤 H A W 𝓣 0 ps·1 r·1 (claims· .2) (claims· .3) "reader::first_cursor")
+            ps·0 r·0 (claims· .0) (claims· .1) "answers::early") (known1 : Plain.Known 𝓤 H A W 𝓣 0 ps·1 r·1 (claims· .2) (claims· .3) "cursors::first_cursor")
             (known2 : Plain.Known 𝓤 H A W 𝓣 3 ps·2 r·2 (claims· .4) (claims· .5) "reader::read_on") (known3 : Plain.Known 𝓤 H A W 𝓣 1 ps·3 r·3 (claims· .6)
             (claims· .7) "record_tables::clear_records") (known4 : Plain.Known 𝓤 H A W 𝓣 0 ps·4 r·4 (claims· .8) (claims· .9) "checker::checked_at") where
           pub spec : Statement.Triple 𝓤 (Wp.WpFn 𝓤 H (𝓣 .C) (𝓣 .Λ) (Function.fnOf 2 ps r xs m hs body)) (Function.plainOf 𝓤 H A 2 ps r Pre· Post·)

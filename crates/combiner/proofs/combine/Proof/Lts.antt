@@ -1,10 +1,10 @@
 -- Generated: the derivation of a body.
--- From 185595387c5a0c0f, as 490ad490e083beef.
+-- From 042f7a708d9d96e5, as f545d0fdfbcaaef5.
 use Prim.Native.Nat
+use Rattle.answers.proofs.Refusal
+use Rattle.answers.proofs.Refusal.Laws
 use Rattle.blocks.proofs.Loaded
-use Rattle.blocks.proofs.Loaded.Laws
-use Rattle.checker.proofs.Refusal
-use Rattle.checker.proofs.Refusal.Laws as Laws'
+use Rattle.blocks.proofs.Loaded.Laws as Laws'
 use Rattle.combiner.proofs.Both
 use Rattle.combiner.proofs.Both.Laws as Laws''
 use Rattle.elements.proofs.Cause
@@ -108,28 +108,29 @@ y1 = Syntax.tyInt Syntax.w32
 abbrev y2 : Syntax.Ty
 y2 = Syntax.tyInt Syntax.w64
 abbrev y3 : Syntax.Ty
-y3 = Syntax.tyStruct (99 ∷ 104 ∷ 101 ∷ 99 ∷ 107 ∷ 101 ∷ 114 ∷ 58 ∷ 58 ∷ 82 ∷ 101 ∷ 102 ∷ 117 ∷ 115 ∷ 97 ∷ 108 ∷ []) (Syntax.tcons y0 (Syntax.tcons y1
+y3 = Syntax.tyStruct (97 ∷ 110 ∷ 115 ∷ 119 ∷ 101 ∷ 114 ∷ 115 ∷ 58 ∷ 58 ∷ 82 ∷ 101 ∷ 102 ∷ 117 ∷ 115 ∷ 97 ∷ 108 ∷ []) (Syntax.tcons y0 (Syntax.tcons y1
     (Syntax.tcons y2 Syntax.tnil)))
 abbrev y4 : Syntax.Ty
-y4 = Syntax.tyStruct (99 ∷ 104 ∷ 101 ∷ 99 ∷ 107 ∷ 101 ∷ 114 ∷ 58 ∷ 58 ∷ 67 ∷ 104 ∷ 101 ∷ 99 ∷ 107 ∷ 101 ∷ 100 ∷ []) (Syntax.tcons y1 (Syntax.tcons y2
+y4 = Syntax.tyStruct (97 ∷ 110 ∷ 115 ∷ 119 ∷ 101 ∷ 114 ∷ 115 ∷ 58 ∷ 58 ∷ 67 ∷ 104 ∷ 101 ∷ 99 ∷ 107 ∷ 101 ∷ 100 ∷ []) (Syntax.tcons y1 (Syntax.tcons y2
     (Syntax.tcons Syntax.tyBool Syntax.tnil)))
 abbrev y5 : Syntax.Ty
-y5 = Syntax.tyEnum (99 ∷ 104 ∷ 101 ∷ 99 ∷ 107 ∷ 101 ∷ 114 ∷ 58 ∷ 58 ∷ 67 ∷ 104 ∷ 101 ∷ 99 ∷ 107 ∷ 105 ∷ 110 ∷ 103 ∷ []) (Syntax.ttcons (Syntax.tcons y3
+y5 = Syntax.tyEnum (97 ∷ 110 ∷ 115 ∷ 119 ∷ 101 ∷ 114 ∷ 115 ∷ 58 ∷ 58 ∷ 67 ∷ 104 ∷ 101 ∷ 99 ∷ 107 ∷ 105 ∷ 110 ∷ 103 ∷ []) (Syntax.ttcons (Syntax.tcons y3
     Syntax.tnil) (Syntax.ttcons (Syntax.tcons y4 Syntax.tnil) Syntax.ttnil))
 abbrev y6 : Syntax.Ty
 y6 = Syntax.tyStruct (101 ∷ 108 ∷ 101 ∷ 109 ∷ 101 ∷ 110 ∷ 116 ∷ 115 ∷ 58 ∷ 58 ∷ 82 ∷ 101 ∷ 102 ∷ []) (Syntax.tcons y1 (Syntax.tcons y1 Syntax.tnil))
 abbrev y7 : Syntax.Ty
-y7 = Syntax.tyStruct (114 ∷ 101 ∷ 97 ∷ 100 ∷ 101 ∷ 114 ∷ 58 ∷ 58 ∷ 80 ∷ 97 ∷ 105 ∷ 114 ∷ []) (Syntax.tcons Syntax.tyBool (Syntax.tcons y6 (Syntax.tcons y6
-    Syntax.tnil)))
+y7 = Syntax.tyStruct (99 ∷ 117 ∷ 114 ∷ 115 ∷ 111 ∷ 114 ∷ 115 ∷ 58 ∷ 58 ∷ 80 ∷ 97 ∷ 105 ∷ 114 ∷ []) (Syntax.tcons Syntax.tyBool (Syntax.tcons y6 (Syntax.tcons
+    y6 Syntax.tnil)))
 abbrev y8 : Syntax.Ty
 y8 = Syntax.tyEnum (101 ∷ 108 ∷ 101 ∷ 109 ∷ 101 ∷ 110 ∷ 116 ∷ 115 ∷ 58 ∷ 58 ∷ 67 ∷ 111 ∷ 110 ∷ 116 ∷ 101 ∷ 120 ∷ 116 ∷ []) (Syntax.ttcons Syntax.tnil
     (Syntax.ttcons Syntax.tnil (Syntax.ttcons Syntax.tnil (Syntax.ttcons Syntax.tnil (Syntax.ttcons Syntax.tnil (Syntax.ttcons Syntax.tnil (Syntax.ttcons
     Syntax.tnil Syntax.ttnil)))))))
 abbrev y9 : Syntax.Ty
-y9 = Syntax.tyStruct (114 ∷ 101 ∷ 97 ∷ 100 ∷ 101 ∷ 114 ∷ 58 ∷ 58 ∷ 82 ∷ 117 ∷ 110 ∷ []) (Syntax.tcons y6 (Syntax.tcons y7 (Syntax.tcons y2 (Syntax.tcons y2
-    (Syntax.tcons y1 (Syntax.tcons y8 (Syntax.tcons Syntax.tyBool Syntax.tnil)))))))
+y9 = Syntax.tyStruct (99 ∷ 117 ∷ 114 ∷ 115 ∷ 111 ∷ 114 ∷ 115 ∷ 58 ∷ 58 ∷ 82 ∷ 117 ∷ 110 ∷ []) (Syntax.tcons y6 (Syntax.tcons y7 (Syntax.tcons y2 (Syntax.tcons
+    y2 (Syntax.tcons y1 (Syntax.tcons y8 (Syntax.tcons Syntax.tyBool Syntax.tnil)))))))
 abbrev y10 : Syntax.Ty
-y10 = Syntax.tyStruct (114 ∷ 101 ∷ 97 ∷ 100 ∷ 101 ∷ 114 ∷ 58 ∷ 58 ∷ 67 ∷ 117 ∷ 114 ∷ 115 ∷ 111 ∷ 114 ∷ []) (Syntax.tcons y9 (Syntax.tcons y2 Syntax.tnil))
+y10 = Syntax.tyStruct (99 ∷ 117 ∷ 114 ∷ 115 ∷ 111 ∷ 114 ∷ 115 ∷ 58 ∷ 58 ∷ 67 ∷ 117 ∷ 114 ∷ 115 ∷ 111 ∷ 114 ∷ []) (Syntax.tcons y9 (Syntax.tcons y2
+    Syntax.tnil))
 abbrev y11 : Syntax.Ty
 y11 = Syntax.tyStruct (98 ∷ 108 ∷ 111 ∷ 99 ∷ 107 ∷ 115 ∷ 58 ∷ 58 ∷ 66 ∷ 108 ∷ 111 ∷ 99 ∷ 107 ∷ []) (Syntax.tcons y10 (Syntax.tcons y2 (Syntax.tcons y2
     (Syntax.tcons y1 (Syntax.tcons Syntax.tyBool (Syntax.tcons Syntax.tyBool Syntax.tnil))))))
@@ -515,33 +516,33 @@ ps·0 = (Value.pVal record { ty = Declared.row Cause.the-type; one = Path'.refl;
     Laws'3.the-laws 𝓤 H A W tt; makes = Laws'10.makes Cause.the-type Laws'3.the-plain 𝓤 H A; in-mem = Local.mem-whole 𝓤 H A W (Declared.row Cause.the-type);
     of-mem = Local.whole-mem 𝓤 H A W (Declared.row Cause.the-type) }) ∷ []
 abbrev pub r·0 : Kinds.RK 0
-r·0 = Value.rVal record { ty = Declared'.row Refusal.the-type; one = Path'.refl; val = Laws'11.val Refusal.the-type Laws'.the-laws; tells = Laws'11.tells
-    Refusal.the-type Laws'.the-laws; still = Laws'11.still Refusal.the-type Laws'.the-copy Exit.yes; row = Rows'.whole (Declared'.row Refusal.the-type); rd =
-    λ x. x; mk = λ x. x } λ M 𝓤 H A W. record { copies = Laws'11.copy Refusal.the-type Laws'.the-copy 𝓤 H A W; lawful = Laws'11.lawful Refusal.the-type
-    Laws'.the-laws 𝓤 H A W; makes = Laws'11.makes Refusal.the-type Laws'.the-plain 𝓤 H A; in-mem = Local.mem-whole 𝓤 H A W (Declared'.row Refusal.the-type);
+r·0 = Value.rVal record { ty = Declared'.row Refusal.the-type; one = Path'.refl; val = Laws'11.val Refusal.the-type Laws.the-laws; tells = Laws'11.tells
+    Refusal.the-type Laws.the-laws; still = Laws'11.still Refusal.the-type Laws.the-copy Exit.yes; row = Rows'.whole (Declared'.row Refusal.the-type); rd = λ
+    x. x; mk = λ x. x } λ M 𝓤 H A W. record { copies = Laws'11.copy Refusal.the-type Laws.the-copy 𝓤 H A W; lawful = Laws'11.lawful Refusal.the-type
+    Laws.the-laws 𝓤 H A W; makes = Laws'11.makes Refusal.the-type Laws.the-plain 𝓤 H A; in-mem = Local.mem-whole 𝓤 H A W (Declared'.row Refusal.the-type);
     of-mem = Local.whole-mem 𝓤 H A W (Declared'.row Refusal.the-type) }
 abbrev pub ps·1 : List (Kinds.PK 2)
 ps·1 = (Num.pNum Syntax.w32) ∷ (ShrSlice.pShrS (Referent.rtF (Referent.fInt Syntax.w8)) 0 tt) ∷ (MutSlice.pMutS NodeRecordT.row 1 tt) ∷ []
 abbrev pub r·1 : Kinds.RK 2
-r·1 = Value.rVal record { ty = Declared'.row Loaded.the-type; one = Path'.refl; val = Laws'11.val Loaded.the-type Laws.the-laws; tells = Laws'11.tells
-    Loaded.the-type Laws.the-laws; still = Laws'11.still Loaded.the-type Laws.the-copy Exit.yes; row = Rows'.whole (Declared'.row Loaded.the-type); rd = λ x.
-    x; mk = λ x. x } λ M 𝓤 H A W. record { copies = Laws'11.copy Loaded.the-type Laws.the-copy 𝓤 H A W; lawful = Laws'11.lawful Loaded.the-type Laws.the-laws
-    𝓤 H A W; makes = Laws'11.makes Loaded.the-type Laws.the-plain 𝓤 H A; in-mem = Local.mem-whole 𝓤 H A W (Declared'.row Loaded.the-type); of-mem =
-    Local.whole-mem 𝓤 H A W (Declared'.row Loaded.the-type) }
+r·1 = Value.rVal record { ty = Declared'.row Loaded.the-type; one = Path'.refl; val = Laws'11.val Loaded.the-type Laws'.the-laws; tells = Laws'11.tells
+    Loaded.the-type Laws'.the-laws; still = Laws'11.still Loaded.the-type Laws'.the-copy Exit.yes; row = Rows'.whole (Declared'.row Loaded.the-type); rd = λ
+    x. x; mk = λ x. x } λ M 𝓤 H A W. record { copies = Laws'11.copy Loaded.the-type Laws'.the-copy 𝓤 H A W; lawful = Laws'11.lawful Loaded.the-type
+    Laws'.the-laws 𝓤 H A W; makes = Laws'11.makes Loaded.the-type Laws'.the-plain 𝓤 H A; in-mem = Local.mem-whole 𝓤 H A W (Declared'.row Loaded.the-type);
+    of-mem = Local.whole-mem 𝓤 H A W (Declared'.row Loaded.the-type) }
 abbrev pub ps·2 : List (Kinds.PK 1)
 ps·2 = (MutSlice.pMutS WriterRecordT.row 0 tt) ∷ []
 abbrev pub r·2 : Kinds.RK 1
 r·2 = Unit'.rUnit
 abbrev pub ps·3 : List (Kinds.PK 0)
-ps·3 = (Value.pVal record { ty = Declared'.row Loaded.the-type; one = Path'.refl; val = Laws'11.val Loaded.the-type Laws.the-laws; tells = Laws'11.tells
-    Loaded.the-type Laws.the-laws; still = Laws'11.still Loaded.the-type Laws.the-copy Exit.yes; row = Rows'.whole (Declared'.row Loaded.the-type); rd = λ x.
-    x; mk = λ x. x } λ M 𝓤 H A W. record { copies = Laws'11.copy Loaded.the-type Laws.the-copy 𝓤 H A W; lawful = Laws'11.lawful Loaded.the-type Laws.the-laws
-    𝓤 H A W; makes = Laws'11.makes Loaded.the-type Laws.the-plain 𝓤 H A; in-mem = Local.mem-whole 𝓤 H A W (Declared'.row Loaded.the-type); of-mem =
-    Local.whole-mem 𝓤 H A W (Declared'.row Loaded.the-type) }) ∷ (Value.pVal record { ty = Declared'.row Loaded.the-type; one = Path'.refl; val = Laws'11.val
-    Loaded.the-type Laws.the-laws; tells = Laws'11.tells Loaded.the-type Laws.the-laws; still = Laws'11.still Loaded.the-type Laws.the-copy Exit.yes; row =
-    Rows'.whole (Declared'.row Loaded.the-type); rd = λ x. x; mk = λ x. x } λ M 𝓤 H A W. record { copies = Laws'11.copy Loaded.the-type Laws.the-copy 𝓤 H A W;
-    lawful = Laws'11.lawful Loaded.the-type Laws.the-laws 𝓤 H A W; makes = Laws'11.makes Loaded.the-type Laws.the-plain 𝓤 H A; in-mem = Local.mem-whole 𝓤 H A
-    W (Declared'.row Loaded.the-type); of-mem = Local.whole-mem 𝓤 H A W (Declared'.row Loaded.the-type) }) ∷ []
+ps·3 = (Value.pVal record { ty = Declared'.row Loaded.the-type; one = Path'.refl; val = Laws'11.val Loaded.the-type Laws'.the-laws; tells = Laws'11.tells
+    Loaded.the-type Laws'.the-laws; still = Laws'11.still Loaded.the-type Laws'.the-copy Exit.yes; row = Rows'.whole (Declared'.row Loaded.the-type); rd = λ
+    x. x; mk = λ x. x } λ M 𝓤 H A W. record { copies = Laws'11.copy Loaded.the-type Laws'.the-copy 𝓤 H A W; lawful = Laws'11.lawful Loaded.the-type
+    Laws'.the-laws 𝓤 H A W; makes = Laws'11.makes Loaded.the-type Laws'.the-plain 𝓤 H A; in-mem = Local.mem-whole 𝓤 H A W (Declared'.row Loaded.the-type);
+    of-mem = Local.whole-mem 𝓤 H A W (Declared'.row Loaded.the-type) }) ∷ (Value.pVal record { ty = Declared'.row Loaded.the-type; one = Path'.refl; val =
+    Laws'11.val Loaded.the-type Laws'.the-laws; tells = Laws'11.tells Loaded.the-type Laws'.the-laws; still = Laws'11.still Loaded.the-type Laws'.the-copy
+    Exit.yes; row = Rows'.whole (Declared'.row Loaded.the-type); rd = λ x. x; mk = λ x. x } λ M 𝓤 H A W. record { copies = Laws'11.copy Loaded.the-type
+    Laws'.the-copy 𝓤 H A W; lawful = Laws'11.lawful Loaded.the-type Laws'.the-laws 𝓤 H A W; makes = Laws'11.makes Loaded.the-type Laws'.the-plain 𝓤 H A;
+    in-mem = Local.mem-whole 𝓤 H A W (Declared'.row Loaded.the-type); of-mem = Local.whole-mem 𝓤 H A W (Declared'.row Loaded.the-type) }) ∷ []
 abbrev pub r·3 : Kinds.RK 0
 r·3 = Value.rVal record { ty = Declared'.row Both.the-type; one = Path'.refl; val = Laws'11.val Both.the-type Laws''.the-laws; tells = Laws'11.tells
     Both.the-type Laws''.the-laws; still = Laws'11.still Both.the-type Laws''.the-copy Exit.yes; row = Rows'.whole (Declared'.row Both.the-type); rd = λ x. x;
@@ -559,10 +560,10 @@ ps·5 = (Value.pVal record { ty = Declared'.row Both.the-type; one = Path'.refl;
     A W; makes = Laws'11.makes Both.the-type Laws''.the-plain 𝓤 H A; in-mem = Local.mem-whole 𝓤 H A W (Declared'.row Both.the-type); of-mem = Local.whole-mem
     𝓤 H A W (Declared'.row Both.the-type) }) ∷ []
 abbrev pub r·5 : Kinds.RK 0
-r·5 = Value.rVal record { ty = Declared'.row Refusal.the-type; one = Path'.refl; val = Laws'11.val Refusal.the-type Laws'.the-laws; tells = Laws'11.tells
-    Refusal.the-type Laws'.the-laws; still = Laws'11.still Refusal.the-type Laws'.the-copy Exit.yes; row = Rows'.whole (Declared'.row Refusal.the-type); rd =
-    λ x. x; mk = λ x. x } λ M 𝓤 H A W. record { copies = Laws'11.copy Refusal.the-type Laws'.the-copy 𝓤 H A W; lawful = Laws'11.lawful Refusal.the-type
-    Laws'.the-laws 𝓤 H A W; makes = Laws'11.makes Refusal.the-type Laws'.the-plain 𝓤 H A; in-mem = Local.mem-whole 𝓤 H A W (Declared'.row Refusal.the-type);
+r·5 = Value.rVal record { ty = Declared'.row Refusal.the-type; one = Path'.refl; val = Laws'11.val Refusal.the-type Laws.the-laws; tells = Laws'11.tells
+    Refusal.the-type Laws.the-laws; still = Laws'11.still Refusal.the-type Laws.the-copy Exit.yes; row = Rows'.whole (Declared'.row Refusal.the-type); rd = λ
+    x. x; mk = λ x. x } λ M 𝓤 H A W. record { copies = Laws'11.copy Refusal.the-type Laws.the-copy 𝓤 H A W; lawful = Laws'11.lawful Refusal.the-type
+    Laws.the-laws 𝓤 H A W; makes = Laws'11.makes Refusal.the-type Laws.the-plain 𝓤 H A; in-mem = Local.mem-whole 𝓤 H A W (Declared'.row Refusal.the-type);
     of-mem = Local.whole-mem 𝓤 H A W (Declared'.row Refusal.the-type) }
 abbrev pub ps·6 : List (Kinds.PK 0)
 ps·6 = (Num.pNum Syntax.w32) ∷ []
@@ -571,11 +572,11 @@ r·6 = Bool.rBool
 abbrev pub ps·7 : List (Kinds.PK 3)
 ps·7 = (Num.pNum Syntax.w32) ∷ (ShrSlice.pShrS (Referent.rtF (Referent.fInt Syntax.w8)) 0 tt) ∷ (MutSlice.pMutS NodeRecordT.row 1 tt) ∷ (Kinds.pMut
     (Array'.Array (Array'.Array (Referent.rtF (Referent.fInt Syntax.w32)) 4) 32) 2 tt) ∷ (Value.pVal record { ty = Declared'.row Loaded.the-type; one =
-    Path'.refl; val = Laws'11.val Loaded.the-type Laws.the-laws; tells = Laws'11.tells Loaded.the-type Laws.the-laws; still = Laws'11.still Loaded.the-type
-    Laws.the-copy Exit.yes; row = Rows'.whole (Declared'.row Loaded.the-type); rd = λ x. x; mk = λ x. x } λ M 𝓤 H A W. record { copies = Laws'11.copy
-    Loaded.the-type Laws.the-copy 𝓤 H A W; lawful = Laws'11.lawful Loaded.the-type Laws.the-laws 𝓤 H A W; makes = Laws'11.makes Loaded.the-type Laws.the-plain
-    𝓤 H A; in-mem = Local.mem-whole 𝓤 H A W (Declared'.row Loaded.the-type); of-mem = Local.whole-mem 𝓤 H A W (Declared'.row Loaded.the-type) }) ∷ Bool.pBool
-    ∷ []
+    Path'.refl; val = Laws'11.val Loaded.the-type Laws'.the-laws; tells = Laws'11.tells Loaded.the-type Laws'.the-laws; still = Laws'11.still Loaded.the-type
+    Laws'.the-copy Exit.yes; row = Rows'.whole (Declared'.row Loaded.the-type); rd = λ x. x; mk = λ x. x } λ M 𝓤 H A W. record { copies = Laws'11.copy
+    Loaded.the-type Laws'.the-copy 𝓤 H A W; lawful = Laws'11.lawful Loaded.the-type Laws'.the-laws 𝓤 H A W; makes = Laws'11.makes Loaded.the-type
+    Laws'.the-plain 𝓤 H A; in-mem = Local.mem-whole 𝓤 H A W (Declared'.row Loaded.the-type); of-mem = Local.whole-mem 𝓤 H A W (Declared'.row Loaded.the-type)
+    }) ∷ Bool.pBool ∷ []
 abbrev pub r·7 : Kinds.RK 3
 r·7 = Value.rVal record { ty = Declared'.row Begun.the-type; one = Path'.refl; val = Laws'11.val Begun.the-type Laws'7.the-laws; tells = Laws'11.tells
     Begun.the-type Laws'7.the-laws; still = Laws'11.still Begun.the-type Laws'7.the-copy Exit.yes; row = Rows'.whole (Declared'.row Begun.the-type); rd = λ x.
@@ -641,7 +642,7 @@ b0 = Syntax.assign (Syntax.place 23 []) (Syntax.op2 (Syntax.lt Syntax.unsigned) 
 abbrev b1 : Syntax.Body
 b1 = Syntax.assign (Syntax.place 25 []) (Syntax.aggregate ((Syntax.int Syntax.w8 0) ∷ []))
 abbrev b2 : Syntax.Body
-b2 = Syntax.call "checker::early" ((Syntax.copy (Syntax.place 25 [])) ∷ []) (Syntax.place 24 [])
+b2 = Syntax.call "answers::early" ((Syntax.copy (Syntax.place 25 [])) ∷ []) (Syntax.place 24 [])
 abbrev b3 : Syntax.Body
 b3 = Syntax.assign (Syntax.place 0 []) (Syntax.aggregate ((Syntax.int Syntax.w8 0) ∷ (Syntax.copy (Syntax.place 24 [])) ∷ []))
 abbrev b4 : Syntax.Body
@@ -661,7 +662,7 @@ b10 = Syntax.assign (Syntax.place 23 []) (Syntax.op2 (Syntax.lt Syntax.unsigned)
 abbrev b11 : Syntax.Body
 b11 = Syntax.assign (Syntax.place 27 []) (Syntax.aggregate ((Syntax.int Syntax.w8 1) ∷ []))
 abbrev b12 : Syntax.Body
-b12 = Syntax.call "checker::early" ((Syntax.copy (Syntax.place 27 [])) ∷ []) (Syntax.place 26 [])
+b12 = Syntax.call "answers::early" ((Syntax.copy (Syntax.place 27 [])) ∷ []) (Syntax.place 26 [])
 abbrev b13 : Syntax.Body
 b13 = Syntax.assign (Syntax.place 0 []) (Syntax.aggregate ((Syntax.int Syntax.w8 0) ∷ (Syntax.copy (Syntax.place 26 [])) ∷ []))
 abbrev b14 : Syntax.Body
@@ -683,7 +684,7 @@ b21 = Syntax.assign (Syntax.place 23 []) (Syntax.op2 (Syntax.lt Syntax.unsigned)
 abbrev b22 : Syntax.Body
 b22 = Syntax.assign (Syntax.place 30 []) (Syntax.aggregate ((Syntax.int Syntax.w8 2) ∷ []))
 abbrev b23 : Syntax.Body
-b23 = Syntax.call "checker::early" ((Syntax.copy (Syntax.place 30 [])) ∷ []) (Syntax.place 29 [])
+b23 = Syntax.call "answers::early" ((Syntax.copy (Syntax.place 30 [])) ∷ []) (Syntax.place 29 [])
 abbrev b24 : Syntax.Body
 b24 = Syntax.assign (Syntax.place 0 []) (Syntax.aggregate ((Syntax.int Syntax.w8 0) ∷ (Syntax.copy (Syntax.place 29 [])) ∷ []))
 abbrev b25 : Syntax.Body
@@ -705,7 +706,7 @@ b32 = Syntax.assign (Syntax.place 23 []) (Syntax.op2 (Syntax.lt Syntax.unsigned)
 abbrev b33 : Syntax.Body
 b33 = Syntax.assign (Syntax.place 32 []) (Syntax.aggregate ((Syntax.int Syntax.w8 3) ∷ []))
 abbrev b34 : Syntax.Body
-b34 = Syntax.call "checker::early" ((Syntax.copy (Syntax.place 32 [])) ∷ []) (Syntax.place 31 [])
+b34 = Syntax.call "answers::early" ((Syntax.copy (Syntax.place 32 [])) ∷ []) (Syntax.place 31 [])
 abbrev b35 : Syntax.Body
 b35 = Syntax.assign (Syntax.place 0 []) (Syntax.aggregate ((Syntax.int Syntax.w8 0) ∷ (Syntax.copy (Syntax.place 31 [])) ∷ []))
 abbrev b36 : Syntax.Body
@@ -727,7 +728,7 @@ b43 = Syntax.assign (Syntax.place 23 []) (Syntax.op2 (Syntax.lt Syntax.unsigned)
 abbrev b44 : Syntax.Body
 b44 = Syntax.assign (Syntax.place 34 []) (Syntax.aggregate ((Syntax.int Syntax.w8 3) ∷ []))
 abbrev b45 : Syntax.Body
-b45 = Syntax.call "checker::early" ((Syntax.copy (Syntax.place 34 [])) ∷ []) (Syntax.place 33 [])
+b45 = Syntax.call "answers::early" ((Syntax.copy (Syntax.place 34 [])) ∷ []) (Syntax.place 33 [])
 abbrev b46 : Syntax.Body
 b46 = Syntax.assign (Syntax.place 0 []) (Syntax.aggregate ((Syntax.int Syntax.w8 0) ∷ (Syntax.copy (Syntax.place 33 [])) ∷ []))
 abbrev b47 : Syntax.Body
@@ -749,7 +750,7 @@ b54 = Syntax.assign (Syntax.place 23 []) (Syntax.op2 (Syntax.lt Syntax.unsigned)
 abbrev b55 : Syntax.Body
 b55 = Syntax.assign (Syntax.place 36 []) (Syntax.aggregate ((Syntax.int Syntax.w8 3) ∷ []))
 abbrev b56 : Syntax.Body
-b56 = Syntax.call "checker::early" ((Syntax.copy (Syntax.place 36 [])) ∷ []) (Syntax.place 35 [])
+b56 = Syntax.call "answers::early" ((Syntax.copy (Syntax.place 36 [])) ∷ []) (Syntax.place 35 [])
 abbrev b57 : Syntax.Body
 b57 = Syntax.assign (Syntax.place 0 []) (Syntax.aggregate ((Syntax.int Syntax.w8 0) ∷ (Syntax.copy (Syntax.place 35 [])) ∷ []))
 abbrev b58 : Syntax.Body
@@ -2379,7 +2380,7 @@ module _ (claims· : Claims) where
     module _ (M : Type 1) where
       abbrev pub Closed : Type 2
       Closed = (𝓤 : URA.URA M) (H : Wp.Heap 𝓤) (A : Atoms.Atoms 𝓤) (W : Kit.Given 𝓤 H A) (𝓣 : Wp.Tables 𝓤 H) (known0 : Plain.Known 𝓤 H A W 𝓣 0 ps·0 r·0
-          (claims· .0) (claims· .1) "checker::early") (known1 : Plain.Known 𝓤 H A W 𝓣 2 ps·1 r·1 (claims· .2) (claims· .3) "blocks::load") (known2 :
+          (claims· .0) (claims· .1) "answers::early") (known1 : Plain.Known 𝓤 H A W 𝓣 2 ps·1 r·1 (claims· .2) (claims· .3) "blocks::load") (known2 :
           Plain.Known 𝓤 H A W 𝓣 1 ps·2 r·2 (claims· .4) (claims· .5) "record_tables::clear_writer_records") (known3 : Plain.Known 𝓤 H A W 𝓣 0 ps·3 r·3
           (claims· .6) (claims· .7) "combiner::both_loaded") (known4 : Plain.Known 𝓤 H A W 𝓣 1 ps·4 r·4 (claims· .8) (claims· .9) "combiner::clear_all")
           (known5 : Plain.Known 𝓤 H A W 𝓣 0 ps·5 r·5 (claims· .10) (claims· .11) "combiner::refusal_of") (known6 : Plain.Known 𝓤 H A W 𝓣 0 ps·6 r·6 (claims·
@@ -2988,7 +2989,7 @@ module _ (claims· : Claims) where
       Φ = λ bs. at297 bs
       module _ {M : Type 1} (𝓤 : URA.URA M) (H : Wp.Heap 𝓤) (A : Atoms.Atoms 𝓤) (W : Kit.Given 𝓤 H A) (𝓣 : Wp.Tables 𝓤 H) where
         abbrev Knowns : Type 1
-        Knowns = Plain.Known 𝓤 H A W 𝓣 0 ps·0 r·0 (claims· .0) (claims· .1) "checker::early" × Plain.Known 𝓤 H A W 𝓣 2 ps·1 r·1 (claims· .2) (claims· .3)
+        Knowns = Plain.Known 𝓤 H A W 𝓣 0 ps·0 r·0 (claims· .0) (claims· .1) "answers::early" × Plain.Known 𝓤 H A W 𝓣 2 ps·1 r·1 (claims· .2) (claims· .3)
             "blocks::load" × Plain.Known 𝓤 H A W 𝓣 1 ps·2 r·2 (claims· .4) (claims· .5) "record_tables::clear_writer_records" × Plain.Known 𝓤 H A W 𝓣 0 ps·3
             r·3 (claims· .6) (claims· .7) "combiner::both_loaded" × Plain.Known 𝓤 H A W 𝓣 1 ps·4 r·4 (claims· .8) (claims· .9) "combiner::clear_all" ×
             Plain.Known 𝓤 H A W 𝓣 0 ps·5 r·5 (claims· .10) (claims· .11) "combiner::refusal_of" × Plain.Known 𝓤 H A W 𝓣 0 ps·6 r·6 (claims· .12) (claims· .13)
@@ -3818,25 +3819,25 @@ module _ (claims· : Claims) where
               (Declared'.row Refusal.the-type) y3 Path'.refl)) d3
           d5 : Typed.Typed 𝓤 H A 𝓣 E G10 b5 Δ1 (at5 bs)
           d5 = Typed.s-seq 𝓤 H A W 𝓣 E G10 G11 b3 b4 Δ1 (Typed.pass T10 T11 (s8 bs)) (at4 bs) (Make.t-enum-make-wt 𝓤 H A W E 𝓣 Writing.the-type
-              Laws'5.the-laws Laws'5.the-plain tt G10 0 ((Scalar.oInt Syntax.w8 0) ∷ (Scalar.oAt 24 y3 (Laws'11.val Refusal.the-type Laws'.the-laws)) ∷ []) (λ
+              Laws'5.the-laws Laws'5.the-plain tt G10 0 ((Scalar.oInt Syntax.w8 0) ∷ (Scalar.oAt 24 y3 (Laws'11.val Refusal.the-type Laws.the-laws)) ∷ []) (λ
               m. Writing.enum .make (Logic.inl (m .1 .1 .1 .1 .1 .1 .1 .1 .1 .1 .1 .1 .1 .1 .1 .1 .1 .1 .1 .1 .1 .1 .1 .1 .0, tt))) (Reads'.room-gone 𝓤 H A
-              y37) (tt, ((Reads.reads-struct 𝓤 H A W Refusal.the-type Laws'.the-laws, Path'.refl), tt)) Path'.refl (λ m wa. Make.made-val Writing.the-type
-              Laws'5.the-laws ((Laws'11.val Refusal.the-type Laws'.the-laws (m .1 .1 .1 .1 .1 .1 .1 .1 .1 .1 .1 .1 .1 .1 .1 .1 .1 .1 .1 .1 .1 .1 .1 .1 .0)) ∷
+              y37) (tt, ((Reads.reads-struct 𝓤 H A W Refusal.the-type Laws.the-laws, Path'.refl), tt)) Path'.refl (λ m wa. Make.made-val Writing.the-type
+              Laws'5.the-laws ((Laws'11.val Refusal.the-type Laws.the-laws (m .1 .1 .1 .1 .1 .1 .1 .1 .1 .1 .1 .1 .1 .1 .1 .1 .1 .1 .1 .1 .1 .1 .1 .1 .0)) ∷
               []) (Writing.enum .make (Logic.inl (m .1 .1 .1 .1 .1 .1 .1 .1 .1 .1 .1 .1 .1 .1 .1 .1 .1 .1 .1 .1 .1 .1 .1 .1 .0, tt))) (Signed.made-wt
-              Refusal.the-field Laws'.the-field-laws (Make'.struct-wt Refusal.the-type Laws'.the-laws (Whole.enum-wt Cause.the-type Laws'3.the-laws (tt, (tt,
+              Refusal.the-field Laws.the-field-laws (Make'.struct-wt Refusal.the-type Laws.the-laws (Whole.enum-wt Cause.the-type Laws'3.the-laws (tt, (tt,
               (tt, (tt, (tt, (tt, (tt, (tt, (tt, (tt, (tt, (tt, (tt, tt))))))))))))), (Make'.u32-wt, (Make'.u64-wt, tt)))) (Refusal.the-type .to (m .1 .1 .1
               .1 .1 .1 .1 .1 .1 .1 .1 .1 .1 .1 .1 .1 .1 .1 .1 .1 .1 .1 .1 .1 .0)), tt) (wa .1)) λ m wa. Make.made-is Writing.the-type Laws'5.the-laws
-              ((Laws'11.val Refusal.the-type Laws'.the-laws (m .1 .1 .1 .1 .1 .1 .1 .1 .1 .1 .1 .1 .1 .1 .1 .1 .1 .1 .1 .1 .1 .1 .1 .1 .0)) ∷ [])
-              (Writing.enum .make (Logic.inl (m .1 .1 .1 .1 .1 .1 .1 .1 .1 .1 .1 .1 .1 .1 .1 .1 .1 .1 .1 .1 .1 .1 .1 .1 .0, tt))) (Signed.made-wt
-              Refusal.the-field Laws'.the-field-laws (Make'.struct-wt Refusal.the-type Laws'.the-laws (Whole.enum-wt Cause.the-type Laws'3.the-laws (tt, (tt,
-              (tt, (tt, (tt, (tt, (tt, (tt, (tt, (tt, (tt, (tt, (tt, tt))))))))))))), (Make'.u32-wt, (Make'.u64-wt, tt)))) (Refusal.the-type .to (m .1 .1 .1
-              .1 .1 .1 .1 .1 .1 .1 .1 .1 .1 .1 .1 .1 .1 .1 .1 .1 .1 .1 .1 .1 .0)), tt) (wa .1)) d4
+              ((Laws'11.val Refusal.the-type Laws.the-laws (m .1 .1 .1 .1 .1 .1 .1 .1 .1 .1 .1 .1 .1 .1 .1 .1 .1 .1 .1 .1 .1 .1 .1 .1 .0)) ∷ []) (Writing.enum
+              .make (Logic.inl (m .1 .1 .1 .1 .1 .1 .1 .1 .1 .1 .1 .1 .1 .1 .1 .1 .1 .1 .1 .1 .1 .1 .1 .1 .0, tt))) (Signed.made-wt Refusal.the-field
+              Laws.the-field-laws (Make'.struct-wt Refusal.the-type Laws.the-laws (Whole.enum-wt Cause.the-type Laws'3.the-laws (tt, (tt, (tt, (tt, (tt, (tt,
+              (tt, (tt, (tt, (tt, (tt, (tt, (tt, tt))))))))))))), (Make'.u32-wt, (Make'.u64-wt, tt)))) (Refusal.the-type .to (m .1 .1 .1 .1 .1 .1 .1 .1 .1 .1
+              .1 .1 .1 .1 .1 .1 .1 .1 .1 .1 .1 .1 .1 .1 .0)), tt) (wa .1)) d4
           d6 : Typed.Typed 𝓤 H A 𝓣 E G9 b5 Δ1 (at6 bs)
           d6 = Typed.g-pre 𝓤 H A W 𝓣 E G9 G10 b5 Δ1 (Typed.pass T9 T10 (s7 bs)) (at5 bs) (Scalar.g-room 𝓤 H A W E G9 25 y0 (Local.room-whole 𝓤 H A W
               (Declared.row Cause.the-type) y0 Path'.refl)) d5
           d7 : Typed.Typed 𝓤 H A 𝓣 E G8 b6 Δ1 (at7 bs)
           d7 = Typed.s-seq 𝓤 H A W 𝓣 E G8 G9 b2 b5 Δ1 (Typed.both (s6 bs)) (at6 bs) (Plain.t-call-plain 𝓤 H A W 𝓣 0 ps·0 r·0 (claims· .0) (claims· .1)
-              "checker::early" (known .0) E (λ pos β. β) G8 (record { pos = 25; st = []; d = 0; at = λ x. x }, tt) 24 [] (Call.sub-id 𝓤 H A W (G8 .slots))
+              "answers::early" (known .0) E (λ pos β. β) G8 (record { pos = 25; st = []; d = 0; at = λ x. x }, tt) 24 [] (Call.sub-id 𝓤 H A W (G8 .slots))
               ((Yields.yields-copy 𝓤 H A W (λ ρ. Unit) (Declared.row Cause.the-type) Path'.refl (Copies.cEnum Cause.the-type Laws'3.the-laws Laws'3.the-copy
               .copy 𝓤 H A W) (Rows'.whole (Declared.row Cause.the-type)) (λ x. x) (λ x. x) (λ ρ told. Local.mem-whole 𝓤 H A W (Declared.row Cause.the-type) ρ)
               λ ρ told. Local.whole-mem 𝓤 H A W (Declared.row Cause.the-type) ρ, Path'.refl), tt) (Reads'.room-gone 𝓤 H A y3) tt Path'.refl) d6
@@ -3871,17 +3872,17 @@ module _ (claims· : Claims) where
               (Declared'.row Refusal.the-type) y3 Path'.refl)) d16
           d18 : Typed.Typed 𝓤 H A 𝓣 E G22 b15 Δ2 (at18 bs)
           d18 = Typed.s-seq 𝓤 H A W 𝓣 E G22 G23 b13 b14 Δ2 (Typed.pass T22 T23 (s19 bs)) (at17 bs) (Make.t-enum-make-wt 𝓤 H A W E 𝓣 Writing.the-type
-              Laws'5.the-laws Laws'5.the-plain tt G22 0 ((Scalar.oInt Syntax.w8 0) ∷ (Scalar.oAt 26 y3 (Laws'11.val Refusal.the-type Laws'.the-laws)) ∷ []) (λ
+              Laws'5.the-laws Laws'5.the-plain tt G22 0 ((Scalar.oInt Syntax.w8 0) ∷ (Scalar.oAt 26 y3 (Laws'11.val Refusal.the-type Laws.the-laws)) ∷ []) (λ
               m. Writing.enum .make (Logic.inl (m .1 .1 .1 .1 .1 .1 .1 .1 .1 .1 .1 .1 .1 .1 .1 .1 .1 .1 .1 .1 .1 .1 .1 .1 .1 .1 .0, tt))) (Reads'.room-gone 𝓤
-              H A y37) (tt, ((Reads.reads-struct 𝓤 H A W Refusal.the-type Laws'.the-laws, Path'.refl), tt)) Path'.refl (λ m wa. Make.made-val Writing.the-type
-              Laws'5.the-laws ((Laws'11.val Refusal.the-type Laws'.the-laws (m .1 .1 .1 .1 .1 .1 .1 .1 .1 .1 .1 .1 .1 .1 .1 .1 .1 .1 .1 .1 .1 .1 .1 .1 .1 .1
+              H A y37) (tt, ((Reads.reads-struct 𝓤 H A W Refusal.the-type Laws.the-laws, Path'.refl), tt)) Path'.refl (λ m wa. Make.made-val Writing.the-type
+              Laws'5.the-laws ((Laws'11.val Refusal.the-type Laws.the-laws (m .1 .1 .1 .1 .1 .1 .1 .1 .1 .1 .1 .1 .1 .1 .1 .1 .1 .1 .1 .1 .1 .1 .1 .1 .1 .1
               .0)) ∷ []) (Writing.enum .make (Logic.inl (m .1 .1 .1 .1 .1 .1 .1 .1 .1 .1 .1 .1 .1 .1 .1 .1 .1 .1 .1 .1 .1 .1 .1 .1 .1 .1 .0, tt)))
-              (Signed.made-wt Refusal.the-field Laws'.the-field-laws (Make'.struct-wt Refusal.the-type Laws'.the-laws (Whole.enum-wt Cause.the-type
+              (Signed.made-wt Refusal.the-field Laws.the-field-laws (Make'.struct-wt Refusal.the-type Laws.the-laws (Whole.enum-wt Cause.the-type
               Laws'3.the-laws (tt, (tt, (tt, (tt, (tt, (tt, (tt, (tt, (tt, (tt, (tt, (tt, (tt, tt))))))))))))), (Make'.u32-wt, (Make'.u64-wt, tt))))
               (Refusal.the-type .to (m .1 .1 .1 .1 .1 .1 .1 .1 .1 .1 .1 .1 .1 .1 .1 .1 .1 .1 .1 .1 .1 .1 .1 .1 .1 .1 .0)), tt) (wa .1)) λ m wa. Make.made-is
-              Writing.the-type Laws'5.the-laws ((Laws'11.val Refusal.the-type Laws'.the-laws (m .1 .1 .1 .1 .1 .1 .1 .1 .1 .1 .1 .1 .1 .1 .1 .1 .1 .1 .1 .1 .1
+              Writing.the-type Laws'5.the-laws ((Laws'11.val Refusal.the-type Laws.the-laws (m .1 .1 .1 .1 .1 .1 .1 .1 .1 .1 .1 .1 .1 .1 .1 .1 .1 .1 .1 .1 .1
               .1 .1 .1 .1 .1 .0)) ∷ []) (Writing.enum .make (Logic.inl (m .1 .1 .1 .1 .1 .1 .1 .1 .1 .1 .1 .1 .1 .1 .1 .1 .1 .1 .1 .1 .1 .1 .1 .1 .1 .1 .0,
-              tt))) (Signed.made-wt Refusal.the-field Laws'.the-field-laws (Make'.struct-wt Refusal.the-type Laws'.the-laws (Whole.enum-wt Cause.the-type
+              tt))) (Signed.made-wt Refusal.the-field Laws.the-field-laws (Make'.struct-wt Refusal.the-type Laws.the-laws (Whole.enum-wt Cause.the-type
               Laws'3.the-laws (tt, (tt, (tt, (tt, (tt, (tt, (tt, (tt, (tt, (tt, (tt, (tt, (tt, tt))))))))))))), (Make'.u32-wt, (Make'.u64-wt, tt))))
               (Refusal.the-type .to (m .1 .1 .1 .1 .1 .1 .1 .1 .1 .1 .1 .1 .1 .1 .1 .1 .1 .1 .1 .1 .1 .1 .1 .1 .1 .1 .0)), tt) (wa .1)) d17
           d19 : Typed.Typed 𝓤 H A 𝓣 E G21 b15 Δ2 (at19 bs)
@@ -3889,7 +3890,7 @@ module _ (claims· : Claims) where
               (Declared.row Cause.the-type) y0 Path'.refl)) d18
           d20 : Typed.Typed 𝓤 H A 𝓣 E G20 b16 Δ2 (at20 bs)
           d20 = Typed.s-seq 𝓤 H A W 𝓣 E G20 G21 b12 b15 Δ2 (Typed.both (s17 bs)) (at19 bs) (Plain.t-call-plain 𝓤 H A W 𝓣 0 ps·0 r·0 (claims· .0) (claims· .1)
-              "checker::early" (known .0) E (λ pos β. β) G20 (record { pos = 27; st = []; d = 0; at = λ x. x }, tt) 26 [] (Call.sub-id 𝓤 H A W (G20 .slots))
+              "answers::early" (known .0) E (λ pos β. β) G20 (record { pos = 27; st = []; d = 0; at = λ x. x }, tt) 26 [] (Call.sub-id 𝓤 H A W (G20 .slots))
               ((Yields.yields-copy 𝓤 H A W (λ ρ. Unit) (Declared.row Cause.the-type) Path'.refl (Copies.cEnum Cause.the-type Laws'3.the-laws Laws'3.the-copy
               .copy 𝓤 H A W) (Rows'.whole (Declared.row Cause.the-type)) (λ x. x) (λ x. x) (λ ρ told. Local.mem-whole 𝓤 H A W (Declared.row Cause.the-type) ρ)
               λ ρ told. Local.whole-mem 𝓤 H A W (Declared.row Cause.the-type) ρ, Path'.refl), tt) (Reads'.room-gone 𝓤 H A y3) tt Path'.refl) d19
@@ -3924,18 +3925,18 @@ module _ (claims· : Claims) where
               (Declared'.row Refusal.the-type) y3 Path'.refl)) d29
           d31 : Typed.Typed 𝓤 H A 𝓣 E G36 b26 Δ3 (at31 bs)
           d31 = Typed.s-seq 𝓤 H A W 𝓣 E G36 G37 b24 b25 Δ3 (Typed.pass T36 T37 (s32 bs)) (at30 bs) (Make.t-enum-make-wt 𝓤 H A W E 𝓣 Writing.the-type
-              Laws'5.the-laws Laws'5.the-plain tt G36 0 ((Scalar.oInt Syntax.w8 0) ∷ (Scalar.oAt 29 y3 (Laws'11.val Refusal.the-type Laws'.the-laws)) ∷ []) (λ
+              Laws'5.the-laws Laws'5.the-plain tt G36 0 ((Scalar.oInt Syntax.w8 0) ∷ (Scalar.oAt 29 y3 (Laws'11.val Refusal.the-type Laws.the-laws)) ∷ []) (λ
               m. Writing.enum .make (Logic.inl (m .1 .1 .1 .1 .1 .1 .1 .1 .1 .1 .1 .1 .1 .1 .1 .1 .1 .1 .1 .1 .1 .1 .1 .1 .1 .1 .1 .1 .1 .0, tt)))
-              (Reads'.room-gone 𝓤 H A y37) (tt, ((Reads.reads-struct 𝓤 H A W Refusal.the-type Laws'.the-laws, Path'.refl), tt)) Path'.refl (λ m wa.
-              Make.made-val Writing.the-type Laws'5.the-laws ((Laws'11.val Refusal.the-type Laws'.the-laws (m .1 .1 .1 .1 .1 .1 .1 .1 .1 .1 .1 .1 .1 .1 .1 .1
+              (Reads'.room-gone 𝓤 H A y37) (tt, ((Reads.reads-struct 𝓤 H A W Refusal.the-type Laws.the-laws, Path'.refl), tt)) Path'.refl (λ m wa.
+              Make.made-val Writing.the-type Laws'5.the-laws ((Laws'11.val Refusal.the-type Laws.the-laws (m .1 .1 .1 .1 .1 .1 .1 .1 .1 .1 .1 .1 .1 .1 .1 .1
               .1 .1 .1 .1 .1 .1 .1 .1 .1 .1 .1 .1 .1 .0)) ∷ []) (Writing.enum .make (Logic.inl (m .1 .1 .1 .1 .1 .1 .1 .1 .1 .1 .1 .1 .1 .1 .1 .1 .1 .1 .1 .1
-              .1 .1 .1 .1 .1 .1 .1 .1 .1 .0, tt))) (Signed.made-wt Refusal.the-field Laws'.the-field-laws (Make'.struct-wt Refusal.the-type Laws'.the-laws
+              .1 .1 .1 .1 .1 .1 .1 .1 .1 .0, tt))) (Signed.made-wt Refusal.the-field Laws.the-field-laws (Make'.struct-wt Refusal.the-type Laws.the-laws
               (Whole.enum-wt Cause.the-type Laws'3.the-laws (tt, (tt, (tt, (tt, (tt, (tt, (tt, (tt, (tt, (tt, (tt, (tt, (tt, tt))))))))))))), (Make'.u32-wt,
               (Make'.u64-wt, tt)))) (Refusal.the-type .to (m .1 .1 .1 .1 .1 .1 .1 .1 .1 .1 .1 .1 .1 .1 .1 .1 .1 .1 .1 .1 .1 .1 .1 .1 .1 .1 .1 .1 .1 .0)), tt)
-              (wa .1)) λ m wa. Make.made-is Writing.the-type Laws'5.the-laws ((Laws'11.val Refusal.the-type Laws'.the-laws (m .1 .1 .1 .1 .1 .1 .1 .1 .1 .1 .1
+              (wa .1)) λ m wa. Make.made-is Writing.the-type Laws'5.the-laws ((Laws'11.val Refusal.the-type Laws.the-laws (m .1 .1 .1 .1 .1 .1 .1 .1 .1 .1 .1
               .1 .1 .1 .1 .1 .1 .1 .1 .1 .1 .1 .1 .1 .1 .1 .1 .1 .1 .0)) ∷ []) (Writing.enum .make (Logic.inl (m .1 .1 .1 .1 .1 .1 .1 .1 .1 .1 .1 .1 .1 .1 .1
-              .1 .1 .1 .1 .1 .1 .1 .1 .1 .1 .1 .1 .1 .1 .0, tt))) (Signed.made-wt Refusal.the-field Laws'.the-field-laws (Make'.struct-wt Refusal.the-type
-              Laws'.the-laws (Whole.enum-wt Cause.the-type Laws'3.the-laws (tt, (tt, (tt, (tt, (tt, (tt, (tt, (tt, (tt, (tt, (tt, (tt, (tt, tt))))))))))))),
+              .1 .1 .1 .1 .1 .1 .1 .1 .1 .1 .1 .1 .1 .1 .0, tt))) (Signed.made-wt Refusal.the-field Laws.the-field-laws (Make'.struct-wt Refusal.the-type
+              Laws.the-laws (Whole.enum-wt Cause.the-type Laws'3.the-laws (tt, (tt, (tt, (tt, (tt, (tt, (tt, (tt, (tt, (tt, (tt, (tt, (tt, tt))))))))))))),
               (Make'.u32-wt, (Make'.u64-wt, tt)))) (Refusal.the-type .to (m .1 .1 .1 .1 .1 .1 .1 .1 .1 .1 .1 .1 .1 .1 .1 .1 .1 .1 .1 .1 .1 .1 .1 .1 .1 .1 .1
               .1 .1 .0)), tt) (wa .1)) d30
           d32 : Typed.Typed 𝓤 H A 𝓣 E G35 b26 Δ3 (at32 bs)
@@ -3943,7 +3944,7 @@ module _ (claims· : Claims) where
               (Declared.row Cause.the-type) y0 Path'.refl)) d31
           d33 : Typed.Typed 𝓤 H A 𝓣 E G34 b27 Δ3 (at33 bs)
           d33 = Typed.s-seq 𝓤 H A W 𝓣 E G34 G35 b23 b26 Δ3 (Typed.both (s30 bs)) (at32 bs) (Plain.t-call-plain 𝓤 H A W 𝓣 0 ps·0 r·0 (claims· .0) (claims· .1)
-              "checker::early" (known .0) E (λ pos β. β) G34 (record { pos = 30; st = []; d = 0; at = λ x. x }, tt) 29 [] (Call.sub-id 𝓤 H A W (G34 .slots))
+              "answers::early" (known .0) E (λ pos β. β) G34 (record { pos = 30; st = []; d = 0; at = λ x. x }, tt) 29 [] (Call.sub-id 𝓤 H A W (G34 .slots))
               ((Yields.yields-copy 𝓤 H A W (λ ρ. Unit) (Declared.row Cause.the-type) Path'.refl (Copies.cEnum Cause.the-type Laws'3.the-laws Laws'3.the-copy
               .copy 𝓤 H A W) (Rows'.whole (Declared.row Cause.the-type)) (λ x. x) (λ x. x) (λ ρ told. Local.mem-whole 𝓤 H A W (Declared.row Cause.the-type) ρ)
               λ ρ told. Local.whole-mem 𝓤 H A W (Declared.row Cause.the-type) ρ, Path'.refl), tt) (Reads'.room-gone 𝓤 H A y3) tt Path'.refl) d32
@@ -3982,18 +3983,18 @@ module _ (claims· : Claims) where
               (Declared'.row Refusal.the-type) y3 Path'.refl)) d43
           d45 : Typed.Typed 𝓤 H A 𝓣 E G50 b37 Δ4 (at45 bs)
           d45 = Typed.s-seq 𝓤 H A W 𝓣 E G50 G51 b35 b36 Δ4 (Typed.pass T50 T51 (s45 bs)) (at44 bs) (Make.t-enum-make-wt 𝓤 H A W E 𝓣 Writing.the-type
-              Laws'5.the-laws Laws'5.the-plain tt G50 0 ((Scalar.oInt Syntax.w8 0) ∷ (Scalar.oAt 31 y3 (Laws'11.val Refusal.the-type Laws'.the-laws)) ∷ []) (λ
+              Laws'5.the-laws Laws'5.the-plain tt G50 0 ((Scalar.oInt Syntax.w8 0) ∷ (Scalar.oAt 31 y3 (Laws'11.val Refusal.the-type Laws.the-laws)) ∷ []) (λ
               m. Writing.enum .make (Logic.inl (m .1 .1 .1 .1 .1 .1 .1 .1 .1 .1 .1 .1 .1 .1 .1 .1 .1 .1 .1 .1 .1 .1 .1 .1 .1 .1 .1 .1 .1 .1 .1 .0, tt)))
-              (Reads'.room-gone 𝓤 H A y37) (tt, ((Reads.reads-struct 𝓤 H A W Refusal.the-type Laws'.the-laws, Path'.refl), tt)) Path'.refl (λ m wa.
-              Make.made-val Writing.the-type Laws'5.the-laws ((Laws'11.val Refusal.the-type Laws'.the-laws (m .1 .1 .1 .1 .1 .1 .1 .1 .1 .1 .1 .1 .1 .1 .1 .1
+              (Reads'.room-gone 𝓤 H A y37) (tt, ((Reads.reads-struct 𝓤 H A W Refusal.the-type Laws.the-laws, Path'.refl), tt)) Path'.refl (λ m wa.
+              Make.made-val Writing.the-type Laws'5.the-laws ((Laws'11.val Refusal.the-type Laws.the-laws (m .1 .1 .1 .1 .1 .1 .1 .1 .1 .1 .1 .1 .1 .1 .1 .1
               .1 .1 .1 .1 .1 .1 .1 .1 .1 .1 .1 .1 .1 .1 .1 .0)) ∷ []) (Writing.enum .make (Logic.inl (m .1 .1 .1 .1 .1 .1 .1 .1 .1 .1 .1 .1 .1 .1 .1 .1 .1 .1
-              .1 .1 .1 .1 .1 .1 .1 .1 .1 .1 .1 .1 .1 .0, tt))) (Signed.made-wt Refusal.the-field Laws'.the-field-laws (Make'.struct-wt Refusal.the-type
-              Laws'.the-laws (Whole.enum-wt Cause.the-type Laws'3.the-laws (tt, (tt, (tt, (tt, (tt, (tt, (tt, (tt, (tt, (tt, (tt, (tt, (tt, tt))))))))))))),
+              .1 .1 .1 .1 .1 .1 .1 .1 .1 .1 .1 .1 .1 .0, tt))) (Signed.made-wt Refusal.the-field Laws.the-field-laws (Make'.struct-wt Refusal.the-type
+              Laws.the-laws (Whole.enum-wt Cause.the-type Laws'3.the-laws (tt, (tt, (tt, (tt, (tt, (tt, (tt, (tt, (tt, (tt, (tt, (tt, (tt, tt))))))))))))),
               (Make'.u32-wt, (Make'.u64-wt, tt)))) (Refusal.the-type .to (m .1 .1 .1 .1 .1 .1 .1 .1 .1 .1 .1 .1 .1 .1 .1 .1 .1 .1 .1 .1 .1 .1 .1 .1 .1 .1 .1
-              .1 .1 .1 .1 .0)), tt) (wa .1)) λ m wa. Make.made-is Writing.the-type Laws'5.the-laws ((Laws'11.val Refusal.the-type Laws'.the-laws (m .1 .1 .1
-              .1 .1 .1 .1 .1 .1 .1 .1 .1 .1 .1 .1 .1 .1 .1 .1 .1 .1 .1 .1 .1 .1 .1 .1 .1 .1 .1 .1 .0)) ∷ []) (Writing.enum .make (Logic.inl (m .1 .1 .1 .1 .1
-              .1 .1 .1 .1 .1 .1 .1 .1 .1 .1 .1 .1 .1 .1 .1 .1 .1 .1 .1 .1 .1 .1 .1 .1 .1 .1 .0, tt))) (Signed.made-wt Refusal.the-field Laws'.the-field-laws
-              (Make'.struct-wt Refusal.the-type Laws'.the-laws (Whole.enum-wt Cause.the-type Laws'3.the-laws (tt, (tt, (tt, (tt, (tt, (tt, (tt, (tt, (tt, (tt,
+              .1 .1 .1 .1 .0)), tt) (wa .1)) λ m wa. Make.made-is Writing.the-type Laws'5.the-laws ((Laws'11.val Refusal.the-type Laws.the-laws (m .1 .1 .1 .1
+              .1 .1 .1 .1 .1 .1 .1 .1 .1 .1 .1 .1 .1 .1 .1 .1 .1 .1 .1 .1 .1 .1 .1 .1 .1 .1 .1 .0)) ∷ []) (Writing.enum .make (Logic.inl (m .1 .1 .1 .1 .1 .1
+              .1 .1 .1 .1 .1 .1 .1 .1 .1 .1 .1 .1 .1 .1 .1 .1 .1 .1 .1 .1 .1 .1 .1 .1 .1 .0, tt))) (Signed.made-wt Refusal.the-field Laws.the-field-laws
+              (Make'.struct-wt Refusal.the-type Laws.the-laws (Whole.enum-wt Cause.the-type Laws'3.the-laws (tt, (tt, (tt, (tt, (tt, (tt, (tt, (tt, (tt, (tt,
               (tt, (tt, (tt, tt))))))))))))), (Make'.u32-wt, (Make'.u64-wt, tt)))) (Refusal.the-type .to (m .1 .1 .1 .1 .1 .1 .1 .1 .1 .1 .1 .1 .1 .1 .1 .1 .1
               .1 .1 .1 .1 .1 .1 .1 .1 .1 .1 .1 .1 .1 .1 .0)), tt) (wa .1)) d44
           d46 : Typed.Typed 𝓤 H A 𝓣 E G49 b37 Δ4 (at46 bs)
@@ -4001,7 +4002,7 @@ module _ (claims· : Claims) where
               (Declared.row Cause.the-type) y0 Path'.refl)) d45
           d47 : Typed.Typed 𝓤 H A 𝓣 E G48 b38 Δ4 (at47 bs)
           d47 = Typed.s-seq 𝓤 H A W 𝓣 E G48 G49 b34 b37 Δ4 (Typed.both (s43 bs)) (at46 bs) (Plain.t-call-plain 𝓤 H A W 𝓣 0 ps·0 r·0 (claims· .0) (claims· .1)
-              "checker::early" (known .0) E (λ pos β. β) G48 (record { pos = 32; st = []; d = 0; at = λ x. x }, tt) 31 [] (Call.sub-id 𝓤 H A W (G48 .slots))
+              "answers::early" (known .0) E (λ pos β. β) G48 (record { pos = 32; st = []; d = 0; at = λ x. x }, tt) 31 [] (Call.sub-id 𝓤 H A W (G48 .slots))
               ((Yields.yields-copy 𝓤 H A W (λ ρ. Unit) (Declared.row Cause.the-type) Path'.refl (Copies.cEnum Cause.the-type Laws'3.the-laws Laws'3.the-copy
               .copy 𝓤 H A W) (Rows'.whole (Declared.row Cause.the-type)) (λ x. x) (λ x. x) (λ ρ told. Local.mem-whole 𝓤 H A W (Declared.row Cause.the-type) ρ)
               λ ρ told. Local.whole-mem 𝓤 H A W (Declared.row Cause.the-type) ρ, Path'.refl), tt) (Reads'.room-gone 𝓤 H A y3) tt Path'.refl) d46
@@ -4040,18 +4041,18 @@ module _ (claims· : Claims) where
               (Declared'.row Refusal.the-type) y3 Path'.refl)) d57
           d59 : Typed.Typed 𝓤 H A 𝓣 E G64 b48 Δ5 (at59 bs)
           d59 = Typed.s-seq 𝓤 H A W 𝓣 E G64 G65 b46 b47 Δ5 (Typed.pass T64 T65 (s58 bs)) (at58 bs) (Make.t-enum-make-wt 𝓤 H A W E 𝓣 Writing.the-type
-              Laws'5.the-laws Laws'5.the-plain tt G64 0 ((Scalar.oInt Syntax.w8 0) ∷ (Scalar.oAt 33 y3 (Laws'11.val Refusal.the-type Laws'.the-laws)) ∷ []) (λ
+              Laws'5.the-laws Laws'5.the-plain tt G64 0 ((Scalar.oInt Syntax.w8 0) ∷ (Scalar.oAt 33 y3 (Laws'11.val Refusal.the-type Laws.the-laws)) ∷ []) (λ
               m. Writing.enum .make (Logic.inl (m .1 .1 .1 .1 .1 .1 .1 .1 .1 .1 .1 .1 .1 .1 .1 .1 .1 .1 .1 .1 .1 .1 .1 .1 .1 .1 .1 .1 .1 .1 .1 .1 .1 .0, tt)))
-              (Reads'.room-gone 𝓤 H A y37) (tt, ((Reads.reads-struct 𝓤 H A W Refusal.the-type Laws'.the-laws, Path'.refl), tt)) Path'.refl (λ m wa.
-              Make.made-val Writing.the-type Laws'5.the-laws ((Laws'11.val Refusal.the-type Laws'.the-laws (m .1 .1 .1 .1 .1 .1 .1 .1 .1 .1 .1 .1 .1 .1 .1 .1
+              (Reads'.room-gone 𝓤 H A y37) (tt, ((Reads.reads-struct 𝓤 H A W Refusal.the-type Laws.the-laws, Path'.refl), tt)) Path'.refl (λ m wa.
+              Make.made-val Writing.the-type Laws'5.the-laws ((Laws'11.val Refusal.the-type Laws.the-laws (m .1 .1 .1 .1 .1 .1 .1 .1 .1 .1 .1 .1 .1 .1 .1 .1
               .1 .1 .1 .1 .1 .1 .1 .1 .1 .1 .1 .1 .1 .1 .1 .1 .1 .0)) ∷ []) (Writing.enum .make (Logic.inl (m .1 .1 .1 .1 .1 .1 .1 .1 .1 .1 .1 .1 .1 .1 .1 .1
-              .1 .1 .1 .1 .1 .1 .1 .1 .1 .1 .1 .1 .1 .1 .1 .1 .1 .0, tt))) (Signed.made-wt Refusal.the-field Laws'.the-field-laws (Make'.struct-wt
-              Refusal.the-type Laws'.the-laws (Whole.enum-wt Cause.the-type Laws'3.the-laws (tt, (tt, (tt, (tt, (tt, (tt, (tt, (tt, (tt, (tt, (tt, (tt, (tt,
+              .1 .1 .1 .1 .1 .1 .1 .1 .1 .1 .1 .1 .1 .1 .1 .1 .1 .0, tt))) (Signed.made-wt Refusal.the-field Laws.the-field-laws (Make'.struct-wt
+              Refusal.the-type Laws.the-laws (Whole.enum-wt Cause.the-type Laws'3.the-laws (tt, (tt, (tt, (tt, (tt, (tt, (tt, (tt, (tt, (tt, (tt, (tt, (tt,
               tt))))))))))))), (Make'.u32-wt, (Make'.u64-wt, tt)))) (Refusal.the-type .to (m .1 .1 .1 .1 .1 .1 .1 .1 .1 .1 .1 .1 .1 .1 .1 .1 .1 .1 .1 .1 .1 .1
               .1 .1 .1 .1 .1 .1 .1 .1 .1 .1 .1 .0)), tt) (wa .1)) λ m wa. Make.made-is Writing.the-type Laws'5.the-laws ((Laws'11.val Refusal.the-type
-              Laws'.the-laws (m .1 .1 .1 .1 .1 .1 .1 .1 .1 .1 .1 .1 .1 .1 .1 .1 .1 .1 .1 .1 .1 .1 .1 .1 .1 .1 .1 .1 .1 .1 .1 .1 .1 .0)) ∷ []) (Writing.enum
+              Laws.the-laws (m .1 .1 .1 .1 .1 .1 .1 .1 .1 .1 .1 .1 .1 .1 .1 .1 .1 .1 .1 .1 .1 .1 .1 .1 .1 .1 .1 .1 .1 .1 .1 .1 .1 .0)) ∷ []) (Writing.enum
               .make (Logic.inl (m .1 .1 .1 .1 .1 .1 .1 .1 .1 .1 .1 .1 .1 .1 .1 .1 .1 .1 .1 .1 .1 .1 .1 .1 .1 .1 .1 .1 .1 .1 .1 .1 .1 .0, tt))) (Signed.made-wt
-              Refusal.the-field Laws'.the-field-laws (Make'.struct-wt Refusal.the-type Laws'.the-laws (Whole.enum-wt Cause.the-type Laws'3.the-laws (tt, (tt,
+              Refusal.the-field Laws.the-field-laws (Make'.struct-wt Refusal.the-type Laws.the-laws (Whole.enum-wt Cause.the-type Laws'3.the-laws (tt, (tt,
               (tt, (tt, (tt, (tt, (tt, (tt, (tt, (tt, (tt, (tt, (tt, tt))))))))))))), (Make'.u32-wt, (Make'.u64-wt, tt)))) (Refusal.the-type .to (m .1 .1 .1
               .1 .1 .1 .1 .1 .1 .1 .1 .1 .1 .1 .1 .1 .1 .1 .1 .1 .1 .1 .1 .1 .1 .1 .1 .1 .1 .1 .1 .1 .1 .0)), tt) (wa .1)) d58
           d60 : Typed.Typed 𝓤 H A 𝓣 E G63 b48 Δ5 (at60 bs)
@@ -4059,7 +4060,7 @@ module _ (claims· : Claims) where
               (Declared.row Cause.the-type) y0 Path'.refl)) d59
           d61 : Typed.Typed 𝓤 H A 𝓣 E G62 b49 Δ5 (at61 bs)
           d61 = Typed.s-seq 𝓤 H A W 𝓣 E G62 G63 b45 b48 Δ5 (Typed.both (s56 bs)) (at60 bs) (Plain.t-call-plain 𝓤 H A W 𝓣 0 ps·0 r·0 (claims· .0) (claims· .1)
-              "checker::early" (known .0) E (λ pos β. β) G62 (record { pos = 34; st = []; d = 0; at = λ x. x }, tt) 33 [] (Call.sub-id 𝓤 H A W (G62 .slots))
+              "answers::early" (known .0) E (λ pos β. β) G62 (record { pos = 34; st = []; d = 0; at = λ x. x }, tt) 33 [] (Call.sub-id 𝓤 H A W (G62 .slots))
               ((Yields.yields-copy 𝓤 H A W (λ ρ. Unit) (Declared.row Cause.the-type) Path'.refl (Copies.cEnum Cause.the-type Laws'3.the-laws Laws'3.the-copy
               .copy 𝓤 H A W) (Rows'.whole (Declared.row Cause.the-type)) (λ x. x) (λ x. x) (λ ρ told. Local.mem-whole 𝓤 H A W (Declared.row Cause.the-type) ρ)
               λ ρ told. Local.whole-mem 𝓤 H A W (Declared.row Cause.the-type) ρ, Path'.refl), tt) (Reads'.room-gone 𝓤 H A y3) tt Path'.refl) d60
@@ -4098,18 +4099,18 @@ module _ (claims· : Claims) where
               (Declared'.row Refusal.the-type) y3 Path'.refl)) d71
           d73 : Typed.Typed 𝓤 H A 𝓣 E G78 b59 Δ6 (at73 bs)
           d73 = Typed.s-seq 𝓤 H A W 𝓣 E G78 G79 b57 b58 Δ6 (Typed.pass T78 T79 (s71 bs)) (at72 bs) (Make.t-enum-make-wt 𝓤 H A W E 𝓣 Writing.the-type
-              Laws'5.the-laws Laws'5.the-plain tt G78 0 ((Scalar.oInt Syntax.w8 0) ∷ (Scalar.oAt 35 y3 (Laws'11.val Refusal.the-type Laws'.the-laws)) ∷ []) (λ
+              Laws'5.the-laws Laws'5.the-plain tt G78 0 ((Scalar.oInt Syntax.w8 0) ∷ (Scalar.oAt 35 y3 (Laws'11.val Refusal.the-type Laws.the-laws)) ∷ []) (λ
               m. Writing.enum .make (Logic.inl (m .1 .1 .1 .1 .1 .1 .1 .1 .1 .1 .1 .1 .1 .1 .1 .1 .1 .1 .1 .1 .1 .1 .1 .1 .1 .1 .1 .1 .1 .1 .1 .1 .1 .1 .1 .0,
-              tt))) (Reads'.room-gone 𝓤 H A y37) (tt, ((Reads.reads-struct 𝓤 H A W Refusal.the-type Laws'.the-laws, Path'.refl), tt)) Path'.refl (λ m wa.
-              Make.made-val Writing.the-type Laws'5.the-laws ((Laws'11.val Refusal.the-type Laws'.the-laws (m .1 .1 .1 .1 .1 .1 .1 .1 .1 .1 .1 .1 .1 .1 .1 .1
+              tt))) (Reads'.room-gone 𝓤 H A y37) (tt, ((Reads.reads-struct 𝓤 H A W Refusal.the-type Laws.the-laws, Path'.refl), tt)) Path'.refl (λ m wa.
+              Make.made-val Writing.the-type Laws'5.the-laws ((Laws'11.val Refusal.the-type Laws.the-laws (m .1 .1 .1 .1 .1 .1 .1 .1 .1 .1 .1 .1 .1 .1 .1 .1
               .1 .1 .1 .1 .1 .1 .1 .1 .1 .1 .1 .1 .1 .1 .1 .1 .1 .1 .1 .0)) ∷ []) (Writing.enum .make (Logic.inl (m .1 .1 .1 .1 .1 .1 .1 .1 .1 .1 .1 .1 .1 .1
-              .1 .1 .1 .1 .1 .1 .1 .1 .1 .1 .1 .1 .1 .1 .1 .1 .1 .1 .1 .1 .1 .0, tt))) (Signed.made-wt Refusal.the-field Laws'.the-field-laws (Make'.struct-wt
-              Refusal.the-type Laws'.the-laws (Whole.enum-wt Cause.the-type Laws'3.the-laws (tt, (tt, (tt, (tt, (tt, (tt, (tt, (tt, (tt, (tt, (tt, (tt, (tt,
+              .1 .1 .1 .1 .1 .1 .1 .1 .1 .1 .1 .1 .1 .1 .1 .1 .1 .1 .1 .1 .1 .0, tt))) (Signed.made-wt Refusal.the-field Laws.the-field-laws (Make'.struct-wt
+              Refusal.the-type Laws.the-laws (Whole.enum-wt Cause.the-type Laws'3.the-laws (tt, (tt, (tt, (tt, (tt, (tt, (tt, (tt, (tt, (tt, (tt, (tt, (tt,
               tt))))))))))))), (Make'.u32-wt, (Make'.u64-wt, tt)))) (Refusal.the-type .to (m .1 .1 .1 .1 .1 .1 .1 .1 .1 .1 .1 .1 .1 .1 .1 .1 .1 .1 .1 .1 .1 .1
               .1 .1 .1 .1 .1 .1 .1 .1 .1 .1 .1 .1 .1 .0)), tt) (wa .1)) λ m wa. Make.made-is Writing.the-type Laws'5.the-laws ((Laws'11.val Refusal.the-type
-              Laws'.the-laws (m .1 .1 .1 .1 .1 .1 .1 .1 .1 .1 .1 .1 .1 .1 .1 .1 .1 .1 .1 .1 .1 .1 .1 .1 .1 .1 .1 .1 .1 .1 .1 .1 .1 .1 .1 .0)) ∷ [])
+              Laws.the-laws (m .1 .1 .1 .1 .1 .1 .1 .1 .1 .1 .1 .1 .1 .1 .1 .1 .1 .1 .1 .1 .1 .1 .1 .1 .1 .1 .1 .1 .1 .1 .1 .1 .1 .1 .1 .0)) ∷ [])
               (Writing.enum .make (Logic.inl (m .1 .1 .1 .1 .1 .1 .1 .1 .1 .1 .1 .1 .1 .1 .1 .1 .1 .1 .1 .1 .1 .1 .1 .1 .1 .1 .1 .1 .1 .1 .1 .1 .1 .1 .1 .0,
-              tt))) (Signed.made-wt Refusal.the-field Laws'.the-field-laws (Make'.struct-wt Refusal.the-type Laws'.the-laws (Whole.enum-wt Cause.the-type
+              tt))) (Signed.made-wt Refusal.the-field Laws.the-field-laws (Make'.struct-wt Refusal.the-type Laws.the-laws (Whole.enum-wt Cause.the-type
               Laws'3.the-laws (tt, (tt, (tt, (tt, (tt, (tt, (tt, (tt, (tt, (tt, (tt, (tt, (tt, tt))))))))))))), (Make'.u32-wt, (Make'.u64-wt, tt))))
               (Refusal.the-type .to (m .1 .1 .1 .1 .1 .1 .1 .1 .1 .1 .1 .1 .1 .1 .1 .1 .1 .1 .1 .1 .1 .1 .1 .1 .1 .1 .1 .1 .1 .1 .1 .1 .1 .1 .1 .0)), tt) (wa
               .1)) d72
@@ -4118,7 +4119,7 @@ module _ (claims· : Claims) where
               (Declared.row Cause.the-type) y0 Path'.refl)) d73
           d75 : Typed.Typed 𝓤 H A 𝓣 E G76 b60 Δ6 (at75 bs)
           d75 = Typed.s-seq 𝓤 H A W 𝓣 E G76 G77 b56 b59 Δ6 (Typed.both (s69 bs)) (at74 bs) (Plain.t-call-plain 𝓤 H A W 𝓣 0 ps·0 r·0 (claims· .0) (claims· .1)
-              "checker::early" (known .0) E (λ pos β. β) G76 (record { pos = 36; st = []; d = 0; at = λ x. x }, tt) 35 [] (Call.sub-id 𝓤 H A W (G76 .slots))
+              "answers::early" (known .0) E (λ pos β. β) G76 (record { pos = 36; st = []; d = 0; at = λ x. x }, tt) 35 [] (Call.sub-id 𝓤 H A W (G76 .slots))
               ((Yields.yields-copy 𝓤 H A W (λ ρ. Unit) (Declared.row Cause.the-type) Path'.refl (Copies.cEnum Cause.the-type Laws'3.the-laws Laws'3.the-copy
               .copy 𝓤 H A W) (Rows'.whole (Declared.row Cause.the-type)) (λ x. x) (λ x. x) (λ ρ told. Local.mem-whole 𝓤 H A W (Declared.row Cause.the-type) ρ)
               λ ρ told. Local.whole-mem 𝓤 H A W (Declared.row Cause.the-type) ρ, Path'.refl), tt) (Reads'.room-gone 𝓤 H A y3) tt Path'.refl) d74
@@ -4160,23 +4161,22 @@ module _ (claims· : Claims) where
               A W (Declared'.row Refusal.the-type) y3 Path'.refl)) d86
           d88 : Typed.Typed 𝓤 H A 𝓣 E G131 b85 Δ7 (at88 bs)
           d88 = Typed.s-seq 𝓤 H A W 𝓣 E G131 G132 b83 b84 Δ7 (Typed.pass T131 T132 (s123 bs)) (at87 bs) (Make.t-enum-make-wt 𝓤 H A W E 𝓣 Writing.the-type
-              Laws'5.the-laws Laws'5.the-plain tt G131 0 ((Scalar.oInt Syntax.w8 0) ∷ (Scalar.oAt 49 y3 (Laws'11.val Refusal.the-type Laws'.the-laws)) ∷ [])
-              (λ m. Writing.enum .make (Logic.inl (m .1 .1 .1 .1 .1 .1 .1 .1 .1 .1 .1 .1 .1 .1 .1 .1 .1 .1 .1 .1 .1 .1 .1 .1 .1 .1 .1 .1 .1 .1 .1 .1 .1 .1 .1
-              .1 .1 .1 .1 .1 .1 .1 .1 .1 .1 .1 .1 .1 .1 .0, tt))) (Reads'.room-gone 𝓤 H A y37) (tt, ((Reads.reads-struct 𝓤 H A W Refusal.the-type
-              Laws'.the-laws, Path'.refl), tt)) Path'.refl (λ m wa. Make.made-val Writing.the-type Laws'5.the-laws ((Laws'11.val Refusal.the-type
-              Laws'.the-laws (m .1 .1 .1 .1 .1 .1 .1 .1 .1 .1 .1 .1 .1 .1 .1 .1 .1 .1 .1 .1 .1 .1 .1 .1 .1 .1 .1 .1 .1 .1 .1 .1 .1 .1 .1 .1 .1 .1 .1 .1 .1 .1
-              .1 .1 .1 .1 .1 .1 .1 .0)) ∷ []) (Writing.enum .make (Logic.inl (m .1 .1 .1 .1 .1 .1 .1 .1 .1 .1 .1 .1 .1 .1 .1 .1 .1 .1 .1 .1 .1 .1 .1 .1 .1 .1
-              .1 .1 .1 .1 .1 .1 .1 .1 .1 .1 .1 .1 .1 .1 .1 .1 .1 .1 .1 .1 .1 .1 .1 .0, tt))) (Signed.made-wt Refusal.the-field Laws'.the-field-laws
-              (Make'.struct-wt Refusal.the-type Laws'.the-laws (Whole.enum-wt Cause.the-type Laws'3.the-laws (tt, (tt, (tt, (tt, (tt, (tt, (tt, (tt, (tt, (tt,
-              (tt, (tt, (tt, tt))))))))))))), (Make'.u32-wt, (Make'.u64-wt, tt)))) (Refusal.the-type .to (m .1 .1 .1 .1 .1 .1 .1 .1 .1 .1 .1 .1 .1 .1 .1 .1 .1
-              .1 .1 .1 .1 .1 .1 .1 .1 .1 .1 .1 .1 .1 .1 .1 .1 .1 .1 .1 .1 .1 .1 .1 .1 .1 .1 .1 .1 .1 .1 .1 .1 .0)), tt) (wa .1)) λ m wa. Make.made-is
-              Writing.the-type Laws'5.the-laws ((Laws'11.val Refusal.the-type Laws'.the-laws (m .1 .1 .1 .1 .1 .1 .1 .1 .1 .1 .1 .1 .1 .1 .1 .1 .1 .1 .1 .1 .1
-              .1 .1 .1 .1 .1 .1 .1 .1 .1 .1 .1 .1 .1 .1 .1 .1 .1 .1 .1 .1 .1 .1 .1 .1 .1 .1 .1 .1 .0)) ∷ []) (Writing.enum .make (Logic.inl (m .1 .1 .1 .1 .1
-              .1 .1 .1 .1 .1 .1 .1 .1 .1 .1 .1 .1 .1 .1 .1 .1 .1 .1 .1 .1 .1 .1 .1 .1 .1 .1 .1 .1 .1 .1 .1 .1 .1 .1 .1 .1 .1 .1 .1 .1 .1 .1 .1 .1 .0, tt)))
-              (Signed.made-wt Refusal.the-field Laws'.the-field-laws (Make'.struct-wt Refusal.the-type Laws'.the-laws (Whole.enum-wt Cause.the-type
-              Laws'3.the-laws (tt, (tt, (tt, (tt, (tt, (tt, (tt, (tt, (tt, (tt, (tt, (tt, (tt, tt))))))))))))), (Make'.u32-wt, (Make'.u64-wt, tt))))
-              (Refusal.the-type .to (m .1 .1 .1 .1 .1 .1 .1 .1 .1 .1 .1 .1 .1 .1 .1 .1 .1 .1 .1 .1 .1 .1 .1 .1 .1 .1 .1 .1 .1 .1 .1 .1 .1 .1 .1 .1 .1 .1 .1 .1
-              .1 .1 .1 .1 .1 .1 .1 .1 .1 .0)), tt) (wa .1)) d87
+              Laws'5.the-laws Laws'5.the-plain tt G131 0 ((Scalar.oInt Syntax.w8 0) ∷ (Scalar.oAt 49 y3 (Laws'11.val Refusal.the-type Laws.the-laws)) ∷ []) (λ
+              m. Writing.enum .make (Logic.inl (m .1 .1 .1 .1 .1 .1 .1 .1 .1 .1 .1 .1 .1 .1 .1 .1 .1 .1 .1 .1 .1 .1 .1 .1 .1 .1 .1 .1 .1 .1 .1 .1 .1 .1 .1 .1
+              .1 .1 .1 .1 .1 .1 .1 .1 .1 .1 .1 .1 .1 .0, tt))) (Reads'.room-gone 𝓤 H A y37) (tt, ((Reads.reads-struct 𝓤 H A W Refusal.the-type Laws.the-laws,
+              Path'.refl), tt)) Path'.refl (λ m wa. Make.made-val Writing.the-type Laws'5.the-laws ((Laws'11.val Refusal.the-type Laws.the-laws (m .1 .1 .1 .1
+              .1 .1 .1 .1 .1 .1 .1 .1 .1 .1 .1 .1 .1 .1 .1 .1 .1 .1 .1 .1 .1 .1 .1 .1 .1 .1 .1 .1 .1 .1 .1 .1 .1 .1 .1 .1 .1 .1 .1 .1 .1 .1 .1 .1 .1 .0)) ∷
+              []) (Writing.enum .make (Logic.inl (m .1 .1 .1 .1 .1 .1 .1 .1 .1 .1 .1 .1 .1 .1 .1 .1 .1 .1 .1 .1 .1 .1 .1 .1 .1 .1 .1 .1 .1 .1 .1 .1 .1 .1 .1
+              .1 .1 .1 .1 .1 .1 .1 .1 .1 .1 .1 .1 .1 .1 .0, tt))) (Signed.made-wt Refusal.the-field Laws.the-field-laws (Make'.struct-wt Refusal.the-type
+              Laws.the-laws (Whole.enum-wt Cause.the-type Laws'3.the-laws (tt, (tt, (tt, (tt, (tt, (tt, (tt, (tt, (tt, (tt, (tt, (tt, (tt, tt))))))))))))),
+              (Make'.u32-wt, (Make'.u64-wt, tt)))) (Refusal.the-type .to (m .1 .1 .1 .1 .1 .1 .1 .1 .1 .1 .1 .1 .1 .1 .1 .1 .1 .1 .1 .1 .1 .1 .1 .1 .1 .1 .1
+              .1 .1 .1 .1 .1 .1 .1 .1 .1 .1 .1 .1 .1 .1 .1 .1 .1 .1 .1 .1 .1 .1 .0)), tt) (wa .1)) λ m wa. Make.made-is Writing.the-type Laws'5.the-laws
+              ((Laws'11.val Refusal.the-type Laws.the-laws (m .1 .1 .1 .1 .1 .1 .1 .1 .1 .1 .1 .1 .1 .1 .1 .1 .1 .1 .1 .1 .1 .1 .1 .1 .1 .1 .1 .1 .1 .1 .1 .1
+              .1 .1 .1 .1 .1 .1 .1 .1 .1 .1 .1 .1 .1 .1 .1 .1 .1 .0)) ∷ []) (Writing.enum .make (Logic.inl (m .1 .1 .1 .1 .1 .1 .1 .1 .1 .1 .1 .1 .1 .1 .1 .1
+              .1 .1 .1 .1 .1 .1 .1 .1 .1 .1 .1 .1 .1 .1 .1 .1 .1 .1 .1 .1 .1 .1 .1 .1 .1 .1 .1 .1 .1 .1 .1 .1 .1 .0, tt))) (Signed.made-wt Refusal.the-field
+              Laws.the-field-laws (Make'.struct-wt Refusal.the-type Laws.the-laws (Whole.enum-wt Cause.the-type Laws'3.the-laws (tt, (tt, (tt, (tt, (tt, (tt,
+              (tt, (tt, (tt, (tt, (tt, (tt, (tt, tt))))))))))))), (Make'.u32-wt, (Make'.u64-wt, tt)))) (Refusal.the-type .to (m .1 .1 .1 .1 .1 .1 .1 .1 .1 .1
+              .1 .1 .1 .1 .1 .1 .1 .1 .1 .1 .1 .1 .1 .1 .1 .1 .1 .1 .1 .1 .1 .1 .1 .1 .1 .1 .1 .1 .1 .1 .1 .1 .1 .1 .1 .1 .1 .1 .1 .0)), tt) (wa .1)) d87
           d89 : Typed.Typed 𝓤 H A 𝓣 E G130 b85 Δ7 (at89 bs)
           d89 = Typed.g-pre 𝓤 H A W 𝓣 E G130 G131 b85 Δ7 (Typed.pass T130 T131 (s122 bs)) (at88 bs) (Scalar.g-room 𝓤 H A W E G130 12 y13 (Local.room-whole 𝓤 H
               A W (Declared'.row Both.the-type) y13 Path'.refl)) d88
@@ -4720,7 +4720,7 @@ module _ (claims· : Claims) where
               Syntax.w8)) y39 1, Path'.refl, (Reads'.as-is 𝓤 H A (Mut.mslice NodeRecordT.row y24 13), Mut.reads-mslice 𝓤 H A W NodeRecordT.row y24 13,
               Path'.refl, (Reads'.as-is 𝓤 H A (Rows'.mref (Array'.Array (Array'.Array (Referent.rtF (Referent.fInt Syntax.w32)) 4) 32) y28 14),
               Reads'.reads-mref 𝓤 H A W (Array'.Array (Array'.Array (Referent.rtF (Referent.fInt Syntax.w32)) 4) 32) y28 14, Path'.refl, ((Yields.yields-copy
-              𝓤 H A W (λ ρ. Unit) (Declared'.row Loaded.the-type) Path'.refl (Copies.cStruct Loaded.the-type Laws.the-laws Laws.the-copy .copy 𝓤 H A W)
+              𝓤 H A W (λ ρ. Unit) (Declared'.row Loaded.the-type) Path'.refl (Copies.cStruct Loaded.the-type Laws'.the-laws Laws'.the-copy .copy 𝓤 H A W)
               (Rows'.whole (Declared'.row Loaded.the-type)) (λ x. x) (λ x. x) (λ ρ told. Local.mem-whole 𝓤 H A W (Declared'.row Loaded.the-type) ρ) λ ρ told.
               Local.whole-mem 𝓤 H A W (Declared'.row Loaded.the-type) ρ, Path'.refl), ((Scalar.reads-sc 𝓤 H A W Row.sBool, Path'.refl), tt))))))
               (Reads'.room-gone 𝓤 H A y18) (tt, (tt, (tt, tt))) Path'.refl) d217
@@ -4786,7 +4786,7 @@ module _ (claims· : Claims) where
               Syntax.w8)) y38 0, Path'.refl, (Reads'.as-is 𝓤 H A (Mut.mslice NodeRecordT.row y24 11), Mut.reads-mslice 𝓤 H A W NodeRecordT.row y24 11,
               Path'.refl, (Reads'.as-is 𝓤 H A (Rows'.mref (Array'.Array (Array'.Array (Referent.rtF (Referent.fInt Syntax.w32)) 4) 32) y28 12),
               Reads'.reads-mref 𝓤 H A W (Array'.Array (Array'.Array (Referent.rtF (Referent.fInt Syntax.w32)) 4) 32) y28 12, Path'.refl, ((Yields.yields-copy
-              𝓤 H A W (λ ρ. Unit) (Declared'.row Loaded.the-type) Path'.refl (Copies.cStruct Loaded.the-type Laws.the-laws Laws.the-copy .copy 𝓤 H A W)
+              𝓤 H A W (λ ρ. Unit) (Declared'.row Loaded.the-type) Path'.refl (Copies.cStruct Loaded.the-type Laws'.the-laws Laws'.the-copy .copy 𝓤 H A W)
               (Rows'.whole (Declared'.row Loaded.the-type)) (λ x. x) (λ x. x) (λ ρ told. Local.mem-whole 𝓤 H A W (Declared'.row Loaded.the-type) ρ) λ ρ told.
               Local.whole-mem 𝓤 H A W (Declared'.row Loaded.the-type) ρ, Path'.refl), ((Scalar.reads-sc 𝓤 H A W Row.sBool, Path'.refl), tt))))))
               (Reads'.room-gone 𝓤 H A y18) (tt, (tt, (tt, tt))) Path'.refl) d232
@@ -4911,12 +4911,12 @@ module _ (claims· : Claims) where
           d256 = Typed.s-seq 𝓤 H A W 𝓣 E G106 G107 b73 b188 Δ0 (Typed.both (s99 bs)) (at255 bs) (Plain.t-call-plain 𝓤 H A W 𝓣 0 ps·3 r·3 (claims· .6) (claims·
               .7) "combiner::both_loaded" (known .3) E (λ pos β. β) G106 (record { pos = 10; st = []; d = 0; at = λ x. x }, (record { pos = 11; st = []; d =
               0; at = λ x. x }, tt)) 12 [] (Call.sub-id 𝓤 H A W (G106 .slots)) ((Yields.yields-copy 𝓤 H A W (λ ρ. Unit) (Declared'.row Loaded.the-type)
-              Path'.refl (Copies.cStruct Loaded.the-type Laws.the-laws Laws.the-copy .copy 𝓤 H A W) (Rows'.whole (Declared'.row Loaded.the-type)) (λ x. x) (λ
-              x. x) (λ ρ told. Local.mem-whole 𝓤 H A W (Declared'.row Loaded.the-type) ρ) λ ρ told. Local.whole-mem 𝓤 H A W (Declared'.row Loaded.the-type) ρ,
-              Path'.refl), ((Yields.yields-copy 𝓤 H A W (λ ρ. Unit) (Declared'.row Loaded.the-type) Path'.refl (Copies.cStruct Loaded.the-type Laws.the-laws
-              Laws.the-copy .copy 𝓤 H A W) (Rows'.whole (Declared'.row Loaded.the-type)) (λ x. x) (λ x. x) (λ ρ told. Local.mem-whole 𝓤 H A W (Declared'.row
-              Loaded.the-type) ρ) λ ρ told. Local.whole-mem 𝓤 H A W (Declared'.row Loaded.the-type) ρ, Path'.refl), tt)) (Reads'.room-gone 𝓤 H A y13) tt
-              Path'.refl) d255
+              Path'.refl (Copies.cStruct Loaded.the-type Laws'.the-laws Laws'.the-copy .copy 𝓤 H A W) (Rows'.whole (Declared'.row Loaded.the-type)) (λ x. x)
+              (λ x. x) (λ ρ told. Local.mem-whole 𝓤 H A W (Declared'.row Loaded.the-type) ρ) λ ρ told. Local.whole-mem 𝓤 H A W (Declared'.row Loaded.the-type)
+              ρ, Path'.refl), ((Yields.yields-copy 𝓤 H A W (λ ρ. Unit) (Declared'.row Loaded.the-type) Path'.refl (Copies.cStruct Loaded.the-type
+              Laws'.the-laws Laws'.the-copy .copy 𝓤 H A W) (Rows'.whole (Declared'.row Loaded.the-type)) (λ x. x) (λ x. x) (λ ρ told. Local.mem-whole 𝓤 H A W
+              (Declared'.row Loaded.the-type) ρ) λ ρ told. Local.whole-mem 𝓤 H A W (Declared'.row Loaded.the-type) ρ, Path'.refl), tt)) (Reads'.room-gone 𝓤 H
+              A y13) tt Path'.refl) d255
           d257 : Typed.Typed 𝓤 H A 𝓣 E G105 b189 Δ0 (at257 bs)
           d257 = Typed.g-pre 𝓤 H A W 𝓣 E G105 G106 b189 Δ0 (λ Ψ. Ψ) (at256 bs) (Lifetime.g-forget 𝓤 H A W E G105 8 Row.dead Path'.refl) d256
           d258 : Typed.Typed 𝓤 H A 𝓣 E G104 b189 Δ0 (at258 bs)
@@ -7368,7 +7368,7 @@ module _ (claims· : Claims) where
               good; fits = record { n = record { fits = good .0 .1 }; op = record { fits = good .1 .0 .1 }; size = record { fits = good .1 .1 .0 .1 } }; pre =
               pre }
         module _ {M : Type 1} (𝓤 : URA.URA M) (H : Wp.Heap 𝓤) (A : Atoms.Atoms 𝓤) (W : Kit.Given 𝓤 H A) (𝓣 : Wp.Tables 𝓤 H) (known0 : Plain.Known 𝓤 H A W 𝓣 0
-            ps·0 r·0 (claims· .0) (claims· .1) "checker::early") (known1 : Plain.Known 𝓤 H A W 𝓣 2 ps·1 r·1 (claims· .2) (claims· .3) "blocks::load") (known2
+            ps·0 r·0 (claims· .0) (claims· .1) "answers::early") (known1 : Plain.Known 𝓤 H A W 𝓣 2 ps·1 r·1 (claims· .2) (claims· .3) "blocks::load") (known2
             : Plain.Known 𝓤 H A W 𝓣 1 ps·2 r·2 (claims· .4) (claims· .5) "record_tables::clear_writer_records") (known3 : Plain.Known 𝓤 H A W 𝓣 0 ps·3 r·3
             (claims· .6) (claims· .7) "combiner::both_loaded") (known4 : Plain.Known 𝓤 H A W 𝓣 1 ps·4 r·4 (claims· .8) (claims· .9) "combiner::clear_all")
             (known5 : Plain.Known 𝓤 H A W 𝓣 0 ps·5 r·5 (claims· .10) (claims· .11) "combiner::refusal_of") (known6 : Plain.Known 𝓤 H A W 𝓣 0 ps·6 r·6 (claims·

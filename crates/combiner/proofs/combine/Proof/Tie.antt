@@ -1,11 +1,11 @@
 -- Generated: the needs of combine at its contract, and how its theorem closes.
--- From 185595387c5a0c0f, as 48a6d7fe7779f0ac.
+-- From 042f7a708d9d96e5, as d114ee13f0f1fdc9.
 use borrow.Fn.Run
 use borrow.Fn.Written
 use contract.Running.{givenOf, tablesOf}
-use Rattle.checker.proofs.early.Reads as early-reads
-use Rattle.checker.proofs.early.Met as early-met
-use Rattle.checker.proofs.early.Symbol as early-symbol
+use Rattle.answers.proofs.early.Reads as early-reads
+use Rattle.answers.proofs.early.Met as early-met
+use Rattle.answers.proofs.early.Symbol as early-symbol
 use Rattle.blocks.proofs.Lifted.load as load-reads
 use Rattle.blocks.proofs.load.Met as load-met
 use Rattle.blocks.proofs.load.Symbol as load-symbol
@@ -171,7 +171,7 @@ module _ {M : Type 1} where
   close closed 𝓤 H 𝓜 𝓖 𝓡 =
       Written.close 6 self.ps self.r self.Ghost self.requires self.ensures self.pre-read self.Pinned self.Owned self.post-read record { M = M; 𝓤 = 𝓤; H = H; 𝓜 = 𝓜; 𝓖 = 𝓖; 𝓡 = 𝓡 } code.env Key.name code.function (code.unfolded 𝓤 H 𝓜 𝓡)
       (λ κs a g. tt) (λ κs. self.owns κs record { M = M; 𝓤 = 𝓤; H = H; 𝓜 = 𝓜; 𝓖 = 𝓖; 𝓡 = 𝓡 }) (self.passes record { M = M; 𝓤 = 𝓤; H = H; 𝓜 = 𝓜; 𝓖 = 𝓖; 𝓡 = 𝓡 }) λ g. closed 𝓤 H (𝓖 .A) (givenOf 𝓤 H 𝓜 𝓖) (Run.Over 𝓤 H 𝓜 𝓖 𝓡 code.env)
-      (early-reads.known record { M = M; 𝓤 = 𝓤; H = H; 𝓜 = 𝓜; 𝓖 = 𝓖; 𝓡 = 𝓡 } code.env early-symbol.name early-symbol.routine code.calls-checker·early (early-met.met 𝓤 H 𝓜 𝓖 𝓡))
+      (early-reads.known record { M = M; 𝓤 = 𝓤; H = H; 𝓜 = 𝓜; 𝓖 = 𝓖; 𝓡 = 𝓡 } code.env early-symbol.name early-symbol.routine code.calls-answers·early (early-met.met 𝓤 H 𝓜 𝓖 𝓡))
       (load-reads.known record { M = M; 𝓤 = 𝓤; H = H; 𝓜 = 𝓜; 𝓖 = 𝓖; 𝓡 = 𝓡 } code.env load-symbol.name load-symbol.routine code.calls-blocks·load (load-met.met 𝓤 H 𝓜 𝓖 𝓡))
       (clear-writer-records-reads.known record { M = M; 𝓤 = 𝓤; H = H; 𝓜 = 𝓜; 𝓖 = 𝓖; 𝓡 = 𝓡 } code.env clear-writer-records-symbol.name clear-writer-records-symbol.routine code.calls-record-tables·clear-writer-records (clear-writer-records-met.met 𝓤 H 𝓜 𝓖 𝓡))
       (both-loaded-reads.known record { M = M; 𝓤 = 𝓤; H = H; 𝓜 = 𝓜; 𝓖 = 𝓖; 𝓡 = 𝓡 } code.env both-loaded-symbol.name both-loaded-symbol.routine code.calls-combiner·both-loaded (both-loaded-met.met 𝓤 H 𝓜 𝓖 𝓡))

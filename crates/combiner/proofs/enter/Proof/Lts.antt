@@ -1,25 +1,25 @@
 -- Generated: the derivation of a body.
--- From 185595387c5a0c0f, as 489713826c202711.
+-- From 042f7a708d9d96e5, as c4e3f24db7b5d002.
 use Prim.Native.Nat
 use Rattle.blocks.proofs.Block
 use Rattle.blocks.proofs.Block.Laws
 use Rattle.blocks.proofs.Loaded
 use Rattle.blocks.proofs.Loaded.Laws as Laws'
+use Rattle.cursors.proofs.Cursor
+use Rattle.cursors.proofs.Cursor.Laws as Laws''
+use Rattle.cursors.proofs.Pair
+use Rattle.cursors.proofs.Pair.Laws as Laws'3
+use Rattle.cursors.proofs.Run
+use Rattle.cursors.proofs.Run.Laws as Laws'4
 use Rattle.elements.proofs.Context
-use Rattle.elements.proofs.Context.Laws as Laws''
+use Rattle.elements.proofs.Context.Laws as Laws'5
 use Rattle.elements.proofs.Ref
-use Rattle.elements.proofs.Ref.Laws as Laws'3
+use Rattle.elements.proofs.Ref.Laws as Laws'6
 use Rattle.node_records.proofs.Tables.NodeRecord as NodeRecordT
 use Rattle.operands.proofs.Begun
-use Rattle.operands.proofs.Begun.Laws as Laws'4
+use Rattle.operands.proofs.Begun.Laws as Laws'7
 use Rattle.operands.proofs.Operand
-use Rattle.operands.proofs.Operand.Laws as Laws'5
-use Rattle.reader.proofs.Cursor
-use Rattle.reader.proofs.Cursor.Laws as Laws'6
-use Rattle.reader.proofs.Pair
-use Rattle.reader.proofs.Pair.Laws as Laws'7
-use Rattle.reader.proofs.Run
-use Rattle.reader.proofs.Run.Laws as Laws'8
+use Rattle.operands.proofs.Operand.Laws as Laws'8
 use borrow.Author.Called
 use borrow.Enum.Whole
 use borrow.Fn.Any
@@ -91,8 +91,8 @@ y0 = Syntax.tyInt Syntax.w32
 abbrev y1 : Syntax.Ty
 y1 = Syntax.tyStruct (101 ∷ 108 ∷ 101 ∷ 109 ∷ 101 ∷ 110 ∷ 116 ∷ 115 ∷ 58 ∷ 58 ∷ 82 ∷ 101 ∷ 102 ∷ []) (Syntax.tcons y0 (Syntax.tcons y0 Syntax.tnil))
 abbrev y2 : Syntax.Ty
-y2 = Syntax.tyStruct (114 ∷ 101 ∷ 97 ∷ 100 ∷ 101 ∷ 114 ∷ 58 ∷ 58 ∷ 80 ∷ 97 ∷ 105 ∷ 114 ∷ []) (Syntax.tcons Syntax.tyBool (Syntax.tcons y1 (Syntax.tcons y1
-    Syntax.tnil)))
+y2 = Syntax.tyStruct (99 ∷ 117 ∷ 114 ∷ 115 ∷ 111 ∷ 114 ∷ 115 ∷ 58 ∷ 58 ∷ 80 ∷ 97 ∷ 105 ∷ 114 ∷ []) (Syntax.tcons Syntax.tyBool (Syntax.tcons y1 (Syntax.tcons
+    y1 Syntax.tnil)))
 abbrev y3 : Syntax.Ty
 y3 = Syntax.tyInt Syntax.w64
 abbrev y4 : Syntax.Ty
@@ -100,10 +100,11 @@ y4 = Syntax.tyEnum (101 ∷ 108 ∷ 101 ∷ 109 ∷ 101 ∷ 110 ∷ 116 ∷ 115 
     (Syntax.ttcons Syntax.tnil (Syntax.ttcons Syntax.tnil (Syntax.ttcons Syntax.tnil (Syntax.ttcons Syntax.tnil (Syntax.ttcons Syntax.tnil (Syntax.ttcons
     Syntax.tnil Syntax.ttnil)))))))
 abbrev y5 : Syntax.Ty
-y5 = Syntax.tyStruct (114 ∷ 101 ∷ 97 ∷ 100 ∷ 101 ∷ 114 ∷ 58 ∷ 58 ∷ 82 ∷ 117 ∷ 110 ∷ []) (Syntax.tcons y1 (Syntax.tcons y2 (Syntax.tcons y3 (Syntax.tcons y3
-    (Syntax.tcons y0 (Syntax.tcons y4 (Syntax.tcons Syntax.tyBool Syntax.tnil)))))))
+y5 = Syntax.tyStruct (99 ∷ 117 ∷ 114 ∷ 115 ∷ 111 ∷ 114 ∷ 115 ∷ 58 ∷ 58 ∷ 82 ∷ 117 ∷ 110 ∷ []) (Syntax.tcons y1 (Syntax.tcons y2 (Syntax.tcons y3 (Syntax.tcons
+    y3 (Syntax.tcons y0 (Syntax.tcons y4 (Syntax.tcons Syntax.tyBool Syntax.tnil)))))))
 abbrev y6 : Syntax.Ty
-y6 = Syntax.tyStruct (114 ∷ 101 ∷ 97 ∷ 100 ∷ 101 ∷ 114 ∷ 58 ∷ 58 ∷ 67 ∷ 117 ∷ 114 ∷ 115 ∷ 111 ∷ 114 ∷ []) (Syntax.tcons y5 (Syntax.tcons y3 Syntax.tnil))
+y6 = Syntax.tyStruct (99 ∷ 117 ∷ 114 ∷ 115 ∷ 111 ∷ 114 ∷ 115 ∷ 58 ∷ 58 ∷ 67 ∷ 117 ∷ 114 ∷ 115 ∷ 111 ∷ 114 ∷ []) (Syntax.tcons y5 (Syntax.tcons y3
+    Syntax.tnil))
 abbrev y7 : Syntax.Ty
 y7 = Syntax.tyStruct (98 ∷ 108 ∷ 111 ∷ 99 ∷ 107 ∷ 115 ∷ 58 ∷ 58 ∷ 66 ∷ 108 ∷ 111 ∷ 99 ∷ 107 ∷ []) (Syntax.tcons y6 (Syntax.tcons y3 (Syntax.tcons y3
     (Syntax.tcons y0 (Syntax.tcons Syntax.tyBool (Syntax.tcons Syntax.tyBool Syntax.tnil))))))
@@ -137,13 +138,13 @@ y19 = Syntax.tyEnum (101 ∷ 108 ∷ 101 ∷ 109 ∷ 101 ∷ 110 ∷ 116 ∷ 115
     (Syntax.ttcons Syntax.tnil (Syntax.ttcons Syntax.tnil (Syntax.ttcons Syntax.tnil (Syntax.ttcons Syntax.tnil (Syntax.ttcons Syntax.tnil (Syntax.ttcons
     Syntax.tnil Syntax.ttnil)))))))))))))
 abbrev y20 : Syntax.Ty
-y20 = Syntax.tyStruct (99 ∷ 104 ∷ 101 ∷ 99 ∷ 107 ∷ 101 ∷ 114 ∷ 58 ∷ 58 ∷ 82 ∷ 101 ∷ 102 ∷ 117 ∷ 115 ∷ 97 ∷ 108 ∷ []) (Syntax.tcons y19 (Syntax.tcons y0
+y20 = Syntax.tyStruct (97 ∷ 110 ∷ 115 ∷ 119 ∷ 101 ∷ 114 ∷ 115 ∷ 58 ∷ 58 ∷ 82 ∷ 101 ∷ 102 ∷ 117 ∷ 115 ∷ 97 ∷ 108 ∷ []) (Syntax.tcons y19 (Syntax.tcons y0
     (Syntax.tcons y3 Syntax.tnil)))
 abbrev y21 : Syntax.Ty
-y21 = Syntax.tyStruct (99 ∷ 104 ∷ 101 ∷ 99 ∷ 107 ∷ 101 ∷ 114 ∷ 58 ∷ 58 ∷ 67 ∷ 104 ∷ 101 ∷ 99 ∷ 107 ∷ 101 ∷ 100 ∷ []) (Syntax.tcons y0 (Syntax.tcons y3
+y21 = Syntax.tyStruct (97 ∷ 110 ∷ 115 ∷ 119 ∷ 101 ∷ 114 ∷ 115 ∷ 58 ∷ 58 ∷ 67 ∷ 104 ∷ 101 ∷ 99 ∷ 107 ∷ 101 ∷ 100 ∷ []) (Syntax.tcons y0 (Syntax.tcons y3
     (Syntax.tcons Syntax.tyBool Syntax.tnil)))
 abbrev y22 : Syntax.Ty
-y22 = Syntax.tyEnum (99 ∷ 104 ∷ 101 ∷ 99 ∷ 107 ∷ 101 ∷ 114 ∷ 58 ∷ 58 ∷ 67 ∷ 104 ∷ 101 ∷ 99 ∷ 107 ∷ 105 ∷ 110 ∷ 103 ∷ []) (Syntax.ttcons (Syntax.tcons y20
+y22 = Syntax.tyEnum (97 ∷ 110 ∷ 115 ∷ 119 ∷ 101 ∷ 114 ∷ 115 ∷ 58 ∷ 58 ∷ 67 ∷ 104 ∷ 101 ∷ 99 ∷ 107 ∷ 105 ∷ 110 ∷ 103 ∷ []) (Syntax.ttcons (Syntax.tcons y20
     Syntax.tnil) (Syntax.ttcons (Syntax.tcons y21 Syntax.tnil) Syntax.ttnil))
 abbrev y23 : Syntax.Ty
 y23 = Syntax.tyStruct (98 ∷ 108 ∷ 111 ∷ 99 ∷ 107 ∷ 115 ∷ 58 ∷ 58 ∷ 76 ∷ 111 ∷ 97 ∷ 100 ∷ 101 ∷ 100 ∷ []) (Syntax.tcons y22 (Syntax.tcons y7 (Syntax.tcons
@@ -220,10 +221,10 @@ ps = (Num.pNum Syntax.w32) ∷ (ShrSlice.pShrS (Referent.rtF (Referent.fInt Synt
     Laws'.the-copy 𝓤 H A W; lawful = Laws'9.lawful Loaded.the-type Laws'.the-laws 𝓤 H A W; makes = Laws'9.makes Loaded.the-type Laws'.the-plain 𝓤 H A; in-mem
     = Local.mem-whole 𝓤 H A W (Declared.row Loaded.the-type); of-mem = Local.whole-mem 𝓤 H A W (Declared.row Loaded.the-type) }) ∷ Bool.pBool ∷ []
 abbrev pub r : Kinds.RK 3
-r = Value.rVal record { ty = Declared.row Begun.the-type; one = Path'.refl; val = Laws'9.val Begun.the-type Laws'4.the-laws; tells = Laws'9.tells
-    Begun.the-type Laws'4.the-laws; still = Laws'9.still Begun.the-type Laws'4.the-copy Exit.yes; row = Rows.whole (Declared.row Begun.the-type); rd = λ x. x;
-    mk = λ x. x } λ M 𝓤 H A W. record { copies = Laws'9.copy Begun.the-type Laws'4.the-copy 𝓤 H A W; lawful = Laws'9.lawful Begun.the-type Laws'4.the-laws 𝓤 H
-    A W; makes = Laws'9.makes Begun.the-type Laws'4.the-plain 𝓤 H A; in-mem = Local.mem-whole 𝓤 H A W (Declared.row Begun.the-type); of-mem = Local.whole-mem
+r = Value.rVal record { ty = Declared.row Begun.the-type; one = Path'.refl; val = Laws'9.val Begun.the-type Laws'7.the-laws; tells = Laws'9.tells
+    Begun.the-type Laws'7.the-laws; still = Laws'9.still Begun.the-type Laws'7.the-copy Exit.yes; row = Rows.whole (Declared.row Begun.the-type); rd = λ x. x;
+    mk = λ x. x } λ M 𝓤 H A W. record { copies = Laws'9.copy Begun.the-type Laws'7.the-copy 𝓤 H A W; lawful = Laws'9.lawful Begun.the-type Laws'7.the-laws 𝓤 H
+    A W; makes = Laws'9.makes Begun.the-type Laws'7.the-plain 𝓤 H A; in-mem = Local.mem-whole 𝓤 H A W (Declared.row Begun.the-type); of-mem = Local.whole-mem
     𝓤 H A W (Declared.row Begun.the-type) }
 abbrev pub xs : List Syntax.Ty
 xs = Syntax.tyBool ∷ y7 ∷ y8 ∷ y8 ∷ Syntax.tyBool ∷ y9 ∷ y10 ∷ y13 ∷ []
@@ -233,10 +234,10 @@ abbrev pub ps·0 : List (Kinds.PK 3)
 ps·0 = (Num.pNum Syntax.w32) ∷ (ShrSlice.pShrS (Referent.rtF (Referent.fInt Syntax.w8)) 0 tt) ∷ (MutSlice.pMutS NodeRecordT.row 1 tt) ∷ (Kinds.pMut
     (Array.Array (Array.Array (Referent.rtF (Referent.fInt Syntax.w32)) 4) 32) 2 tt) ∷ []
 abbrev pub r·0 : Kinds.RK 3
-r·0 = Value.rVal record { ty = Declared.row Begun.the-type; one = Path'.refl; val = Laws'9.val Begun.the-type Laws'4.the-laws; tells = Laws'9.tells
-    Begun.the-type Laws'4.the-laws; still = Laws'9.still Begun.the-type Laws'4.the-copy Exit.yes; row = Rows.whole (Declared.row Begun.the-type); rd = λ x. x;
-    mk = λ x. x } λ M 𝓤 H A W. record { copies = Laws'9.copy Begun.the-type Laws'4.the-copy 𝓤 H A W; lawful = Laws'9.lawful Begun.the-type Laws'4.the-laws 𝓤 H
-    A W; makes = Laws'9.makes Begun.the-type Laws'4.the-plain 𝓤 H A; in-mem = Local.mem-whole 𝓤 H A W (Declared.row Begun.the-type); of-mem = Local.whole-mem
+r·0 = Value.rVal record { ty = Declared.row Begun.the-type; one = Path'.refl; val = Laws'9.val Begun.the-type Laws'7.the-laws; tells = Laws'9.tells
+    Begun.the-type Laws'7.the-laws; still = Laws'9.still Begun.the-type Laws'7.the-copy Exit.yes; row = Rows.whole (Declared.row Begun.the-type); rd = λ x. x;
+    mk = λ x. x } λ M 𝓤 H A W. record { copies = Laws'9.copy Begun.the-type Laws'7.the-copy 𝓤 H A W; lawful = Laws'9.lawful Begun.the-type Laws'7.the-laws 𝓤 H
+    A W; makes = Laws'9.makes Begun.the-type Laws'7.the-plain 𝓤 H A; in-mem = Local.mem-whole 𝓤 H A W (Declared.row Begun.the-type); of-mem = Local.whole-mem
     𝓤 H A W (Declared.row Begun.the-type) }
 abbrev pub hs : List Syntax.Home
 hs = Syntax.valueLocal ∷ Syntax.valueLocal ∷ Syntax.valueLocal ∷ Syntax.valueLocal ∷ Syntax.valueLocal ∷ Syntax.valueLocal ∷ Syntax.valueLocal ∷
@@ -910,15 +911,15 @@ module _ (claims· : Claims) where
               (Declared.row Block.the-type) y7 Path'.refl)) d26
           d28 : Typed.Typed 𝓤 H A 𝓣 E G30 b18 Δ2 (at28 bs)
           d28 = Typed.s-seq 𝓤 H A W 𝓣 E G30 G31 b16 b17 Δ2 (Typed.pass T30 T31 (s27 bs)) (at27 bs) (Make.t-struct-make 𝓤 H A W E 𝓣 (Apart.apartT
-              Begun.the-type) Laws'4.the-laws Laws'4.the-plain G30 0 ((Scalar.oAt 9 y8 (Laws'9.val Operand.the-type Laws'5.the-laws)) ∷ (Scalar.oAt 8 y7
+              Begun.the-type) Laws'7.the-laws Laws'7.the-plain G30 0 ((Scalar.oAt 9 y8 (Laws'9.val Operand.the-type Laws'8.the-laws)) ∷ (Scalar.oAt 8 y7
               (Laws'9.val Block.the-type Laws.the-laws)) ∷ []) (λ m. (m .1 .1 .1 .1 .1 .1 .1 .1 .1 .0, (m .1 .1 .1 .1 .1 .1 .1 .1 .0, tt))) (Reads'.room-gone
-              𝓤 H A y14) ((Reads.reads-struct 𝓤 H A W Operand.the-type Laws'5.the-laws, Path'.refl), ((Reads.reads-struct 𝓤 H A W Block.the-type
-              Laws.the-laws, Path'.refl), tt)) Path'.refl (λ u. Path'.refl) λ m. Make.is-wt (Apart.apartT Begun.the-type) Laws'4.the-laws (Make.struct-wt
-              Operand.the-type Laws'5.the-laws (Make.bool-wt, (Make.u32-wt, (Make.bool-wt, tt))), (Make.struct-wt Block.the-type Laws.the-laws (Make.struct-wt
-              Cursor.the-type Laws'6.the-laws (Make.struct-wt Run.the-type Laws'8.the-laws (Make.struct-wt Ref.the-type Laws'3.the-laws (Make.u32-wt,
-              (Make.u32-wt, tt)), (Make.struct-wt Pair.the-type Laws'7.the-laws (Make.bool-wt, (Make.struct-wt Ref.the-type Laws'3.the-laws (Make.u32-wt,
-              (Make.u32-wt, tt)), (Make.struct-wt Ref.the-type Laws'3.the-laws (Make.u32-wt, (Make.u32-wt, tt)), tt))), (Make.u64-wt, (Make.u64-wt,
-              (Make.u32-wt, (Whole.enum-wt Context.the-type Laws''.the-laws (tt, (tt, (tt, (tt, (tt, (tt, (tt, tt))))))), (Make.bool-wt, tt))))))),
+              𝓤 H A y14) ((Reads.reads-struct 𝓤 H A W Operand.the-type Laws'8.the-laws, Path'.refl), ((Reads.reads-struct 𝓤 H A W Block.the-type
+              Laws.the-laws, Path'.refl), tt)) Path'.refl (λ u. Path'.refl) λ m. Make.is-wt (Apart.apartT Begun.the-type) Laws'7.the-laws (Make.struct-wt
+              Operand.the-type Laws'8.the-laws (Make.bool-wt, (Make.u32-wt, (Make.bool-wt, tt))), (Make.struct-wt Block.the-type Laws.the-laws (Make.struct-wt
+              Cursor.the-type Laws''.the-laws (Make.struct-wt Run.the-type Laws'4.the-laws (Make.struct-wt Ref.the-type Laws'6.the-laws (Make.u32-wt,
+              (Make.u32-wt, tt)), (Make.struct-wt Pair.the-type Laws'3.the-laws (Make.bool-wt, (Make.struct-wt Ref.the-type Laws'6.the-laws (Make.u32-wt,
+              (Make.u32-wt, tt)), (Make.struct-wt Ref.the-type Laws'6.the-laws (Make.u32-wt, (Make.u32-wt, tt)), tt))), (Make.u64-wt, (Make.u64-wt,
+              (Make.u32-wt, (Whole.enum-wt Context.the-type Laws'5.the-laws (tt, (tt, (tt, (tt, (tt, (tt, (tt, tt))))))), (Make.bool-wt, tt))))))),
               (Make.u64-wt, tt)), (Make.u64-wt, (Make.u64-wt, (Make.u32-wt, (Make.bool-wt, (Make.bool-wt, tt)))))), tt)) (m .1 .1 .1 .1 .1 .1 .1 .1 .1 .0, (m
               .1 .1 .1 .1 .1 .1 .1 .1 .0, tt))) d27
           d29 : Typed.Typed 𝓤 H A 𝓣 E G29 b18 Δ2 (at29 bs)
@@ -927,9 +928,9 @@ module _ (claims· : Claims) where
               Operand.the-type (Operand.struct .Ghost) (Operand.struct .make) (λ v g. Path'.refl) ρ v tt b) d28
           d30 : Typed.Typed 𝓤 H A 𝓣 E G28 b19 Δ2 (at30 bs)
           d30 = Typed.s-seq 𝓤 H A W 𝓣 E G28 G29 b15 b18 Δ2 (Typed.pass T28 T29 (s25 bs)) (at29 bs) (Make.t-struct-make 𝓤 H A W E 𝓣 (Apart.apartT
-              Operand.the-type) Laws'5.the-laws Laws'5.the-plain G28 9 ((Scalar.oBool Bool'.false) ∷ (Scalar.oInt Syntax.w32 0) ∷ (Scalar.oBool Bool'.false) ∷
+              Operand.the-type) Laws'8.the-laws Laws'8.the-plain G28 9 ((Scalar.oBool Bool'.false) ∷ (Scalar.oInt Syntax.w32 0) ∷ (Scalar.oBool Bool'.false) ∷
               []) (λ m. (Bool'.false, (0, (Bool'.false, tt)))) (Reads'.room-gone 𝓤 H A y8) (tt, (tt, (tt, tt))) Path'.refl (λ u. Path'.refl) λ m. Make.is-wt
-              (Apart.apartT Operand.the-type) Laws'5.the-laws (Make.bool-wt, (Make.u32-wt, (Make.bool-wt, tt))) (Bool'.false, (0, (Bool'.false, tt)))) d29
+              (Apart.apartT Operand.the-type) Laws'8.the-laws (Make.bool-wt, (Make.u32-wt, (Make.bool-wt, tt))) (Bool'.false, (0, (Bool'.false, tt)))) d29
           d31 : Typed.Typed 𝓤 H A 𝓣 E G26 b19 Δ2 (at31 bs)
           d31 = Typed.g-pre 𝓤 H A W 𝓣 E G26 G28 b19 Δ2 (Typed.pass T26 T28 (s24 bs)) (at30 bs) (Scalar.g-room 𝓤 H A W E G26 11 Syntax.tyBool (Scalar.room-sc 𝓤
               H A W Row.sBool)) d30
@@ -963,15 +964,15 @@ module _ (claims· : Claims) where
               H A W Row.sBool)) d40
           d42 : Typed.Typed 𝓤 H A 𝓣 E G40 b25 Δ0 (at42 bs)
           d42 = Typed.s-seq 𝓤 H A W 𝓣 E G40 G41 b23 b24 Δ0 (Typed.pass T40 T41 (s37 bs)) (at41 bs) (Make.t-struct-make 𝓤 H A W E 𝓣 (Apart.apartT
-              Begun.the-type) Laws'4.the-laws Laws'4.the-plain G40 0 ((Scalar.oAt 10 y8 (Laws'9.val Operand.the-type Laws'5.the-laws)) ∷ (Scalar.oAt 8 y7
+              Begun.the-type) Laws'7.the-laws Laws'7.the-plain G40 0 ((Scalar.oAt 10 y8 (Laws'9.val Operand.the-type Laws'8.the-laws)) ∷ (Scalar.oAt 8 y7
               (Laws'9.val Block.the-type Laws.the-laws)) ∷ []) (λ m. (m .1 .1 .1 .1 .1 .1 .1 .1 .1 .1 .0, (m .1 .1 .1 .1 .1 .1 .1 .1 .0, tt)))
-              (Reads'.room-gone 𝓤 H A y14) ((Reads.reads-struct 𝓤 H A W Operand.the-type Laws'5.the-laws, Path'.refl), ((Reads.reads-struct 𝓤 H A W
-              Block.the-type Laws.the-laws, Path'.refl), tt)) Path'.refl (λ u. Path'.refl) λ m. Make.is-wt (Apart.apartT Begun.the-type) Laws'4.the-laws
-              (Make.struct-wt Operand.the-type Laws'5.the-laws (Make.bool-wt, (Make.u32-wt, (Make.bool-wt, tt))), (Make.struct-wt Block.the-type Laws.the-laws
-              (Make.struct-wt Cursor.the-type Laws'6.the-laws (Make.struct-wt Run.the-type Laws'8.the-laws (Make.struct-wt Ref.the-type Laws'3.the-laws
-              (Make.u32-wt, (Make.u32-wt, tt)), (Make.struct-wt Pair.the-type Laws'7.the-laws (Make.bool-wt, (Make.struct-wt Ref.the-type Laws'3.the-laws
-              (Make.u32-wt, (Make.u32-wt, tt)), (Make.struct-wt Ref.the-type Laws'3.the-laws (Make.u32-wt, (Make.u32-wt, tt)), tt))), (Make.u64-wt,
-              (Make.u64-wt, (Make.u32-wt, (Whole.enum-wt Context.the-type Laws''.the-laws (tt, (tt, (tt, (tt, (tt, (tt, (tt, tt))))))), (Make.bool-wt,
+              (Reads'.room-gone 𝓤 H A y14) ((Reads.reads-struct 𝓤 H A W Operand.the-type Laws'8.the-laws, Path'.refl), ((Reads.reads-struct 𝓤 H A W
+              Block.the-type Laws.the-laws, Path'.refl), tt)) Path'.refl (λ u. Path'.refl) λ m. Make.is-wt (Apart.apartT Begun.the-type) Laws'7.the-laws
+              (Make.struct-wt Operand.the-type Laws'8.the-laws (Make.bool-wt, (Make.u32-wt, (Make.bool-wt, tt))), (Make.struct-wt Block.the-type Laws.the-laws
+              (Make.struct-wt Cursor.the-type Laws''.the-laws (Make.struct-wt Run.the-type Laws'4.the-laws (Make.struct-wt Ref.the-type Laws'6.the-laws
+              (Make.u32-wt, (Make.u32-wt, tt)), (Make.struct-wt Pair.the-type Laws'3.the-laws (Make.bool-wt, (Make.struct-wt Ref.the-type Laws'6.the-laws
+              (Make.u32-wt, (Make.u32-wt, tt)), (Make.struct-wt Ref.the-type Laws'6.the-laws (Make.u32-wt, (Make.u32-wt, tt)), tt))), (Make.u64-wt,
+              (Make.u64-wt, (Make.u32-wt, (Whole.enum-wt Context.the-type Laws'5.the-laws (tt, (tt, (tt, (tt, (tt, (tt, (tt, tt))))))), (Make.bool-wt,
               tt))))))), (Make.u64-wt, tt)), (Make.u64-wt, (Make.u64-wt, (Make.u32-wt, (Make.bool-wt, (Make.bool-wt, tt)))))), tt)) (m .1 .1 .1 .1 .1 .1 .1 .1
               .1 .1 .0, (m .1 .1 .1 .1 .1 .1 .1 .1 .0, tt))) d41
           d43 : Typed.Typed 𝓤 H A 𝓣 E G39 b25 Δ0 (at43 bs)
@@ -980,12 +981,12 @@ module _ (claims· : Claims) where
               Operand.the-type (Operand.struct .Ghost) (Operand.struct .make) (λ v g. Path'.refl) ρ v tt b) d42
           d44 : Typed.Typed 𝓤 H A 𝓣 E G27 b26 Δ0 (at44 bs)
           d44 = Typed.s-seq 𝓤 H A W 𝓣 E G27 G39 b22 b25 Δ0 (Typed.pass T27 T39 (s35 bs)) (at43 bs) (Make.t-struct-make 𝓤 H A W E 𝓣 (Apart.apartT
-              Operand.the-type) Laws'5.the-laws Laws'5.the-plain G27 10 ((Scalar.oBool Bool'.false) ∷ (Scalar.oFld 8 ((Syntax.field 3) ∷ []) y0 80
+              Operand.the-type) Laws'8.the-laws Laws'8.the-plain G27 10 ((Scalar.oBool Bool'.false) ∷ (Scalar.oFld 8 ((Syntax.field 3) ∷ []) y0 80
               (Reads.fieldV Block.the-type Laws.the-laws 3)) ∷ (Scalar.oFld 8 ((Syntax.field 4) ∷ []) Syntax.tyBool 84 (Reads.fieldV Block.the-type
               Laws.the-laws 4)) ∷ []) (λ m. (Bool'.false, (Block.struct .as-values (m .1 .1 .1 .1 .1 .1 .1 .1 .0) .1 .1 .1 .0, (Block.struct .as-values (m .1
               .1 .1 .1 .1 .1 .1 .1 .0) .1 .1 .1 .1 .0, tt)))) (Reads'.room-gone 𝓤 H A y8) (tt, ((Reads.reads-field 𝓤 H A W Block.the-type Laws.the-laws 3 y0
               80 Path'.refl, Path'.refl), ((Reads.reads-field 𝓤 H A W Block.the-type Laws.the-laws 4 Syntax.tyBool 84 Path'.refl, Path'.refl), tt)))
-              Path'.refl (λ u. Path'.refl) λ m. Make.is-wt (Apart.apartT Operand.the-type) Laws'5.the-laws (Make.bool-wt, (Make.u32-wt, (Make.bool-wt, tt)))
+              Path'.refl (λ u. Path'.refl) λ m. Make.is-wt (Apart.apartT Operand.the-type) Laws'8.the-laws (Make.bool-wt, (Make.u32-wt, (Make.bool-wt, tt)))
               (Bool'.false, (Block.struct .as-values (m .1 .1 .1 .1 .1 .1 .1 .1 .0) .1 .1 .1 .0, (Block.struct .as-values (m .1 .1 .1 .1 .1 .1 .1 .1 .0) .1 .1
               .1 .1 .0, tt)))) d43
           d45 : Typed.Typed 𝓤 H A 𝓣 E G26 b27 Δ0 (at45 bs)

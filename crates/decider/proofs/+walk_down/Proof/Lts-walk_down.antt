@@ -1,8 +1,8 @@
 -- Generated: the derivation of a body.
--- From db5e741eb581e789, as 08c7e9f0740990df.
+-- From a836c20be02a443c, as 713c70f6d53df900.
 use Prim.Native.Nat
-use Rattle.decider.proofs.Verdict
-use Rattle.decider.proofs.Verdict.Laws
+use Rattle.answers.proofs.Verdict
+use Rattle.answers.proofs.Verdict.Laws
 use Rattle.node_records.proofs.Edge
 use Rattle.node_records.proofs.Edge.Laws as Laws'
 use Rattle.node_records.proofs.NodeRecord
@@ -74,7 +74,7 @@ abbrev y3 : Syntax.Ty
 y3 = Syntax.tyStruct (110 ∷ 111 ∷ 100 ∷ 101 ∷ 95 ∷ 114 ∷ 101 ∷ 99 ∷ 111 ∷ 114 ∷ 100 ∷ 115 ∷ 58 ∷ 58 ∷ 69 ∷ 100 ∷ 103 ∷ 101 ∷ []) (Syntax.tcons y0
     (Syntax.tcons Syntax.tyBool Syntax.tnil))
 abbrev y4 : Syntax.Ty
-y4 = Syntax.tyEnum (100 ∷ 101 ∷ 99 ∷ 105 ∷ 100 ∷ 101 ∷ 114 ∷ 58 ∷ 58 ∷ 86 ∷ 101 ∷ 114 ∷ 100 ∷ 105 ∷ 99 ∷ 116 ∷ []) (Syntax.ttcons Syntax.tnil (Syntax.ttcons
+y4 = Syntax.tyEnum (97 ∷ 110 ∷ 115 ∷ 119 ∷ 101 ∷ 114 ∷ 115 ∷ 58 ∷ 58 ∷ 86 ∷ 101 ∷ 114 ∷ 100 ∷ 105 ∷ 99 ∷ 116 ∷ []) (Syntax.ttcons Syntax.tnil (Syntax.ttcons
     Syntax.tnil (Syntax.ttcons Syntax.tnil Syntax.ttnil)))
 abbrev y5 : Syntax.Ty
 y5 = Syntax.tyRef (Syntax.named 0) Syntax.imm NodeRecordT.behind

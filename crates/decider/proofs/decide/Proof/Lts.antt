@@ -1,27 +1,27 @@
 -- Generated: the derivation of a body.
--- From db5e741eb581e789, as 60238eb4be7eaeb7.
+-- From a836c20be02a443c, as a857b4362db662f4.
 use Prim.Native.Nat
-use Rattle.checker.proofs.Refusal
-use Rattle.checker.proofs.Refusal.Laws
-use Rattle.decider.proofs.Deciding
-use Rattle.decider.proofs.Deciding.Laws as Laws'
-use Rattle.decider.proofs.Verdict
-use Rattle.decider.proofs.Verdict.Laws as Laws''
+use Rattle.answers.proofs.Deciding
+use Rattle.answers.proofs.Deciding.Laws
+use Rattle.answers.proofs.Refusal
+use Rattle.answers.proofs.Refusal.Laws as Laws'
+use Rattle.answers.proofs.Verdict
+use Rattle.answers.proofs.Verdict.Laws as Laws''
+use Rattle.cursors.proofs.Cursor
+use Rattle.cursors.proofs.Cursor.Laws as Laws'3
+use Rattle.cursors.proofs.Pair
+use Rattle.cursors.proofs.Pair.Laws as Laws'4
+use Rattle.cursors.proofs.Run
+use Rattle.cursors.proofs.Run.Laws as Laws'5
 use Rattle.elements.proofs.Cause
-use Rattle.elements.proofs.Cause.Laws as Laws'3
+use Rattle.elements.proofs.Cause.Laws as Laws'6
 use Rattle.elements.proofs.Context
-use Rattle.elements.proofs.Context.Laws as Laws'4
+use Rattle.elements.proofs.Context.Laws as Laws'7
 use Rattle.elements.proofs.Ref
-use Rattle.elements.proofs.Ref.Laws as Laws'5
+use Rattle.elements.proofs.Ref.Laws as Laws'8
 use Rattle.node_records.proofs.Tables.NodeRecord as NodeRecordT
-use Rattle.reader.proofs.Cursor
-use Rattle.reader.proofs.Cursor.Laws as Laws'6
-use Rattle.reader.proofs.Pair
-use Rattle.reader.proofs.Pair.Laws as Laws'7
 use Rattle.reader.proofs.Reached
-use Rattle.reader.proofs.Reached.Laws as Laws'8
-use Rattle.reader.proofs.Run
-use Rattle.reader.proofs.Run.Laws as Laws'9
+use Rattle.reader.proofs.Reached.Laws as Laws'9
 use borrow.Author.Called
 use borrow.Author.Tests
 use borrow.Enum.Make
@@ -113,8 +113,8 @@ y2 = Syntax.tyArray y1 32
 abbrev y3 : Syntax.Ty
 y3 = Syntax.tyStruct (101 ∷ 108 ∷ 101 ∷ 109 ∷ 101 ∷ 110 ∷ 116 ∷ 115 ∷ 58 ∷ 58 ∷ 82 ∷ 101 ∷ 102 ∷ []) (Syntax.tcons y0 (Syntax.tcons y0 Syntax.tnil))
 abbrev y4 : Syntax.Ty
-y4 = Syntax.tyStruct (114 ∷ 101 ∷ 97 ∷ 100 ∷ 101 ∷ 114 ∷ 58 ∷ 58 ∷ 80 ∷ 97 ∷ 105 ∷ 114 ∷ []) (Syntax.tcons Syntax.tyBool (Syntax.tcons y3 (Syntax.tcons y3
-    Syntax.tnil)))
+y4 = Syntax.tyStruct (99 ∷ 117 ∷ 114 ∷ 115 ∷ 111 ∷ 114 ∷ 115 ∷ 58 ∷ 58 ∷ 80 ∷ 97 ∷ 105 ∷ 114 ∷ []) (Syntax.tcons Syntax.tyBool (Syntax.tcons y3 (Syntax.tcons
+    y3 Syntax.tnil)))
 abbrev y5 : Syntax.Ty
 y5 = Syntax.tyInt Syntax.w64
 abbrev y6 : Syntax.Ty
@@ -122,8 +122,8 @@ y6 = Syntax.tyEnum (101 ∷ 108 ∷ 101 ∷ 109 ∷ 101 ∷ 110 ∷ 116 ∷ 115 
     (Syntax.ttcons Syntax.tnil (Syntax.ttcons Syntax.tnil (Syntax.ttcons Syntax.tnil (Syntax.ttcons Syntax.tnil (Syntax.ttcons Syntax.tnil (Syntax.ttcons
     Syntax.tnil Syntax.ttnil)))))))
 abbrev y7 : Syntax.Ty
-y7 = Syntax.tyStruct (114 ∷ 101 ∷ 97 ∷ 100 ∷ 101 ∷ 114 ∷ 58 ∷ 58 ∷ 82 ∷ 117 ∷ 110 ∷ []) (Syntax.tcons y3 (Syntax.tcons y4 (Syntax.tcons y5 (Syntax.tcons y5
-    (Syntax.tcons y0 (Syntax.tcons y6 (Syntax.tcons Syntax.tyBool Syntax.tnil)))))))
+y7 = Syntax.tyStruct (99 ∷ 117 ∷ 114 ∷ 115 ∷ 111 ∷ 114 ∷ 115 ∷ 58 ∷ 58 ∷ 82 ∷ 117 ∷ 110 ∷ []) (Syntax.tcons y3 (Syntax.tcons y4 (Syntax.tcons y5 (Syntax.tcons
+    y5 (Syntax.tcons y0 (Syntax.tcons y6 (Syntax.tcons Syntax.tyBool Syntax.tnil)))))))
 abbrev y8 : Syntax.Ty
 y8 = Syntax.tyEnum (101 ∷ 108 ∷ 101 ∷ 109 ∷ 101 ∷ 110 ∷ 116 ∷ 115 ∷ 58 ∷ 58 ∷ 67 ∷ 97 ∷ 117 ∷ 115 ∷ 101 ∷ []) (Syntax.ttcons Syntax.tnil (Syntax.ttcons
     Syntax.tnil (Syntax.ttcons Syntax.tnil (Syntax.ttcons Syntax.tnil (Syntax.ttcons Syntax.tnil (Syntax.ttcons Syntax.tnil (Syntax.ttcons Syntax.tnil
@@ -133,12 +133,13 @@ abbrev y9 : Syntax.Ty
 y9 = Syntax.tyStruct (114 ∷ 101 ∷ 97 ∷ 100 ∷ 101 ∷ 114 ∷ 58 ∷ 58 ∷ 82 ∷ 101 ∷ 97 ∷ 99 ∷ 104 ∷ 101 ∷ 100 ∷ []) (Syntax.tcons y7 (Syntax.tcons y5 (Syntax.tcons
     y5 (Syntax.tcons y5 (Syntax.tcons Syntax.tyBool (Syntax.tcons Syntax.tyBool (Syntax.tcons y8 (Syntax.tcons y5 Syntax.tnil))))))))
 abbrev y10 : Syntax.Ty
-y10 = Syntax.tyEnum (100 ∷ 101 ∷ 99 ∷ 105 ∷ 100 ∷ 101 ∷ 114 ∷ 58 ∷ 58 ∷ 86 ∷ 101 ∷ 114 ∷ 100 ∷ 105 ∷ 99 ∷ 116 ∷ []) (Syntax.ttcons Syntax.tnil (Syntax.ttcons
+y10 = Syntax.tyEnum (97 ∷ 110 ∷ 115 ∷ 119 ∷ 101 ∷ 114 ∷ 115 ∷ 58 ∷ 58 ∷ 86 ∷ 101 ∷ 114 ∷ 100 ∷ 105 ∷ 99 ∷ 116 ∷ []) (Syntax.ttcons Syntax.tnil (Syntax.ttcons
     Syntax.tnil (Syntax.ttcons Syntax.tnil Syntax.ttnil)))
 abbrev y11 : Syntax.Ty
-y11 = Syntax.tyStruct (114 ∷ 101 ∷ 97 ∷ 100 ∷ 101 ∷ 114 ∷ 58 ∷ 58 ∷ 67 ∷ 117 ∷ 114 ∷ 115 ∷ 111 ∷ 114 ∷ []) (Syntax.tcons y7 (Syntax.tcons y5 Syntax.tnil))
+y11 = Syntax.tyStruct (99 ∷ 117 ∷ 114 ∷ 115 ∷ 111 ∷ 114 ∷ 115 ∷ 58 ∷ 58 ∷ 67 ∷ 117 ∷ 114 ∷ 115 ∷ 111 ∷ 114 ∷ []) (Syntax.tcons y7 (Syntax.tcons y5
+    Syntax.tnil))
 abbrev y12 : Syntax.Ty
-y12 = Syntax.tyStruct (99 ∷ 104 ∷ 101 ∷ 99 ∷ 107 ∷ 101 ∷ 114 ∷ 58 ∷ 58 ∷ 82 ∷ 101 ∷ 102 ∷ 117 ∷ 115 ∷ 97 ∷ 108 ∷ []) (Syntax.tcons y8 (Syntax.tcons y0
+y12 = Syntax.tyStruct (97 ∷ 110 ∷ 115 ∷ 119 ∷ 101 ∷ 114 ∷ 115 ∷ 58 ∷ 58 ∷ 82 ∷ 101 ∷ 102 ∷ 117 ∷ 115 ∷ 97 ∷ 108 ∷ []) (Syntax.tcons y8 (Syntax.tcons y0
     (Syntax.tcons y5 Syntax.tnil)))
 abbrev y13 : Syntax.Ty
 y13 = Syntax.tyRef Syntax.erased Syntax.mut NodeRecordT.behind
@@ -153,7 +154,7 @@ y17 = Syntax.tyStruct (38 ∷ 91 ∷ 93 ∷ []) (Syntax.tcons y16 (Syntax.tcons 
 abbrev y18 : Syntax.Ty
 y18 = Syntax.tyRef Syntax.erased Syntax.imm y2
 abbrev y19 : Syntax.Ty
-y19 = Syntax.tyEnum (100 ∷ 101 ∷ 99 ∷ 105 ∷ 100 ∷ 101 ∷ 114 ∷ 58 ∷ 58 ∷ 68 ∷ 101 ∷ 99 ∷ 105 ∷ 100 ∷ 105 ∷ 110 ∷ 103 ∷ []) (Syntax.ttcons (Syntax.tcons y12
+y19 = Syntax.tyEnum (97 ∷ 110 ∷ 115 ∷ 119 ∷ 101 ∷ 114 ∷ 115 ∷ 58 ∷ 58 ∷ 68 ∷ 101 ∷ 99 ∷ 105 ∷ 100 ∷ 105 ∷ 110 ∷ 103 ∷ []) (Syntax.ttcons (Syntax.tcons y12
     Syntax.tnil) (Syntax.ttcons (Syntax.tcons y10 Syntax.tnil) Syntax.ttnil))
 abbrev y20 : Syntax.Ty
 y20 = Syntax.tyInt Syntax.w8
@@ -326,59 +327,59 @@ abbrev pub ps : List (Kinds.PK 2)
 ps = (Num.pNum Syntax.w32) ∷ (ShrSlice.pShrS (Referent.rtF (Referent.fInt Syntax.w8)) 0 tt) ∷ (Num.pNum Syntax.w64) ∷ (MutSlice.pMutS NodeRecordT.row 1 tt) ∷
     []
 abbrev pub r : Kinds.RK 2
-r = Value.rVal record { ty = Declared.row Deciding.the-type; one = Path'.refl; val = Laws'10.val Deciding.the-type Laws'.the-laws; tells = Laws'10.tells
-    Deciding.the-type Laws'.the-laws; still = Laws'10.still Deciding.the-type Laws'.the-copy Exit.yes; row = Rows'.whole (Declared.row Deciding.the-type); rd
-    = λ x. x; mk = λ x. x } λ M 𝓤 H A W. record { copies = Laws'10.copy Deciding.the-type Laws'.the-copy 𝓤 H A W; lawful = Laws'10.lawful Deciding.the-type
-    Laws'.the-laws 𝓤 H A W tt; makes = Laws'10.makes Deciding.the-type Laws'.the-plain 𝓤 H A; in-mem = Local.mem-whole 𝓤 H A W (Declared.row
-    Deciding.the-type); of-mem = Local.whole-mem 𝓤 H A W (Declared.row Deciding.the-type) }
+r = Value.rVal record { ty = Declared.row Deciding.the-type; one = Path'.refl; val = Laws'10.val Deciding.the-type Laws.the-laws; tells = Laws'10.tells
+    Deciding.the-type Laws.the-laws; still = Laws'10.still Deciding.the-type Laws.the-copy Exit.yes; row = Rows'.whole (Declared.row Deciding.the-type); rd =
+    λ x. x; mk = λ x. x } λ M 𝓤 H A W. record { copies = Laws'10.copy Deciding.the-type Laws.the-copy 𝓤 H A W; lawful = Laws'10.lawful Deciding.the-type
+    Laws.the-laws 𝓤 H A W tt; makes = Laws'10.makes Deciding.the-type Laws.the-plain 𝓤 H A; in-mem = Local.mem-whole 𝓤 H A W (Declared.row Deciding.the-type);
+    of-mem = Local.whole-mem 𝓤 H A W (Declared.row Deciding.the-type) }
 abbrev pub xs : List Syntax.Ty
 xs = y2 ∷ y9 ∷ Syntax.tyBool ∷ y5 ∷ y10 ∷ y7 ∷ y11 ∷ y9 ∷ y5 ∷ Syntax.tyBool ∷ y12 ∷ y8 ∷ y5 ∷ y12 ∷ y8 ∷ y5 ∷ y5 ∷ y12 ∷ y8 ∷ y1 ∷ y13 ∷ y14 ∷ y15 ∷ y11 ∷
     Syntax.tyUnit ∷ y13 ∷ y14 ∷ y10 ∷ y16 ∷ y17 ∷ y18 ∷ y13 ∷ y14 ∷ y15 ∷ Syntax.tyUnit ∷ y13 ∷ y14 ∷ []
 abbrev pub m : Nat.ℕ
 m = 8
 abbrev pub ps·0 : List (Kinds.PK 0)
-ps·0 = (Value.pVal record { ty = Declared.row Cause.the-type; one = Path'.refl; val = Laws'10.val Cause.the-type Laws'3.the-laws; tells = Laws'10.tells
-    Cause.the-type Laws'3.the-laws; still = Laws'10.still Cause.the-type Laws'3.the-copy Exit.yes; row = Rows'.whole (Declared.row Cause.the-type); rd = λ x.
-    x; mk = λ x. x } λ M 𝓤 H A W. record { copies = Laws'10.copy Cause.the-type Laws'3.the-copy 𝓤 H A W; lawful = Laws'10.lawful Cause.the-type
-    Laws'3.the-laws 𝓤 H A W tt; makes = Laws'10.makes Cause.the-type Laws'3.the-plain 𝓤 H A; in-mem = Local.mem-whole 𝓤 H A W (Declared.row Cause.the-type);
+ps·0 = (Value.pVal record { ty = Declared.row Cause.the-type; one = Path'.refl; val = Laws'10.val Cause.the-type Laws'6.the-laws; tells = Laws'10.tells
+    Cause.the-type Laws'6.the-laws; still = Laws'10.still Cause.the-type Laws'6.the-copy Exit.yes; row = Rows'.whole (Declared.row Cause.the-type); rd = λ x.
+    x; mk = λ x. x } λ M 𝓤 H A W. record { copies = Laws'10.copy Cause.the-type Laws'6.the-copy 𝓤 H A W; lawful = Laws'10.lawful Cause.the-type
+    Laws'6.the-laws 𝓤 H A W tt; makes = Laws'10.makes Cause.the-type Laws'6.the-plain 𝓤 H A; in-mem = Local.mem-whole 𝓤 H A W (Declared.row Cause.the-type);
     of-mem = Local.whole-mem 𝓤 H A W (Declared.row Cause.the-type) }) ∷ []
 abbrev pub r·0 : Kinds.RK 0
-r·0 = Value.rVal record { ty = Declared'.row Refusal.the-type; one = Path'.refl; val = Laws'11.val Refusal.the-type Laws.the-laws; tells = Laws'11.tells
-    Refusal.the-type Laws.the-laws; still = Laws'11.still Refusal.the-type Laws.the-copy Exit.yes; row = Rows'.whole (Declared'.row Refusal.the-type); rd = λ
-    x. x; mk = λ x. x } λ M 𝓤 H A W. record { copies = Laws'11.copy Refusal.the-type Laws.the-copy 𝓤 H A W; lawful = Laws'11.lawful Refusal.the-type
-    Laws.the-laws 𝓤 H A W; makes = Laws'11.makes Refusal.the-type Laws.the-plain 𝓤 H A; in-mem = Local.mem-whole 𝓤 H A W (Declared'.row Refusal.the-type);
+r·0 = Value.rVal record { ty = Declared'.row Refusal.the-type; one = Path'.refl; val = Laws'11.val Refusal.the-type Laws'.the-laws; tells = Laws'11.tells
+    Refusal.the-type Laws'.the-laws; still = Laws'11.still Refusal.the-type Laws'.the-copy Exit.yes; row = Rows'.whole (Declared'.row Refusal.the-type); rd =
+    λ x. x; mk = λ x. x } λ M 𝓤 H A W. record { copies = Laws'11.copy Refusal.the-type Laws'.the-copy 𝓤 H A W; lawful = Laws'11.lawful Refusal.the-type
+    Laws'.the-laws 𝓤 H A W; makes = Laws'11.makes Refusal.the-type Laws'.the-plain 𝓤 H A; in-mem = Local.mem-whole 𝓤 H A W (Declared'.row Refusal.the-type);
     of-mem = Local.whole-mem 𝓤 H A W (Declared'.row Refusal.the-type) }
 abbrev pub ps·1 : List (Kinds.PK 0)
 ps·1 = []
 abbrev pub r·1 : Kinds.RK 0
-r·1 = Value.rVal record { ty = Declared'.row Cursor.the-type; one = Path'.refl; val = Laws'11.val Cursor.the-type Laws'6.the-laws; tells = Laws'11.tells
-    Cursor.the-type Laws'6.the-laws; still = Laws'11.still Cursor.the-type Laws'6.the-copy Exit.yes; row = Rows'.whole (Declared'.row Cursor.the-type); rd = λ
-    x. x; mk = λ x. x } λ M 𝓤 H A W. record { copies = Laws'11.copy Cursor.the-type Laws'6.the-copy 𝓤 H A W; lawful = Laws'11.lawful Cursor.the-type
-    Laws'6.the-laws 𝓤 H A W; makes = Laws'11.makes Cursor.the-type Laws'6.the-plain 𝓤 H A; in-mem = Local.mem-whole 𝓤 H A W (Declared'.row Cursor.the-type);
+r·1 = Value.rVal record { ty = Declared'.row Cursor.the-type; one = Path'.refl; val = Laws'11.val Cursor.the-type Laws'3.the-laws; tells = Laws'11.tells
+    Cursor.the-type Laws'3.the-laws; still = Laws'11.still Cursor.the-type Laws'3.the-copy Exit.yes; row = Rows'.whole (Declared'.row Cursor.the-type); rd = λ
+    x. x; mk = λ x. x } λ M 𝓤 H A W. record { copies = Laws'11.copy Cursor.the-type Laws'3.the-copy 𝓤 H A W; lawful = Laws'11.lawful Cursor.the-type
+    Laws'3.the-laws 𝓤 H A W; makes = Laws'11.makes Cursor.the-type Laws'3.the-plain 𝓤 H A; in-mem = Local.mem-whole 𝓤 H A W (Declared'.row Cursor.the-type);
     of-mem = Local.whole-mem 𝓤 H A W (Declared'.row Cursor.the-type) }
 abbrev pub ps·2 : List (Kinds.PK 3)
 ps·2 = (Num.pNum Syntax.w32) ∷ (ShrSlice.pShrS (Referent.rtF (Referent.fInt Syntax.w8)) 0 tt) ∷ (MutSlice.pMutS NodeRecordT.row 1 tt) ∷ (Kinds.pMut
     (Array'.Array (Array'.Array (Referent.rtF (Referent.fInt Syntax.w32)) 4) 32) 2 tt) ∷ (Value.pVal record { ty = Declared'.row Cursor.the-type; one =
-    Path'.refl; val = Laws'11.val Cursor.the-type Laws'6.the-laws; tells = Laws'11.tells Cursor.the-type Laws'6.the-laws; still = Laws'11.still
-    Cursor.the-type Laws'6.the-copy Exit.yes; row = Rows'.whole (Declared'.row Cursor.the-type); rd = λ x. x; mk = λ x. x } λ M 𝓤 H A W. record { copies =
-    Laws'11.copy Cursor.the-type Laws'6.the-copy 𝓤 H A W; lawful = Laws'11.lawful Cursor.the-type Laws'6.the-laws 𝓤 H A W; makes = Laws'11.makes
-    Cursor.the-type Laws'6.the-plain 𝓤 H A; in-mem = Local.mem-whole 𝓤 H A W (Declared'.row Cursor.the-type); of-mem = Local.whole-mem 𝓤 H A W (Declared'.row
+    Path'.refl; val = Laws'11.val Cursor.the-type Laws'3.the-laws; tells = Laws'11.tells Cursor.the-type Laws'3.the-laws; still = Laws'11.still
+    Cursor.the-type Laws'3.the-copy Exit.yes; row = Rows'.whole (Declared'.row Cursor.the-type); rd = λ x. x; mk = λ x. x } λ M 𝓤 H A W. record { copies =
+    Laws'11.copy Cursor.the-type Laws'3.the-copy 𝓤 H A W; lawful = Laws'11.lawful Cursor.the-type Laws'3.the-laws 𝓤 H A W; makes = Laws'11.makes
+    Cursor.the-type Laws'3.the-plain 𝓤 H A; in-mem = Local.mem-whole 𝓤 H A W (Declared'.row Cursor.the-type); of-mem = Local.whole-mem 𝓤 H A W (Declared'.row
     Cursor.the-type) }) ∷ (Num.pNum Syntax.w64) ∷ []
 abbrev pub r·2 : Kinds.RK 3
-r·2 = Value.rVal record { ty = Declared'.row Reached.the-type; one = Path'.refl; val = Laws'11.val Reached.the-type Laws'8.the-laws; tells = Laws'11.tells
-    Reached.the-type Laws'8.the-laws; still = Laws'11.still Reached.the-type Laws'8.the-copy Exit.yes; row = Rows'.whole (Declared'.row Reached.the-type); rd
-    = λ x. x; mk = λ x. x } λ M 𝓤 H A W. record { copies = Laws'11.copy Reached.the-type Laws'8.the-copy 𝓤 H A W; lawful = Laws'11.lawful Reached.the-type
-    Laws'8.the-laws 𝓤 H A W; makes = Laws'11.makes Reached.the-type Laws'8.the-plain 𝓤 H A; in-mem = Local.mem-whole 𝓤 H A W (Declared'.row Reached.the-type);
+r·2 = Value.rVal record { ty = Declared'.row Reached.the-type; one = Path'.refl; val = Laws'11.val Reached.the-type Laws'9.the-laws; tells = Laws'11.tells
+    Reached.the-type Laws'9.the-laws; still = Laws'11.still Reached.the-type Laws'9.the-copy Exit.yes; row = Rows'.whole (Declared'.row Reached.the-type); rd
+    = λ x. x; mk = λ x. x } λ M 𝓤 H A W. record { copies = Laws'11.copy Reached.the-type Laws'9.the-copy 𝓤 H A W; lawful = Laws'11.lawful Reached.the-type
+    Laws'9.the-laws 𝓤 H A W; makes = Laws'11.makes Reached.the-type Laws'9.the-plain 𝓤 H A; in-mem = Local.mem-whole 𝓤 H A W (Declared'.row Reached.the-type);
     of-mem = Local.whole-mem 𝓤 H A W (Declared'.row Reached.the-type) }
 abbrev pub ps·3 : List (Kinds.PK 1)
 ps·3 = (MutSlice.pMutS NodeRecordT.row 0 tt) ∷ (Num.pNum Syntax.w64) ∷ []
 abbrev pub r·3 : Kinds.RK 1
 r·3 = Unit'.rUnit
 abbrev pub ps·4 : List (Kinds.PK 0)
-ps·4 = (Value.pVal record { ty = Declared'.row Reached.the-type; one = Path'.refl; val = Laws'11.val Reached.the-type Laws'8.the-laws; tells = Laws'11.tells
-    Reached.the-type Laws'8.the-laws; still = Laws'11.still Reached.the-type Laws'8.the-copy Exit.yes; row = Rows'.whole (Declared'.row Reached.the-type); rd
-    = λ x. x; mk = λ x. x } λ M 𝓤 H A W. record { copies = Laws'11.copy Reached.the-type Laws'8.the-copy 𝓤 H A W; lawful = Laws'11.lawful Reached.the-type
-    Laws'8.the-laws 𝓤 H A W; makes = Laws'11.makes Reached.the-type Laws'8.the-plain 𝓤 H A; in-mem = Local.mem-whole 𝓤 H A W (Declared'.row Reached.the-type);
+ps·4 = (Value.pVal record { ty = Declared'.row Reached.the-type; one = Path'.refl; val = Laws'11.val Reached.the-type Laws'9.the-laws; tells = Laws'11.tells
+    Reached.the-type Laws'9.the-laws; still = Laws'11.still Reached.the-type Laws'9.the-copy Exit.yes; row = Rows'.whole (Declared'.row Reached.the-type); rd
+    = λ x. x; mk = λ x. x } λ M 𝓤 H A W. record { copies = Laws'11.copy Reached.the-type Laws'9.the-copy 𝓤 H A W; lawful = Laws'11.lawful Reached.the-type
+    Laws'9.the-laws 𝓤 H A W; makes = Laws'11.makes Reached.the-type Laws'9.the-plain 𝓤 H A; in-mem = Local.mem-whole 𝓤 H A W (Declared'.row Reached.the-type);
     of-mem = Local.whole-mem 𝓤 H A W (Declared'.row Reached.the-type) }) ∷ (Value.pVal record { ty = Declared.row Verdict.the-type; one = Path'.refl; val =
     Laws'10.val Verdict.the-type Laws''.the-laws; tells = Laws'10.tells Verdict.the-type Laws''.the-laws; still = Laws'10.still Verdict.the-type
     Laws''.the-copy Exit.yes; row = Rows'.whole (Declared.row Verdict.the-type); rd = λ x. x; mk = λ x. x } λ M 𝓤 H A W. record { copies = Laws'10.copy
@@ -386,17 +387,17 @@ ps·4 = (Value.pVal record { ty = Declared'.row Reached.the-type; one = Path'.re
     Laws''.the-plain 𝓤 H A; in-mem = Local.mem-whole 𝓤 H A W (Declared.row Verdict.the-type); of-mem = Local.whole-mem 𝓤 H A W (Declared.row Verdict.the-type)
     }) ∷ []
 abbrev pub r·4 : Kinds.RK 0
-r·4 = Value.rVal record { ty = Declared.row Deciding.the-type; one = Path'.refl; val = Laws'10.val Deciding.the-type Laws'.the-laws; tells = Laws'10.tells
-    Deciding.the-type Laws'.the-laws; still = Laws'10.still Deciding.the-type Laws'.the-copy Exit.yes; row = Rows'.whole (Declared.row Deciding.the-type); rd
-    = λ x. x; mk = λ x. x } λ M 𝓤 H A W. record { copies = Laws'10.copy Deciding.the-type Laws'.the-copy 𝓤 H A W; lawful = Laws'10.lawful Deciding.the-type
-    Laws'.the-laws 𝓤 H A W tt; makes = Laws'10.makes Deciding.the-type Laws'.the-plain 𝓤 H A; in-mem = Local.mem-whole 𝓤 H A W (Declared.row
-    Deciding.the-type); of-mem = Local.whole-mem 𝓤 H A W (Declared.row Deciding.the-type) }
+r·4 = Value.rVal record { ty = Declared.row Deciding.the-type; one = Path'.refl; val = Laws'10.val Deciding.the-type Laws.the-laws; tells = Laws'10.tells
+    Deciding.the-type Laws.the-laws; still = Laws'10.still Deciding.the-type Laws.the-copy Exit.yes; row = Rows'.whole (Declared.row Deciding.the-type); rd =
+    λ x. x; mk = λ x. x } λ M 𝓤 H A W. record { copies = Laws'10.copy Deciding.the-type Laws.the-copy 𝓤 H A W; lawful = Laws'10.lawful Deciding.the-type
+    Laws.the-laws 𝓤 H A W tt; makes = Laws'10.makes Deciding.the-type Laws.the-plain 𝓤 H A; in-mem = Local.mem-whole 𝓤 H A W (Declared.row Deciding.the-type);
+    of-mem = Local.whole-mem 𝓤 H A W (Declared.row Deciding.the-type) }
 abbrev pub ps·5 : List (Kinds.PK 2)
 ps·5 = (ShrSlice.pShrS NodeRecordT.row 0 tt) ∷ (ShrRef.pShr (Array'.Array (Array'.Array (Referent.rtF (Referent.fInt Syntax.w32)) 4) 32) 1 tt) ∷ (Num.pNum
-    Syntax.w32) ∷ (Value.pVal record { ty = Declared'.row Reached.the-type; one = Path'.refl; val = Laws'11.val Reached.the-type Laws'8.the-laws; tells =
-    Laws'11.tells Reached.the-type Laws'8.the-laws; still = Laws'11.still Reached.the-type Laws'8.the-copy Exit.yes; row = Rows'.whole (Declared'.row
-    Reached.the-type); rd = λ x. x; mk = λ x. x } λ M 𝓤 H A W. record { copies = Laws'11.copy Reached.the-type Laws'8.the-copy 𝓤 H A W; lawful =
-    Laws'11.lawful Reached.the-type Laws'8.the-laws 𝓤 H A W; makes = Laws'11.makes Reached.the-type Laws'8.the-plain 𝓤 H A; in-mem = Local.mem-whole 𝓤 H A W
+    Syntax.w32) ∷ (Value.pVal record { ty = Declared'.row Reached.the-type; one = Path'.refl; val = Laws'11.val Reached.the-type Laws'9.the-laws; tells =
+    Laws'11.tells Reached.the-type Laws'9.the-laws; still = Laws'11.still Reached.the-type Laws'9.the-copy Exit.yes; row = Rows'.whole (Declared'.row
+    Reached.the-type); rd = λ x. x; mk = λ x. x } λ M 𝓤 H A W. record { copies = Laws'11.copy Reached.the-type Laws'9.the-copy 𝓤 H A W; lawful =
+    Laws'11.lawful Reached.the-type Laws'9.the-laws 𝓤 H A W; makes = Laws'11.makes Reached.the-type Laws'9.the-plain 𝓤 H A; in-mem = Local.mem-whole 𝓤 H A W
     (Declared'.row Reached.the-type); of-mem = Local.whole-mem 𝓤 H A W (Declared'.row Reached.the-type) }) ∷ (Num.pNum Syntax.w64) ∷ []
 abbrev pub r·5 : Kinds.RK 2
 r·5 = Value.rVal record { ty = Declared.row Verdict.the-type; one = Path'.refl; val = Laws'10.val Verdict.the-type Laws''.the-laws; tells = Laws'10.tells
@@ -416,7 +417,7 @@ b0 = Syntax.assign (Syntax.place 14 []) (Syntax.op2 (Syntax.lt Syntax.unsigned) 
 abbrev b1 : Syntax.Body
 b1 = Syntax.assign (Syntax.place 16 []) (Syntax.aggregate ((Syntax.int Syntax.w8 0) ∷ []))
 abbrev b2 : Syntax.Body
-b2 = Syntax.call "checker::early" ((Syntax.copy (Syntax.place 16 [])) ∷ []) (Syntax.place 15 [])
+b2 = Syntax.call "answers::early" ((Syntax.copy (Syntax.place 16 [])) ∷ []) (Syntax.place 15 [])
 abbrev b3 : Syntax.Body
 b3 = Syntax.assign (Syntax.place 0 []) (Syntax.aggregate ((Syntax.int Syntax.w8 0) ∷ (Syntax.copy (Syntax.place 15 [])) ∷ []))
 abbrev b4 : Syntax.Body
@@ -438,7 +439,7 @@ b11 = Syntax.assign (Syntax.place 14 []) (Syntax.op2 (Syntax.lt Syntax.unsigned)
 abbrev b12 : Syntax.Body
 b12 = Syntax.assign (Syntax.place 19 []) (Syntax.aggregate ((Syntax.int Syntax.w8 3) ∷ []))
 abbrev b13 : Syntax.Body
-b13 = Syntax.call "checker::early" ((Syntax.copy (Syntax.place 19 [])) ∷ []) (Syntax.place 18 [])
+b13 = Syntax.call "answers::early" ((Syntax.copy (Syntax.place 19 [])) ∷ []) (Syntax.place 18 [])
 abbrev b14 : Syntax.Body
 b14 = Syntax.assign (Syntax.place 0 []) (Syntax.aggregate ((Syntax.int Syntax.w8 0) ∷ (Syntax.copy (Syntax.place 18 [])) ∷ []))
 abbrev b15 : Syntax.Body
@@ -462,7 +463,7 @@ b23 = Syntax.assign (Syntax.place 14 []) (Syntax.op2 (Syntax.le Syntax.unsigned)
 abbrev b24 : Syntax.Body
 b24 = Syntax.assign (Syntax.place 23 []) (Syntax.aggregate ((Syntax.int Syntax.w8 4) ∷ []))
 abbrev b25 : Syntax.Body
-b25 = Syntax.call "checker::early" ((Syntax.copy (Syntax.place 23 [])) ∷ []) (Syntax.place 22 [])
+b25 = Syntax.call "answers::early" ((Syntax.copy (Syntax.place 23 [])) ∷ []) (Syntax.place 22 [])
 abbrev b26 : Syntax.Body
 b26 = Syntax.assign (Syntax.place 0 []) (Syntax.aggregate ((Syntax.int Syntax.w8 0) ∷ (Syntax.copy (Syntax.place 22 [])) ∷ []))
 abbrev b27 : Syntax.Body
@@ -488,7 +489,7 @@ b36 = Syntax.assign (Syntax.place 26 []) (Syntax.aggregate ((Syntax.copy (Syntax
 abbrev b37 : Syntax.Body
 b37 = Syntax.assign (Syntax.place 27 []) (Syntax.addrOf (Syntax.place 5 []))
 abbrev b38 : Syntax.Body
-b38 = Syntax.call "reader::first_cursor" [] (Syntax.place 28 [])
+b38 = Syntax.call "cursors::first_cursor" [] (Syntax.place 28 [])
 abbrev b39 : Syntax.Body
 b39 = Syntax.call "reader::read_on" ((Syntax.copy (Syntax.place 1 [])) ∷ (Syntax.copy (Syntax.place 2 [])) ∷ (Syntax.copy (Syntax.place 26 [])) ∷ (Syntax.copy
     (Syntax.place 27 [])) ∷ (Syntax.copy (Syntax.place 28 [])) ∷ (Syntax.copy (Syntax.place 3 [])) ∷ []) (Syntax.place 6 [])
@@ -1154,7 +1155,7 @@ module _ (claims· : Claims) where
   s54 = λ bs. Local.k-back-sc T56 27 5 3 (Array'.Array (Array'.Array (Referent.rtF (Referent.fInt Syntax.w32)) 4) 32) y15 (Rows.arrF (Array'.Array
       (Referent.rtF (Referent.fInt Syntax.w32)) 4) 32 0) (λ x. x) (λ x. x) λ x. x
   abbrev s56 : (bs : List Nat.ℕ) → Typed.Mo T59 → Typed.Mo T61
-  s56 = λ bs. Scalar.n-use T59 (Scalar.oFld 6 ((Syntax.field 4) ∷ []) Syntax.tyBool 80 (Reads.fieldV Reached.the-type Laws'8.the-laws 4)) 7 (Rows'.sc-here
+  s56 = λ bs. Scalar.n-use T59 (Scalar.oFld 6 ((Syntax.field 4) ∷ []) Syntax.tyBool 80 (Reads.fieldV Reached.the-type Laws'9.the-laws 4)) 7 (Rows'.sc-here
       Row.sBool) (Row.sBool .of)
   abbrev s57 : (bs : List Nat.ℕ) → Typed.Mo T61 → Typed.Mo T62
   s57 = λ bs. Scalar.n-use T61 (Scalar.oAt 7 Syntax.tyBool (Row.valS Row.sBool)) 14 (Rows'.sc-here Row.sBool) (Row.sBool .of)
@@ -1281,7 +1282,7 @@ module _ (claims· : Claims) where
     module _ (M : Type 1) where
       abbrev pub Closed : Type 2
       Closed = (𝓤 : URA.URA M) (H : Wp.Heap 𝓤) (A : Atoms.Atoms 𝓤) (W : Kit.Given 𝓤 H A) (𝓣 : Wp.Tables 𝓤 H) (known0 : Plain.Known 𝓤 H A W 𝓣 0 ps·0 r·0
-          (claims· .0) (claims· .1) "checker::early") (known1 : Plain.Known 𝓤 H A W 𝓣 0 ps·1 r·1 (claims· .2) (claims· .3) "reader::first_cursor") (known2 :
+          (claims· .0) (claims· .1) "answers::early") (known1 : Plain.Known 𝓤 H A W 𝓣 0 ps·1 r·1 (claims· .2) (claims· .3) "cursors::first_cursor") (known2 :
           Plain.Known 𝓤 H A W 𝓣 3 ps·2 r·2 (claims· .4) (claims· .5) "reader::read_on") (known3 : Plain.Known 𝓤 H A W 𝓣 1 ps·3 r·3 (claims· .6) (claims· .7)
           "record_tables::clear_records") (known4 : Plain.Known 𝓤 H A W 𝓣 0 ps·4 r·4 (claims· .8) (claims· .9) "decider::decided_at") (known5 : Plain.Known 𝓤
           H A W 𝓣 2 ps·5 r·5 (claims· .10) (claims· .11) "decider::word_at") → Statement.Triple 𝓤 (Wp.WpFn 𝓤 H (𝓣 .C) (𝓣 .Λ) (Function.fnOf 2 ps r xs m hs
@@ -1579,8 +1580,8 @@ module _ (claims· : Claims) where
       Φ = λ bs. at143 bs
       module _ {M : Type 1} (𝓤 : URA.URA M) (H : Wp.Heap 𝓤) (A : Atoms.Atoms 𝓤) (W : Kit.Given 𝓤 H A) (𝓣 : Wp.Tables 𝓤 H) where
         abbrev Knowns : Type 1
-        Knowns = Plain.Known 𝓤 H A W 𝓣 0 ps·0 r·0 (claims· .0) (claims· .1) "checker::early" × Plain.Known 𝓤 H A W 𝓣 0 ps·1 r·1 (claims· .2) (claims· .3)
-            "reader::first_cursor" × Plain.Known 𝓤 H A W 𝓣 3 ps·2 r·2 (claims· .4) (claims· .5) "reader::read_on" × Plain.Known 𝓤 H A W 𝓣 1 ps·3 r·3 (claims·
+        Knowns = Plain.Known 𝓤 H A W 𝓣 0 ps·0 r·0 (claims· .0) (claims· .1) "answers::early" × Plain.Known 𝓤 H A W 𝓣 0 ps·1 r·1 (claims· .2) (claims· .3)
+            "cursors::first_cursor" × Plain.Known 𝓤 H A W 𝓣 3 ps·2 r·2 (claims· .4) (claims· .5) "reader::read_on" × Plain.Known 𝓤 H A W 𝓣 1 ps·3 r·3 (claims·
             .6) (claims· .7) "record_tables::clear_records" × Plain.Known 𝓤 H A W 𝓣 0 ps·4 r·4 (claims· .8) (claims· .9) "decider::decided_at" × Plain.Known 𝓤
             H A W 𝓣 2 ps·5 r·5 (claims· .10) (claims· .11) "decider::word_at"
       module _ (κs : Lifetimes.Lfts 2) (qs : Lifetimes.Shares 2) where
@@ -1972,17 +1973,17 @@ module _ (claims· : Claims) where
           d3 = Typed.g-pre 𝓤 H A W 𝓣 E G9 G10 b4 Δ1 (Typed.pass T9 T10 (s7 bs)) (at2 bs) (Scalar.g-room 𝓤 H A W E G9 15 y12 (Local.room-whole 𝓤 H A W
               (Declared'.row Refusal.the-type) y12 Path'.refl)) d2
           d4 : Typed.Typed 𝓤 H A 𝓣 E G8 b5 Δ1 (at4 bs)
-          d4 = Typed.s-seq 𝓤 H A W 𝓣 E G8 G9 b3 b4 Δ1 (Typed.pass T8 T9 (s6 bs)) (at3 bs) (Make.t-enum-make-wt 𝓤 H A W E 𝓣 Deciding.the-type Laws'.the-laws
-              Laws'.the-plain tt G8 0 ((Scalar.oInt Syntax.w8 0) ∷ (Scalar.oAt 15 y12 (Laws'11.val Refusal.the-type Laws.the-laws)) ∷ []) (λ m. Deciding.enum
+          d4 = Typed.s-seq 𝓤 H A W 𝓣 E G8 G9 b3 b4 Δ1 (Typed.pass T8 T9 (s6 bs)) (at3 bs) (Make.t-enum-make-wt 𝓤 H A W E 𝓣 Deciding.the-type Laws.the-laws
+              Laws.the-plain tt G8 0 ((Scalar.oInt Syntax.w8 0) ∷ (Scalar.oAt 15 y12 (Laws'11.val Refusal.the-type Laws'.the-laws)) ∷ []) (λ m. Deciding.enum
               .make (Logic.inl (m .1 .1 .1 .1 .1 .1 .1 .1 .1 .1 .1 .1 .1 .1 .1 .0, tt))) (Reads'.room-gone 𝓤 H A y19) (tt, ((Reads.reads-struct 𝓤 H A W
-              Refusal.the-type Laws.the-laws, Path'.refl), tt)) Path'.refl (λ m wa. Make.made-val Deciding.the-type Laws'.the-laws ((Laws'11.val
-              Refusal.the-type Laws.the-laws (m .1 .1 .1 .1 .1 .1 .1 .1 .1 .1 .1 .1 .1 .1 .1 .0)) ∷ []) (Deciding.enum .make (Logic.inl (m .1 .1 .1 .1 .1 .1
-              .1 .1 .1 .1 .1 .1 .1 .1 .1 .0, tt))) (Signed.made-wt Refusal.the-field Laws.the-field-laws (Make'.struct-wt Refusal.the-type Laws.the-laws
-              (Whole.enum-wt Cause.the-type Laws'3.the-laws (tt, (tt, (tt, (tt, (tt, (tt, (tt, (tt, (tt, (tt, (tt, (tt, (tt, tt))))))))))))), (Make'.u32-wt,
+              Refusal.the-type Laws'.the-laws, Path'.refl), tt)) Path'.refl (λ m wa. Make.made-val Deciding.the-type Laws.the-laws ((Laws'11.val
+              Refusal.the-type Laws'.the-laws (m .1 .1 .1 .1 .1 .1 .1 .1 .1 .1 .1 .1 .1 .1 .1 .0)) ∷ []) (Deciding.enum .make (Logic.inl (m .1 .1 .1 .1 .1 .1
+              .1 .1 .1 .1 .1 .1 .1 .1 .1 .0, tt))) (Signed.made-wt Refusal.the-field Laws'.the-field-laws (Make'.struct-wt Refusal.the-type Laws'.the-laws
+              (Whole.enum-wt Cause.the-type Laws'6.the-laws (tt, (tt, (tt, (tt, (tt, (tt, (tt, (tt, (tt, (tt, (tt, (tt, (tt, tt))))))))))))), (Make'.u32-wt,
               (Make'.u64-wt, tt)))) (Refusal.the-type .to (m .1 .1 .1 .1 .1 .1 .1 .1 .1 .1 .1 .1 .1 .1 .1 .0)), tt) (wa .1)) λ m wa. Make.made-is
-              Deciding.the-type Laws'.the-laws ((Laws'11.val Refusal.the-type Laws.the-laws (m .1 .1 .1 .1 .1 .1 .1 .1 .1 .1 .1 .1 .1 .1 .1 .0)) ∷ [])
-              (Deciding.enum .make (Logic.inl (m .1 .1 .1 .1 .1 .1 .1 .1 .1 .1 .1 .1 .1 .1 .1 .0, tt))) (Signed.made-wt Refusal.the-field Laws.the-field-laws
-              (Make'.struct-wt Refusal.the-type Laws.the-laws (Whole.enum-wt Cause.the-type Laws'3.the-laws (tt, (tt, (tt, (tt, (tt, (tt, (tt, (tt, (tt, (tt,
+              Deciding.the-type Laws.the-laws ((Laws'11.val Refusal.the-type Laws'.the-laws (m .1 .1 .1 .1 .1 .1 .1 .1 .1 .1 .1 .1 .1 .1 .1 .0)) ∷ [])
+              (Deciding.enum .make (Logic.inl (m .1 .1 .1 .1 .1 .1 .1 .1 .1 .1 .1 .1 .1 .1 .1 .0, tt))) (Signed.made-wt Refusal.the-field Laws'.the-field-laws
+              (Make'.struct-wt Refusal.the-type Laws'.the-laws (Whole.enum-wt Cause.the-type Laws'6.the-laws (tt, (tt, (tt, (tt, (tt, (tt, (tt, (tt, (tt, (tt,
               (tt, (tt, (tt, tt))))))))))))), (Make'.u32-wt, (Make'.u64-wt, tt)))) (Refusal.the-type .to (m .1 .1 .1 .1 .1 .1 .1 .1 .1 .1 .1 .1 .1 .1 .1 .0)),
               tt) (wa .1)) d3
           d5 : Typed.Typed 𝓤 H A 𝓣 E G7 b5 Δ1 (at5 bs)
@@ -1990,15 +1991,15 @@ module _ (claims· : Claims) where
               (Declared.row Cause.the-type) y8 Path'.refl)) d4
           d6 : Typed.Typed 𝓤 H A 𝓣 E G6 b6 Δ1 (at6 bs)
           d6 = Typed.s-seq 𝓤 H A W 𝓣 E G6 G7 b2 b5 Δ1 (Typed.both (s4 bs)) (at5 bs) (Plain.t-call-plain 𝓤 H A W 𝓣 0 ps·0 r·0 (claims· .0) (claims· .1)
-              "checker::early" (known .0) E (λ pos β. β) G6 (record { pos = 16; st = []; d = 0; at = λ x. x }, tt) 15 [] (Call.sub-id 𝓤 H A W (G6 .slots))
-              ((Yields.yields-copy 𝓤 H A W (λ ρ. Unit) (Declared.row Cause.the-type) Path'.refl (Copies.cEnum Cause.the-type Laws'3.the-laws Laws'3.the-copy
+              "answers::early" (known .0) E (λ pos β. β) G6 (record { pos = 16; st = []; d = 0; at = λ x. x }, tt) 15 [] (Call.sub-id 𝓤 H A W (G6 .slots))
+              ((Yields.yields-copy 𝓤 H A W (λ ρ. Unit) (Declared.row Cause.the-type) Path'.refl (Copies.cEnum Cause.the-type Laws'6.the-laws Laws'6.the-copy
               .copy 𝓤 H A W) (Rows'.whole (Declared.row Cause.the-type)) (λ x. x) (λ x. x) (λ ρ told. Local.mem-whole 𝓤 H A W (Declared.row Cause.the-type) ρ)
               λ ρ told. Local.whole-mem 𝓤 H A W (Declared.row Cause.the-type) ρ, Path'.refl), tt) (Reads'.room-gone 𝓤 H A y12) tt Path'.refl) d5
           d7 : Typed.Typed 𝓤 H A 𝓣 E G5 b7 Δ1 (at7 bs)
-          d7 = Typed.s-seq 𝓤 H A W 𝓣 E G5 G6 b1 b6 Δ1 (Typed.pass T5 T6 (s3 bs)) (at6 bs) (Make.t-enum-make-wt 𝓤 H A W E 𝓣 Cause.the-type Laws'3.the-laws
-              Laws'3.the-plain tt G5 16 ((Scalar.oInt Syntax.w8 0) ∷ []) (λ m. Cause.enum .make (Logic.inl tt)) (Reads'.room-gone 𝓤 H A y8) (tt, tt)
-              Path'.refl (λ m wa. Make.made-val Cause.the-type Laws'3.the-laws [] (Cause.enum .make (Logic.inl tt)) tt (wa .1)) λ m wa. Make.made-is
-              Cause.the-type Laws'3.the-laws [] (Cause.enum .make (Logic.inl tt)) tt (wa .1)) d6
+          d7 = Typed.s-seq 𝓤 H A W 𝓣 E G5 G6 b1 b6 Δ1 (Typed.pass T5 T6 (s3 bs)) (at6 bs) (Make.t-enum-make-wt 𝓤 H A W E 𝓣 Cause.the-type Laws'6.the-laws
+              Laws'6.the-plain tt G5 16 ((Scalar.oInt Syntax.w8 0) ∷ []) (λ m. Cause.enum .make (Logic.inl tt)) (Reads'.room-gone 𝓤 H A y8) (tt, tt)
+              Path'.refl (λ m wa. Make.made-val Cause.the-type Laws'6.the-laws [] (Cause.enum .make (Logic.inl tt)) tt (wa .1)) λ m wa. Make.made-is
+              Cause.the-type Laws'6.the-laws [] (Cause.enum .make (Logic.inl tt)) tt (wa .1)) d6
           d8 : Typed.Typed 𝓤 H A 𝓣 E G3 b7 Δ1 (at8 bs)
           d8 = Typed.g-pre 𝓤 H A W 𝓣 E G3 G5 b7 Δ1 (Typed.pass T3 T5 (s2 bs)) (at7 bs) (Scalar.g-room 𝓤 H A W E G3 14 Syntax.tyBool (Scalar.room-sc 𝓤 H A W
               Row.sBool)) d7
@@ -2022,32 +2023,32 @@ module _ (claims· : Claims) where
               (Declared'.row Refusal.the-type) y12 Path'.refl)) d14
           d16 : Typed.Typed 𝓤 H A 𝓣 E G21 b16 Δ2 (at16 bs)
           d16 = Typed.s-seq 𝓤 H A W 𝓣 E G21 G22 b14 b15 Δ2 (Typed.pass T21 T22 (s18 bs)) (at15 bs) (Make.t-enum-make-wt 𝓤 H A W E 𝓣 Deciding.the-type
-              Laws'.the-laws Laws'.the-plain tt G21 0 ((Scalar.oInt Syntax.w8 0) ∷ (Scalar.oAt 18 y12 (Laws'11.val Refusal.the-type Laws.the-laws)) ∷ []) (λ
-              m. Deciding.enum .make (Logic.inl (m .1 .1 .1 .1 .1 .1 .1 .1 .1 .1 .1 .1 .1 .1 .1 .1 .1 .1 .0, tt))) (Reads'.room-gone 𝓤 H A y19) (tt,
-              ((Reads.reads-struct 𝓤 H A W Refusal.the-type Laws.the-laws, Path'.refl), tt)) Path'.refl (λ m wa. Make.made-val Deciding.the-type
-              Laws'.the-laws ((Laws'11.val Refusal.the-type Laws.the-laws (m .1 .1 .1 .1 .1 .1 .1 .1 .1 .1 .1 .1 .1 .1 .1 .1 .1 .1 .0)) ∷ []) (Deciding.enum
-              .make (Logic.inl (m .1 .1 .1 .1 .1 .1 .1 .1 .1 .1 .1 .1 .1 .1 .1 .1 .1 .1 .0, tt))) (Signed.made-wt Refusal.the-field Laws.the-field-laws
-              (Make'.struct-wt Refusal.the-type Laws.the-laws (Whole.enum-wt Cause.the-type Laws'3.the-laws (tt, (tt, (tt, (tt, (tt, (tt, (tt, (tt, (tt, (tt,
+              Laws.the-laws Laws.the-plain tt G21 0 ((Scalar.oInt Syntax.w8 0) ∷ (Scalar.oAt 18 y12 (Laws'11.val Refusal.the-type Laws'.the-laws)) ∷ []) (λ m.
+              Deciding.enum .make (Logic.inl (m .1 .1 .1 .1 .1 .1 .1 .1 .1 .1 .1 .1 .1 .1 .1 .1 .1 .1 .0, tt))) (Reads'.room-gone 𝓤 H A y19) (tt,
+              ((Reads.reads-struct 𝓤 H A W Refusal.the-type Laws'.the-laws, Path'.refl), tt)) Path'.refl (λ m wa. Make.made-val Deciding.the-type
+              Laws.the-laws ((Laws'11.val Refusal.the-type Laws'.the-laws (m .1 .1 .1 .1 .1 .1 .1 .1 .1 .1 .1 .1 .1 .1 .1 .1 .1 .1 .0)) ∷ []) (Deciding.enum
+              .make (Logic.inl (m .1 .1 .1 .1 .1 .1 .1 .1 .1 .1 .1 .1 .1 .1 .1 .1 .1 .1 .0, tt))) (Signed.made-wt Refusal.the-field Laws'.the-field-laws
+              (Make'.struct-wt Refusal.the-type Laws'.the-laws (Whole.enum-wt Cause.the-type Laws'6.the-laws (tt, (tt, (tt, (tt, (tt, (tt, (tt, (tt, (tt, (tt,
               (tt, (tt, (tt, tt))))))))))))), (Make'.u32-wt, (Make'.u64-wt, tt)))) (Refusal.the-type .to (m .1 .1 .1 .1 .1 .1 .1 .1 .1 .1 .1 .1 .1 .1 .1 .1 .1
-              .1 .0)), tt) (wa .1)) λ m wa. Make.made-is Deciding.the-type Laws'.the-laws ((Laws'11.val Refusal.the-type Laws.the-laws (m .1 .1 .1 .1 .1 .1 .1
+              .1 .0)), tt) (wa .1)) λ m wa. Make.made-is Deciding.the-type Laws.the-laws ((Laws'11.val Refusal.the-type Laws'.the-laws (m .1 .1 .1 .1 .1 .1 .1
               .1 .1 .1 .1 .1 .1 .1 .1 .1 .1 .1 .0)) ∷ []) (Deciding.enum .make (Logic.inl (m .1 .1 .1 .1 .1 .1 .1 .1 .1 .1 .1 .1 .1 .1 .1 .1 .1 .1 .0, tt)))
-              (Signed.made-wt Refusal.the-field Laws.the-field-laws (Make'.struct-wt Refusal.the-type Laws.the-laws (Whole.enum-wt Cause.the-type
-              Laws'3.the-laws (tt, (tt, (tt, (tt, (tt, (tt, (tt, (tt, (tt, (tt, (tt, (tt, (tt, tt))))))))))))), (Make'.u32-wt, (Make'.u64-wt, tt))))
+              (Signed.made-wt Refusal.the-field Laws'.the-field-laws (Make'.struct-wt Refusal.the-type Laws'.the-laws (Whole.enum-wt Cause.the-type
+              Laws'6.the-laws (tt, (tt, (tt, (tt, (tt, (tt, (tt, (tt, (tt, (tt, (tt, (tt, (tt, tt))))))))))))), (Make'.u32-wt, (Make'.u64-wt, tt))))
               (Refusal.the-type .to (m .1 .1 .1 .1 .1 .1 .1 .1 .1 .1 .1 .1 .1 .1 .1 .1 .1 .1 .0)), tt) (wa .1)) d15
           d17 : Typed.Typed 𝓤 H A 𝓣 E G20 b16 Δ2 (at17 bs)
           d17 = Typed.g-pre 𝓤 H A W 𝓣 E G20 G21 b16 Δ2 (Typed.pass T20 T21 (s17 bs)) (at16 bs) (Scalar.g-room 𝓤 H A W E G20 19 y8 (Local.room-whole 𝓤 H A W
               (Declared.row Cause.the-type) y8 Path'.refl)) d16
           d18 : Typed.Typed 𝓤 H A 𝓣 E G19 b17 Δ2 (at18 bs)
           d18 = Typed.s-seq 𝓤 H A W 𝓣 E G19 G20 b13 b16 Δ2 (Typed.both (s16 bs)) (at17 bs) (Plain.t-call-plain 𝓤 H A W 𝓣 0 ps·0 r·0 (claims· .0) (claims· .1)
-              "checker::early" (known .0) E (λ pos β. β) G19 (record { pos = 19; st = []; d = 0; at = λ x. x }, tt) 18 [] (Call.sub-id 𝓤 H A W (G19 .slots))
-              ((Yields.yields-copy 𝓤 H A W (λ ρ. Unit) (Declared.row Cause.the-type) Path'.refl (Copies.cEnum Cause.the-type Laws'3.the-laws Laws'3.the-copy
+              "answers::early" (known .0) E (λ pos β. β) G19 (record { pos = 19; st = []; d = 0; at = λ x. x }, tt) 18 [] (Call.sub-id 𝓤 H A W (G19 .slots))
+              ((Yields.yields-copy 𝓤 H A W (λ ρ. Unit) (Declared.row Cause.the-type) Path'.refl (Copies.cEnum Cause.the-type Laws'6.the-laws Laws'6.the-copy
               .copy 𝓤 H A W) (Rows'.whole (Declared.row Cause.the-type)) (λ x. x) (λ x. x) (λ ρ told. Local.mem-whole 𝓤 H A W (Declared.row Cause.the-type) ρ)
               λ ρ told. Local.whole-mem 𝓤 H A W (Declared.row Cause.the-type) ρ, Path'.refl), tt) (Reads'.room-gone 𝓤 H A y12) tt Path'.refl) d17
           d19 : Typed.Typed 𝓤 H A 𝓣 E G18 b18 Δ2 (at19 bs)
           d19 = Typed.s-seq 𝓤 H A W 𝓣 E G18 G19 b12 b17 Δ2 (Typed.pass T18 T19 (s15 bs)) (at18 bs) (Make.t-enum-make-wt 𝓤 H A W E 𝓣 Cause.the-type
-              Laws'3.the-laws Laws'3.the-plain tt G18 19 ((Scalar.oInt Syntax.w8 3) ∷ []) (λ m. Cause.enum .make (Logic.inr (Logic.inr (Logic.inr (Logic.inl
-              tt))))) (Reads'.room-gone 𝓤 H A y8) (tt, tt) Path'.refl (λ m wa. Make.made-val Cause.the-type Laws'3.the-laws [] (Cause.enum .make (Logic.inr
-              (Logic.inr (Logic.inr (Logic.inl tt))))) tt (wa .1)) λ m wa. Make.made-is Cause.the-type Laws'3.the-laws [] (Cause.enum .make (Logic.inr
+              Laws'6.the-laws Laws'6.the-plain tt G18 19 ((Scalar.oInt Syntax.w8 3) ∷ []) (λ m. Cause.enum .make (Logic.inr (Logic.inr (Logic.inr (Logic.inl
+              tt))))) (Reads'.room-gone 𝓤 H A y8) (tt, tt) Path'.refl (λ m wa. Make.made-val Cause.the-type Laws'6.the-laws [] (Cause.enum .make (Logic.inr
+              (Logic.inr (Logic.inr (Logic.inl tt))))) tt (wa .1)) λ m wa. Make.made-is Cause.the-type Laws'6.the-laws [] (Cause.enum .make (Logic.inr
               (Logic.inr (Logic.inr (Logic.inl tt))))) tt (wa .1)) d18
           d20 : Typed.Typed 𝓤 H A 𝓣 E G17 b18 Δ2 (at20 bs)
           d20 = Typed.g-pre 𝓤 H A W 𝓣 E G17 G18 b18 Δ2 (Typed.pass T17 T18 (s14 bs)) (at19 bs) (Scalar.g-room 𝓤 H A W E G17 14 Syntax.tyBool (Scalar.room-sc 𝓤
@@ -2075,17 +2076,17 @@ module _ (claims· : Claims) where
               (Declared'.row Refusal.the-type) y12 Path'.refl)) d27
           d29 : Typed.Typed 𝓤 H A 𝓣 E G36 b28 Δ3 (at29 bs)
           d29 = Typed.s-seq 𝓤 H A W 𝓣 E G36 G37 b26 b27 Δ3 (Typed.pass T36 T37 (s32 bs)) (at28 bs) (Make.t-enum-make-wt 𝓤 H A W E 𝓣 Deciding.the-type
-              Laws'.the-laws Laws'.the-plain tt G36 0 ((Scalar.oInt Syntax.w8 0) ∷ (Scalar.oAt 22 y12 (Laws'11.val Refusal.the-type Laws.the-laws)) ∷ []) (λ
-              m. Deciding.enum .make (Logic.inl (m .1 .1 .1 .1 .1 .1 .1 .1 .1 .1 .1 .1 .1 .1 .1 .1 .1 .1 .1 .1 .1 .1 .0, tt))) (Reads'.room-gone 𝓤 H A y19)
-              (tt, ((Reads.reads-struct 𝓤 H A W Refusal.the-type Laws.the-laws, Path'.refl), tt)) Path'.refl (λ m wa. Make.made-val Deciding.the-type
-              Laws'.the-laws ((Laws'11.val Refusal.the-type Laws.the-laws (m .1 .1 .1 .1 .1 .1 .1 .1 .1 .1 .1 .1 .1 .1 .1 .1 .1 .1 .1 .1 .1 .1 .0)) ∷ [])
+              Laws.the-laws Laws.the-plain tt G36 0 ((Scalar.oInt Syntax.w8 0) ∷ (Scalar.oAt 22 y12 (Laws'11.val Refusal.the-type Laws'.the-laws)) ∷ []) (λ m.
+              Deciding.enum .make (Logic.inl (m .1 .1 .1 .1 .1 .1 .1 .1 .1 .1 .1 .1 .1 .1 .1 .1 .1 .1 .1 .1 .1 .1 .0, tt))) (Reads'.room-gone 𝓤 H A y19) (tt,
+              ((Reads.reads-struct 𝓤 H A W Refusal.the-type Laws'.the-laws, Path'.refl), tt)) Path'.refl (λ m wa. Make.made-val Deciding.the-type
+              Laws.the-laws ((Laws'11.val Refusal.the-type Laws'.the-laws (m .1 .1 .1 .1 .1 .1 .1 .1 .1 .1 .1 .1 .1 .1 .1 .1 .1 .1 .1 .1 .1 .1 .0)) ∷ [])
               (Deciding.enum .make (Logic.inl (m .1 .1 .1 .1 .1 .1 .1 .1 .1 .1 .1 .1 .1 .1 .1 .1 .1 .1 .1 .1 .1 .1 .0, tt))) (Signed.made-wt Refusal.the-field
-              Laws.the-field-laws (Make'.struct-wt Refusal.the-type Laws.the-laws (Whole.enum-wt Cause.the-type Laws'3.the-laws (tt, (tt, (tt, (tt, (tt, (tt,
-              (tt, (tt, (tt, (tt, (tt, (tt, (tt, tt))))))))))))), (Make'.u32-wt, (Make'.u64-wt, tt)))) (Refusal.the-type .to (m .1 .1 .1 .1 .1 .1 .1 .1 .1 .1
-              .1 .1 .1 .1 .1 .1 .1 .1 .1 .1 .1 .1 .0)), tt) (wa .1)) λ m wa. Make.made-is Deciding.the-type Laws'.the-laws ((Laws'11.val Refusal.the-type
-              Laws.the-laws (m .1 .1 .1 .1 .1 .1 .1 .1 .1 .1 .1 .1 .1 .1 .1 .1 .1 .1 .1 .1 .1 .1 .0)) ∷ []) (Deciding.enum .make (Logic.inl (m .1 .1 .1 .1 .1
-              .1 .1 .1 .1 .1 .1 .1 .1 .1 .1 .1 .1 .1 .1 .1 .1 .1 .0, tt))) (Signed.made-wt Refusal.the-field Laws.the-field-laws (Make'.struct-wt
-              Refusal.the-type Laws.the-laws (Whole.enum-wt Cause.the-type Laws'3.the-laws (tt, (tt, (tt, (tt, (tt, (tt, (tt, (tt, (tt, (tt, (tt, (tt, (tt,
+              Laws'.the-field-laws (Make'.struct-wt Refusal.the-type Laws'.the-laws (Whole.enum-wt Cause.the-type Laws'6.the-laws (tt, (tt, (tt, (tt, (tt,
+              (tt, (tt, (tt, (tt, (tt, (tt, (tt, (tt, tt))))))))))))), (Make'.u32-wt, (Make'.u64-wt, tt)))) (Refusal.the-type .to (m .1 .1 .1 .1 .1 .1 .1 .1
+              .1 .1 .1 .1 .1 .1 .1 .1 .1 .1 .1 .1 .1 .1 .0)), tt) (wa .1)) λ m wa. Make.made-is Deciding.the-type Laws.the-laws ((Laws'11.val Refusal.the-type
+              Laws'.the-laws (m .1 .1 .1 .1 .1 .1 .1 .1 .1 .1 .1 .1 .1 .1 .1 .1 .1 .1 .1 .1 .1 .1 .0)) ∷ []) (Deciding.enum .make (Logic.inl (m .1 .1 .1 .1 .1
+              .1 .1 .1 .1 .1 .1 .1 .1 .1 .1 .1 .1 .1 .1 .1 .1 .1 .0, tt))) (Signed.made-wt Refusal.the-field Laws'.the-field-laws (Make'.struct-wt
+              Refusal.the-type Laws'.the-laws (Whole.enum-wt Cause.the-type Laws'6.the-laws (tt, (tt, (tt, (tt, (tt, (tt, (tt, (tt, (tt, (tt, (tt, (tt, (tt,
               tt))))))))))))), (Make'.u32-wt, (Make'.u64-wt, tt)))) (Refusal.the-type .to (m .1 .1 .1 .1 .1 .1 .1 .1 .1 .1 .1 .1 .1 .1 .1 .1 .1 .1 .1 .1 .1 .1
               .0)), tt) (wa .1)) d28
           d30 : Typed.Typed 𝓤 H A 𝓣 E G35 b28 Δ3 (at30 bs)
@@ -2093,15 +2094,15 @@ module _ (claims· : Claims) where
               (Declared.row Cause.the-type) y8 Path'.refl)) d29
           d31 : Typed.Typed 𝓤 H A 𝓣 E G34 b29 Δ3 (at31 bs)
           d31 = Typed.s-seq 𝓤 H A W 𝓣 E G34 G35 b25 b28 Δ3 (Typed.both (s30 bs)) (at30 bs) (Plain.t-call-plain 𝓤 H A W 𝓣 0 ps·0 r·0 (claims· .0) (claims· .1)
-              "checker::early" (known .0) E (λ pos β. β) G34 (record { pos = 23; st = []; d = 0; at = λ x. x }, tt) 22 [] (Call.sub-id 𝓤 H A W (G34 .slots))
-              ((Yields.yields-copy 𝓤 H A W (λ ρ. Unit) (Declared.row Cause.the-type) Path'.refl (Copies.cEnum Cause.the-type Laws'3.the-laws Laws'3.the-copy
+              "answers::early" (known .0) E (λ pos β. β) G34 (record { pos = 23; st = []; d = 0; at = λ x. x }, tt) 22 [] (Call.sub-id 𝓤 H A W (G34 .slots))
+              ((Yields.yields-copy 𝓤 H A W (λ ρ. Unit) (Declared.row Cause.the-type) Path'.refl (Copies.cEnum Cause.the-type Laws'6.the-laws Laws'6.the-copy
               .copy 𝓤 H A W) (Rows'.whole (Declared.row Cause.the-type)) (λ x. x) (λ x. x) (λ ρ told. Local.mem-whole 𝓤 H A W (Declared.row Cause.the-type) ρ)
               λ ρ told. Local.whole-mem 𝓤 H A W (Declared.row Cause.the-type) ρ, Path'.refl), tt) (Reads'.room-gone 𝓤 H A y12) tt Path'.refl) d30
           d32 : Typed.Typed 𝓤 H A 𝓣 E G33 b30 Δ3 (at32 bs)
           d32 = Typed.s-seq 𝓤 H A W 𝓣 E G33 G34 b24 b29 Δ3 (Typed.pass T33 T34 (s29 bs)) (at31 bs) (Make.t-enum-make-wt 𝓤 H A W E 𝓣 Cause.the-type
-              Laws'3.the-laws Laws'3.the-plain tt G33 23 ((Scalar.oInt Syntax.w8 4) ∷ []) (λ m. Cause.enum .make (Logic.inr (Logic.inr (Logic.inr (Logic.inr
-              (Logic.inl tt)))))) (Reads'.room-gone 𝓤 H A y8) (tt, tt) Path'.refl (λ m wa. Make.made-val Cause.the-type Laws'3.the-laws [] (Cause.enum .make
-              (Logic.inr (Logic.inr (Logic.inr (Logic.inr (Logic.inl tt)))))) tt (wa .1)) λ m wa. Make.made-is Cause.the-type Laws'3.the-laws [] (Cause.enum
+              Laws'6.the-laws Laws'6.the-plain tt G33 23 ((Scalar.oInt Syntax.w8 4) ∷ []) (λ m. Cause.enum .make (Logic.inr (Logic.inr (Logic.inr (Logic.inr
+              (Logic.inl tt)))))) (Reads'.room-gone 𝓤 H A y8) (tt, tt) Path'.refl (λ m wa. Make.made-val Cause.the-type Laws'6.the-laws [] (Cause.enum .make
+              (Logic.inr (Logic.inr (Logic.inr (Logic.inr (Logic.inl tt)))))) tt (wa .1)) λ m wa. Make.made-is Cause.the-type Laws'6.the-laws [] (Cause.enum
               .make (Logic.inr (Logic.inr (Logic.inr (Logic.inr (Logic.inl tt)))))) tt (wa .1)) d31
           d33 : Typed.Typed 𝓤 H A 𝓣 E G32 b30 Δ3 (at33 bs)
           d33 = Typed.g-pre 𝓤 H A W 𝓣 E G32 G33 b30 Δ3 (Typed.pass T32 T33 (s28 bs)) (at32 bs) (Scalar.g-room 𝓤 H A W E G32 14 Syntax.tyBool (Scalar.room-sc 𝓤
@@ -2140,7 +2141,7 @@ module _ (claims· : Claims) where
           d45 = Typed.s-seq 𝓤 H A W 𝓣 E G75 G76 b47 b48 Δ4 (Typed.both (s70 bs)) (at44 bs) (Plain.t-call-plain 𝓤 H A W 𝓣 0 ps·4 r·4 (claims· .8) (claims· .9)
               "decider::decided_at" (known .4) E (λ pos β. β) G75 (record { pos = 6; st = []; d = 0; at = λ x. x }, (record { pos = 32; st = []; d = 0; at = λ
               x. x }, tt)) 0 [] (Call.sub-id 𝓤 H A W (G75 .slots)) ((Yields.yields-copy 𝓤 H A W (λ ρ. Unit) (Declared'.row Reached.the-type) Path'.refl
-              (Copies.cStruct Reached.the-type Laws'8.the-laws Laws'8.the-copy .copy 𝓤 H A W) (Rows'.whole (Declared'.row Reached.the-type)) (λ x. x) (λ x. x)
+              (Copies.cStruct Reached.the-type Laws'9.the-laws Laws'9.the-copy .copy 𝓤 H A W) (Rows'.whole (Declared'.row Reached.the-type)) (λ x. x) (λ x. x)
               (λ ρ told. Local.mem-whole 𝓤 H A W (Declared'.row Reached.the-type) ρ) λ ρ told. Local.whole-mem 𝓤 H A W (Declared'.row Reached.the-type) ρ,
               Path'.refl), ((Yields.yields-copy 𝓤 H A W (λ ρ. Unit) (Declared.row Verdict.the-type) Path'.refl (Copies.cEnum Verdict.the-type Laws''.the-laws
               Laws''.the-copy .copy 𝓤 H A W) (Rows'.whole (Declared.row Verdict.the-type)) (λ x. x) (λ x. x) (λ ρ told. Local.mem-whole 𝓤 H A W (Declared.row
@@ -2223,7 +2224,7 @@ module _ (claims· : Claims) where
           d68 = Typed.s-seq 𝓤 H A W 𝓣 E G125 G126 b71 b72 Δ0 (Typed.both (s120 bs)) (at67 bs) (Plain.t-call-plain 𝓤 H A W 𝓣 0 ps·4 r·4 (claims· .8) (claims·
               .9) "decider::decided_at" (known .4) E (λ pos β. β) G125 (record { pos = 12; st = []; d = 0; at = λ x. x }, (record { pos = 9; st = []; d = 0;
               at = λ x. x }, tt)) 0 [] (Call.sub-id 𝓤 H A W (G125 .slots)) ((Yields.yields-copy 𝓤 H A W (λ ρ. Unit) (Declared'.row Reached.the-type)
-              Path'.refl (Copies.cStruct Reached.the-type Laws'8.the-laws Laws'8.the-copy .copy 𝓤 H A W) (Rows'.whole (Declared'.row Reached.the-type)) (λ x.
+              Path'.refl (Copies.cStruct Reached.the-type Laws'9.the-laws Laws'9.the-copy .copy 𝓤 H A W) (Rows'.whole (Declared'.row Reached.the-type)) (λ x.
               x) (λ x. x) (λ ρ told. Local.mem-whole 𝓤 H A W (Declared'.row Reached.the-type) ρ) λ ρ told. Local.whole-mem 𝓤 H A W (Declared'.row
               Reached.the-type) ρ, Path'.refl), ((Yields.yields-copy 𝓤 H A W (λ ρ. Unit) (Declared.row Verdict.the-type) Path'.refl (Copies.cEnum
               Verdict.the-type Laws''.the-laws Laws''.the-copy .copy 𝓤 H A W) (Rows'.whole (Declared.row Verdict.the-type)) (λ x. x) (λ x. x) (λ ρ told.
@@ -2296,7 +2297,7 @@ module _ (claims· : Claims) where
               Syntax.w8)) y21 0, Path'.refl, (Reads'.as-is 𝓤 H A (Mut.mslice NodeRecordT.row y13 7), Mut.reads-mslice 𝓤 H A W NodeRecordT.row y13 7,
               Path'.refl, (Reads'.as-is 𝓤 H A (Rows'.mref (Array'.Array (Array'.Array (Referent.rtF (Referent.fInt Syntax.w32)) 4) 32) y15 8),
               Reads'.reads-mref 𝓤 H A W (Array'.Array (Array'.Array (Referent.rtF (Referent.fInt Syntax.w32)) 4) 32) y15 8, Path'.refl, ((Yields.yields-copy 𝓤
-              H A W (λ ρ. Unit) (Declared'.row Cursor.the-type) Path'.refl (Copies.cStruct Cursor.the-type Laws'6.the-laws Laws'6.the-copy .copy 𝓤 H A W)
+              H A W (λ ρ. Unit) (Declared'.row Cursor.the-type) Path'.refl (Copies.cStruct Cursor.the-type Laws'3.the-laws Laws'3.the-copy .copy 𝓤 H A W)
               (Rows'.whole (Declared'.row Cursor.the-type)) (λ x. x) (λ x. x) (λ ρ told. Local.mem-whole 𝓤 H A W (Declared'.row Cursor.the-type) ρ) λ ρ told.
               Local.whole-mem 𝓤 H A W (Declared'.row Cursor.the-type) ρ, Path'.refl), (record { lower = record { fits = Dec'.lit< tt } }, tt))))))
               (Reads'.room-gone 𝓤 H A y9) (tt, (tt, (tt, tt))) Path'.refl) d85
@@ -2333,19 +2334,19 @@ module _ (claims· : Claims) where
               (Declared'.row Reached.the-type) y9 Path'.refl)) d93
           d95 : Typed.Typed 𝓤 H A 𝓣 E G98 b82 Δ0 (at95 bs)
           d95 = Typed.s-seq 𝓤 H A W 𝓣 E G98 G99 b62 b81 Δ0 (Typed.pass T98 T99 (s93 bs)) (at94 bs) (Make'.t-struct-make 𝓤 H A W E 𝓣 (Apart.apartT
-              Cursor.the-type) Laws'6.the-laws Laws'6.the-plain G98 11 ((Scalar.oAt 10 y7 (Laws'11.val Run.the-type Laws'9.the-laws)) ∷ (Scalar.oFld 6
-              ((Syntax.field 1) ∷ []) y5 56 (Reads.fieldV Reached.the-type Laws'8.the-laws 1)) ∷ []) (λ m. (m .1 .1 .1 .1 .1 .1 .1 .1 .1 .1 .0,
+              Cursor.the-type) Laws'3.the-laws Laws'3.the-plain G98 11 ((Scalar.oAt 10 y7 (Laws'11.val Run.the-type Laws'5.the-laws)) ∷ (Scalar.oFld 6
+              ((Syntax.field 1) ∷ []) y5 56 (Reads.fieldV Reached.the-type Laws'9.the-laws 1)) ∷ []) (λ m. (m .1 .1 .1 .1 .1 .1 .1 .1 .1 .1 .0,
               (Reached.struct .as-values (m .1 .1 .1 .1 .1 .1 .0) .1 .0, tt))) (Reads'.room-gone 𝓤 H A y11) ((Reads.reads-struct 𝓤 H A W Run.the-type
-              Laws'9.the-laws, Path'.refl), ((Reads.reads-field 𝓤 H A W Reached.the-type Laws'8.the-laws 1 y5 56 Path'.refl, Path'.refl), tt)) Path'.refl (λ
-              u. Path'.refl) λ m. Make'.is-wt (Apart.apartT Cursor.the-type) Laws'6.the-laws (Make'.struct-wt Run.the-type Laws'9.the-laws (Make'.struct-wt
-              Ref.the-type Laws'5.the-laws (Make'.u32-wt, (Make'.u32-wt, tt)), (Make'.struct-wt Pair.the-type Laws'7.the-laws (Make'.bool-wt, (Make'.struct-wt
-              Ref.the-type Laws'5.the-laws (Make'.u32-wt, (Make'.u32-wt, tt)), (Make'.struct-wt Ref.the-type Laws'5.the-laws (Make'.u32-wt, (Make'.u32-wt,
-              tt)), tt))), (Make'.u64-wt, (Make'.u64-wt, (Make'.u32-wt, (Whole.enum-wt Context.the-type Laws'4.the-laws (tt, (tt, (tt, (tt, (tt, (tt, (tt,
+              Laws'5.the-laws, Path'.refl), ((Reads.reads-field 𝓤 H A W Reached.the-type Laws'9.the-laws 1 y5 56 Path'.refl, Path'.refl), tt)) Path'.refl (λ
+              u. Path'.refl) λ m. Make'.is-wt (Apart.apartT Cursor.the-type) Laws'3.the-laws (Make'.struct-wt Run.the-type Laws'5.the-laws (Make'.struct-wt
+              Ref.the-type Laws'8.the-laws (Make'.u32-wt, (Make'.u32-wt, tt)), (Make'.struct-wt Pair.the-type Laws'4.the-laws (Make'.bool-wt, (Make'.struct-wt
+              Ref.the-type Laws'8.the-laws (Make'.u32-wt, (Make'.u32-wt, tt)), (Make'.struct-wt Ref.the-type Laws'8.the-laws (Make'.u32-wt, (Make'.u32-wt,
+              tt)), tt))), (Make'.u64-wt, (Make'.u64-wt, (Make'.u32-wt, (Whole.enum-wt Context.the-type Laws'7.the-laws (tt, (tt, (tt, (tt, (tt, (tt, (tt,
               tt))))))), (Make'.bool-wt, tt))))))), (Make'.u64-wt, tt)) (m .1 .1 .1 .1 .1 .1 .1 .1 .1 .1 .0, (Reached.struct .as-values (m .1 .1 .1 .1 .1 .1
               .0) .1 .0, tt))) d94
           d96 : Typed.Typed 𝓤 H A 𝓣 E G97 b83 Δ0 (at96 bs)
           d96 = Typed.s-seq 𝓤 H A W 𝓣 E G97 G98 b61 b82 Δ0 (Typed.both (s92 bs)) (at95 bs) (WayStmt.t-way-copy-out 𝓤 H A W E 𝓣 (Declared'.row Run.the-type)
-              Path'.refl (Copies.cStruct Run.the-type Laws'9.the-laws Laws'9.the-copy .copy 𝓤 H A W) (λ ρ. Unit) G97 (Row.out 6 (G97 .locals)) (λ u. Row.drop
+              Path'.refl (Copies.cStruct Run.the-type Laws'5.the-laws Laws'5.the-copy .copy 𝓤 H A W) (λ ρ. Unit) G97 (Row.out 6 (G97 .locals)) (λ u. Row.drop
               6 (G97 .locals) u) (G97 .slots) 6 (λ t. (Syntax.field 0) ∷ t) y7 y7 10 (Rows'.whole (Declared'.row Run.the-type)) (λ x. x) (λ u. At.getAt
               (Reached.the-type .parts) 0 (Reached.struct .as-values (u .1 .1 .1 .1 .1 .1 .0))) (λ u. (Row.hd 0 (Row.tl (Row.tl (Row.tl (Row.tl (Row.tl
               (Row.tl bs)))))), Nat._+_ 0 0)) (λ T′. record { locals = Row.setRow 6 (6, Rows'.whole (Declared'.row Reached.the-type)) T′; slots = G97 .slots
@@ -2359,7 +2360,7 @@ module _ (claims· : Claims) where
               (Row.tl (Row.tl (Row.tl (Row.tl (Row.tl (Row.tl bs)))))))))) Path'.refl λ q. Inner.cut-record 𝓤 H A q (Declared'.row Reached.the-type)
               Run.the-type 0 (u .1 .1 .1 .1 .1 .1 .0) (u .1 .1 .1 .1 .1 .1 .0) (At.getAt (Reached.the-type .parts) 0 (Reached.struct .as-values (u .1 .1 .1 .1
               .1 .1 .0))) (At.getAt (Reached.the-type .parts) 0 (Reached.struct .as-values (u .1 .1 .1 .1 .1 .1 .0))) (Row.hd 0 (Row.tl (Row.tl (Row.tl
-              (Row.tl (Row.tl (Row.tl bs)))))), 0) (Behind.look-at 𝓤 H A W q Reached.the-type Laws'8.the-laws 0 0 Path'.refl Path'.refl (Row.hd 0 (Row.tl
+              (Row.tl (Row.tl (Row.tl bs)))))), 0) (Behind.look-at 𝓤 H A W q Reached.the-type Laws'9.the-laws 0 0 Path'.refl Path'.refl (Row.hd 0 (Row.tl
               (Row.tl (Row.tl (Row.tl (Row.tl (Row.tl bs)))))), 0) (u .1 .1 .1 .1 .1 .1 .0) (Reached.struct .as-values (u .1 .1 .1 .1 .1 .1 .0)) Path'.refl))
               (Reads'.room-gone 𝓤 H A y7) (Yields.makes-mem 𝓤 H A W (λ ρ. Unit) (Declared'.row Run.the-type) Path'.refl (Rows'.whole (Declared'.row
               Run.the-type)) (λ x. x) λ ρ told. Local.whole-mem 𝓤 H A W (Declared'.row Run.the-type) ρ) Path'.refl Path'.refl Path'.refl) d95
@@ -2396,7 +2397,7 @@ module _ (claims· : Claims) where
               (ShrRef.spares-sref 𝓤 H A W (Array'.Array (Array'.Array (Referent.rtF (Referent.fInt Syntax.w32)) 4) 32) y18 6, Reads'.reads-sref 𝓤 H A W
               (Array'.Array (Array'.Array (Referent.rtF (Referent.fInt Syntax.w32)) 4) 32) y18 6, Path'.refl, ((Scalar.reads-sc 𝓤 H A W (Row.sInt Syntax.w32),
               Path'.refl), ((Yields.yields-copy 𝓤 H A W (λ ρ. Unit) (Declared'.row Reached.the-type) Path'.refl (Copies.cStruct Reached.the-type
-              Laws'8.the-laws Laws'8.the-copy .copy 𝓤 H A W) (Rows'.whole (Declared'.row Reached.the-type)) (λ x. x) (λ x. x) (λ ρ told. Local.mem-whole 𝓤 H A
+              Laws'9.the-laws Laws'9.the-copy .copy 𝓤 H A W) (Rows'.whole (Declared'.row Reached.the-type)) (λ x. x) (λ x. x) (λ ρ told. Local.mem-whole 𝓤 H A
               W (Declared'.row Reached.the-type) ρ) λ ρ told. Local.whole-mem 𝓤 H A W (Declared'.row Reached.the-type) ρ, Path'.refl), ((Scalar.reads-sc 𝓤 H A
               W (Row.sInt Syntax.w64), Path'.refl), tt))))) (Reads'.room-gone 𝓤 H A y10) (tt, (tt, tt)) Path'.refl) d104
           d106 : Typed.Typed 𝓤 H A 𝓣 E G87 b85 Δ0 (at106 bs)
@@ -2428,8 +2429,8 @@ module _ (claims· : Claims) where
               Path'.refl) (Reads'.room-gone 𝓤 H A Syntax.tyBool) (Scalar.holds-sc 𝓤 H A W Row.sBool) Path'.refl (λ u. Path'.refl) λ u. tt) d111
           d113 : Typed.Typed 𝓤 H A 𝓣 E G60 b90 Δ0 (at113 bs)
           d113 = Typed.s-seq 𝓤 H A W 𝓣 E G60 G61 b40 b89 Δ0 (Typed.pass T59 T61 (s56 bs)) (at112 bs) (Scalar.t-use 𝓤 H A W E 𝓣 G60 (Scalar.oFld 6
-              ((Syntax.field 4) ∷ []) Syntax.tyBool 80 (Reads.fieldV Reached.the-type Laws'8.the-laws 4)) 7 (Rows'.sc-here Row.sBool) Syntax.tyBool (Row.valS
-              Row.sBool) (Row.sBool .of) (Reads.reads-field 𝓤 H A W Reached.the-type Laws'8.the-laws 4 Syntax.tyBool 80 Path'.refl, Path'.refl)
+              ((Syntax.field 4) ∷ []) Syntax.tyBool 80 (Reads.fieldV Reached.the-type Laws'9.the-laws 4)) 7 (Rows'.sc-here Row.sBool) Syntax.tyBool (Row.valS
+              Row.sBool) (Row.sBool .of) (Reads.reads-field 𝓤 H A W Reached.the-type Laws'9.the-laws 4 Syntax.tyBool 80 Path'.refl, Path'.refl)
               (Reads'.room-gone 𝓤 H A Syntax.tyBool) (Scalar.holds-sc 𝓤 H A W Row.sBool) Path'.refl (λ u. Path'.refl) λ u. tt) d112
           d114 : Typed.Typed 𝓤 H A 𝓣 E G59 b90 Δ0 (at114 bs)
           d114 = Typed.g-pre 𝓤 H A W 𝓣 E G59 G60 b90 Δ0 (λ Ψ. Ψ) (at113 bs) (Lifetime.g-forget 𝓤 H A W E G59 3 Row.dead Path'.refl) d113
@@ -2461,13 +2462,13 @@ module _ (claims· : Claims) where
               Syntax.w8)) y21 0, Path'.refl, (Reads'.as-is 𝓤 H A (Mut.mslice NodeRecordT.row y13 2), Mut.reads-mslice 𝓤 H A W NodeRecordT.row y13 2,
               Path'.refl, (Reads'.as-is 𝓤 H A (Rows'.mref (Array'.Array (Array'.Array (Referent.rtF (Referent.fInt Syntax.w32)) 4) 32) y15 3),
               Reads'.reads-mref 𝓤 H A W (Array'.Array (Array'.Array (Referent.rtF (Referent.fInt Syntax.w32)) 4) 32) y15 3, Path'.refl, ((Yields.yields-copy 𝓤
-              H A W (λ ρ. Unit) (Declared'.row Cursor.the-type) Path'.refl (Copies.cStruct Cursor.the-type Laws'6.the-laws Laws'6.the-copy .copy 𝓤 H A W)
+              H A W (λ ρ. Unit) (Declared'.row Cursor.the-type) Path'.refl (Copies.cStruct Cursor.the-type Laws'3.the-laws Laws'3.the-copy .copy 𝓤 H A W)
               (Rows'.whole (Declared'.row Cursor.the-type)) (λ x. x) (λ x. x) (λ ρ told. Local.mem-whole 𝓤 H A W (Declared'.row Cursor.the-type) ρ) λ ρ told.
               Local.whole-mem 𝓤 H A W (Declared'.row Cursor.the-type) ρ, Path'.refl), ((Scalar.reads-sc 𝓤 H A W (Row.sInt Syntax.w64), Path'.refl), tt))))))
               (Reads'.room-gone 𝓤 H A y9) (tt, (tt, (tt, tt))) Path'.refl) d120
           d122 : Typed.Typed 𝓤 H A 𝓣 E G51 b92 Δ0 (at122 bs)
           d122 = Typed.s-seq 𝓤 H A W 𝓣 E G51 G52 b38 b91 Δ0 (Typed.both (s47 bs)) (at121 bs) (Plain.t-call-plain 𝓤 H A W 𝓣 0 ps·1 r·1 (claims· .2) (claims·
-              .3) "reader::first_cursor" (known .1) E (λ pos β. β) G51 tt 28 [] (Call.sub-id 𝓤 H A W (G51 .slots)) tt (Reads'.room-gone 𝓤 H A y11) tt
+              .3) "cursors::first_cursor" (known .1) E (λ pos β. β) G51 tt 28 [] (Call.sub-id 𝓤 H A W (G51 .slots)) tt (Reads'.room-gone 𝓤 H A y11) tt
               Path'.refl) d121
           d123 : Typed.Typed 𝓤 H A 𝓣 E G50 b93 Δ0 (at123 bs)
           d123 = Typed.s-seq 𝓤 H A W 𝓣 E G50 G51 b37 b92 Δ0 (Typed.give (s46 bs)) (at122 bs) (Local.t-sc-borrow 𝓤 H A W E 𝓣 G50 5 27 3 (Array'.Array
@@ -3408,7 +3409,7 @@ module _ (claims· : Claims) where
           asked = λ a good pre bs. laid record { κs = κs; args = record { n = a .0; s = a .1 .0; w = a .1 .1 .0; t = a .1 .1 .1 .0 }; blocks = bs; good =
               good; fits = record { n = record { fits = good .0 .1 }; w = record { fits = good .1 .1 .0 .1 } }; pre = pre }
         module _ {M : Type 1} (𝓤 : URA.URA M) (H : Wp.Heap 𝓤) (A : Atoms.Atoms 𝓤) (W : Kit.Given 𝓤 H A) (𝓣 : Wp.Tables 𝓤 H) (known0 : Plain.Known 𝓤 H A W 𝓣 0
-            ps·0 r·0 (claims· .0) (claims· .1) "checker::early") (known1 : Plain.Known 𝓤 H A W 𝓣 0 ps·1 r·1 (claims· .2) (claims· .3) "reader::first_cursor")
+            ps·0 r·0 (claims· .0) (claims· .1) "answers::early") (known1 : Plain.Known 𝓤 H A W 𝓣 0 ps·1 r·1 (claims· .2) (claims· .3) "cursors::first_cursor")
             (known2 : Plain.Known 𝓤 H A W 𝓣 3 ps·2 r·2 (claims· .4) (claims· .5) "reader::read_on") (known3 : Plain.Known 𝓤 H A W 𝓣 1 ps·3 r·3 (claims· .6)
             (claims· .7) "record_tables::clear_records") (known4 : Plain.Known 𝓤 H A W 𝓣 0 ps·4 r·4 (claims· .8) (claims· .9) "decider::decided_at") (known5 :
             Plain.Known 𝓤 H A W 𝓣 2 ps·5 r·5 (claims· .10) (claims· .11) "decider::word_at") where

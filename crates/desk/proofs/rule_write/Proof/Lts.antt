@@ -1,5 +1,5 @@
 -- Generated: the derivation of a body.
--- From fad99c51fa1825a7, as 95ff02943db8d1c2.
+-- From 99686c6a948c0e51, as 1b77b4f85e4be5d2.
 use Prim.Native.Nat
 use Rattle.desk.proofs.RuleWritten
 use Rattle.desk.proofs.RuleWritten.Laws
@@ -67,7 +67,7 @@ y1 = Syntax.tyInt Syntax.w32
 abbrev y2 : Syntax.Ty
 y2 = Syntax.tyInt Syntax.w64
 abbrev y3 : Syntax.Ty
-y3 = Syntax.tyStruct (99 ∷ 104 ∷ 101 ∷ 99 ∷ 107 ∷ 101 ∷ 114 ∷ 58 ∷ 58 ∷ 82 ∷ 101 ∷ 102 ∷ 117 ∷ 115 ∷ 97 ∷ 108 ∷ []) (Syntax.tcons y0 (Syntax.tcons y1
+y3 = Syntax.tyStruct (97 ∷ 110 ∷ 115 ∷ 119 ∷ 101 ∷ 114 ∷ 115 ∷ 58 ∷ 58 ∷ 82 ∷ 101 ∷ 102 ∷ 117 ∷ 115 ∷ 97 ∷ 108 ∷ []) (Syntax.tcons y0 (Syntax.tcons y1
     (Syntax.tcons y2 Syntax.tnil)))
 abbrev y4 : Syntax.Ty
 y4 = Syntax.tyEnum (109 ∷ 101 ∷ 101 ∷ 116 ∷ 105 ∷ 110 ∷ 103 ∷ 58 ∷ 58 ∷ 69 ∷ 110 ∷ 100 ∷ 105 ∷ 110 ∷ 103 ∷ []) (Syntax.ttcons Syntax.tnil (Syntax.ttcons

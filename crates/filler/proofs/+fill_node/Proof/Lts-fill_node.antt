@@ -1,5 +1,5 @@
 -- Generated: the derivation of a body.
--- From f6531645029ebcc1, as 8e9d07037500748b.
+-- From f5a38dbcc6d8e36e, as 8e9d07037500748b.
 use Prim.Native.Nat
 use Rattle.node_records.proofs.Edge
 use Rattle.node_records.proofs.Edge.Laws

@@ -1,19 +1,19 @@
 -- Generated: the derivation of a body.
--- From f6531645029ebcc1, as d43e030a8eaa6fe1.
+-- From f5a38dbcc6d8e36e, as dac940402e969344.
 use Prim.Native.Nat
-use Rattle.checker.proofs.Refusal
-use Rattle.checker.proofs.Refusal.Laws
+use Rattle.answers.proofs.Filling
+use Rattle.answers.proofs.Filling.Laws
+use Rattle.answers.proofs.Refusal
+use Rattle.answers.proofs.Refusal.Laws as Laws'
+use Rattle.cursors.proofs.Cursor
+use Rattle.cursors.proofs.Cursor.Laws as Laws''
+use Rattle.cursors.proofs.Run
+use Rattle.cursors.proofs.Run.Laws as Laws'3
 use Rattle.elements.proofs.Cause
-use Rattle.elements.proofs.Cause.Laws as Laws'
-use Rattle.filler.proofs.Filling
-use Rattle.filler.proofs.Filling.Laws as Laws''
+use Rattle.elements.proofs.Cause.Laws as Laws'4
 use Rattle.node_records.proofs.Tables.NodeRecord as NodeRecordT
-use Rattle.reader.proofs.Cursor
-use Rattle.reader.proofs.Cursor.Laws as Laws'3
 use Rattle.reader.proofs.Reached
-use Rattle.reader.proofs.Reached.Laws as Laws'4
-use Rattle.reader.proofs.Run
-use Rattle.reader.proofs.Run.Laws as Laws'5
+use Rattle.reader.proofs.Reached.Laws as Laws'5
 use borrow.Author.Called
 use borrow.Author.Tests
 use borrow.Enum.Make
@@ -103,8 +103,8 @@ y2 = Syntax.tyArray y1 32
 abbrev y3 : Syntax.Ty
 y3 = Syntax.tyStruct (101 ∷ 108 ∷ 101 ∷ 109 ∷ 101 ∷ 110 ∷ 116 ∷ 115 ∷ 58 ∷ 58 ∷ 82 ∷ 101 ∷ 102 ∷ []) (Syntax.tcons y0 (Syntax.tcons y0 Syntax.tnil))
 abbrev y4 : Syntax.Ty
-y4 = Syntax.tyStruct (114 ∷ 101 ∷ 97 ∷ 100 ∷ 101 ∷ 114 ∷ 58 ∷ 58 ∷ 80 ∷ 97 ∷ 105 ∷ 114 ∷ []) (Syntax.tcons Syntax.tyBool (Syntax.tcons y3 (Syntax.tcons y3
-    Syntax.tnil)))
+y4 = Syntax.tyStruct (99 ∷ 117 ∷ 114 ∷ 115 ∷ 111 ∷ 114 ∷ 115 ∷ 58 ∷ 58 ∷ 80 ∷ 97 ∷ 105 ∷ 114 ∷ []) (Syntax.tcons Syntax.tyBool (Syntax.tcons y3 (Syntax.tcons
+    y3 Syntax.tnil)))
 abbrev y5 : Syntax.Ty
 y5 = Syntax.tyInt Syntax.w64
 abbrev y6 : Syntax.Ty
@@ -112,8 +112,8 @@ y6 = Syntax.tyEnum (101 ∷ 108 ∷ 101 ∷ 109 ∷ 101 ∷ 110 ∷ 116 ∷ 115 
     (Syntax.ttcons Syntax.tnil (Syntax.ttcons Syntax.tnil (Syntax.ttcons Syntax.tnil (Syntax.ttcons Syntax.tnil (Syntax.ttcons Syntax.tnil (Syntax.ttcons
     Syntax.tnil Syntax.ttnil)))))))
 abbrev y7 : Syntax.Ty
-y7 = Syntax.tyStruct (114 ∷ 101 ∷ 97 ∷ 100 ∷ 101 ∷ 114 ∷ 58 ∷ 58 ∷ 82 ∷ 117 ∷ 110 ∷ []) (Syntax.tcons y3 (Syntax.tcons y4 (Syntax.tcons y5 (Syntax.tcons y5
-    (Syntax.tcons y0 (Syntax.tcons y6 (Syntax.tcons Syntax.tyBool Syntax.tnil)))))))
+y7 = Syntax.tyStruct (99 ∷ 117 ∷ 114 ∷ 115 ∷ 111 ∷ 114 ∷ 115 ∷ 58 ∷ 58 ∷ 82 ∷ 117 ∷ 110 ∷ []) (Syntax.tcons y3 (Syntax.tcons y4 (Syntax.tcons y5 (Syntax.tcons
+    y5 (Syntax.tcons y0 (Syntax.tcons y6 (Syntax.tcons Syntax.tyBool Syntax.tnil)))))))
 abbrev y8 : Syntax.Ty
 y8 = Syntax.tyEnum (101 ∷ 108 ∷ 101 ∷ 109 ∷ 101 ∷ 110 ∷ 116 ∷ 115 ∷ 58 ∷ 58 ∷ 67 ∷ 97 ∷ 117 ∷ 115 ∷ 101 ∷ []) (Syntax.ttcons Syntax.tnil (Syntax.ttcons
     Syntax.tnil (Syntax.ttcons Syntax.tnil (Syntax.ttcons Syntax.tnil (Syntax.ttcons Syntax.tnil (Syntax.ttcons Syntax.tnil (Syntax.ttcons Syntax.tnil
@@ -123,7 +123,7 @@ abbrev y9 : Syntax.Ty
 y9 = Syntax.tyStruct (114 ∷ 101 ∷ 97 ∷ 100 ∷ 101 ∷ 114 ∷ 58 ∷ 58 ∷ 82 ∷ 101 ∷ 97 ∷ 99 ∷ 104 ∷ 101 ∷ 100 ∷ []) (Syntax.tcons y7 (Syntax.tcons y5 (Syntax.tcons
     y5 (Syntax.tcons y5 (Syntax.tcons Syntax.tyBool (Syntax.tcons Syntax.tyBool (Syntax.tcons y8 (Syntax.tcons y5 Syntax.tnil))))))))
 abbrev y10 : Syntax.Ty
-y10 = Syntax.tyStruct (99 ∷ 104 ∷ 101 ∷ 99 ∷ 107 ∷ 101 ∷ 114 ∷ 58 ∷ 58 ∷ 82 ∷ 101 ∷ 102 ∷ 117 ∷ 115 ∷ 97 ∷ 108 ∷ []) (Syntax.tcons y8 (Syntax.tcons y0
+y10 = Syntax.tyStruct (97 ∷ 110 ∷ 115 ∷ 119 ∷ 101 ∷ 114 ∷ 115 ∷ 58 ∷ 58 ∷ 82 ∷ 101 ∷ 102 ∷ 117 ∷ 115 ∷ 97 ∷ 108 ∷ []) (Syntax.tcons y8 (Syntax.tcons y0
     (Syntax.tcons y5 Syntax.tnil)))
 abbrev y11 : Syntax.Ty
 y11 = Syntax.tyRef Syntax.erased Syntax.mut NodeRecordT.behind
@@ -132,7 +132,8 @@ y12 = Syntax.tyStruct (38 ∷ 91 ∷ 93 ∷ []) (Syntax.tcons y11 (Syntax.tcons 
 abbrev y13 : Syntax.Ty
 y13 = Syntax.tyRef Syntax.erased Syntax.mut y2
 abbrev y14 : Syntax.Ty
-y14 = Syntax.tyStruct (114 ∷ 101 ∷ 97 ∷ 100 ∷ 101 ∷ 114 ∷ 58 ∷ 58 ∷ 67 ∷ 117 ∷ 114 ∷ 115 ∷ 111 ∷ 114 ∷ []) (Syntax.tcons y7 (Syntax.tcons y5 Syntax.tnil))
+y14 = Syntax.tyStruct (99 ∷ 117 ∷ 114 ∷ 115 ∷ 111 ∷ 114 ∷ 115 ∷ 58 ∷ 58 ∷ 67 ∷ 117 ∷ 114 ∷ 115 ∷ 111 ∷ 114 ∷ []) (Syntax.tcons y7 (Syntax.tcons y5
+    Syntax.tnil))
 abbrev y15 : Syntax.Ty
 y15 = Syntax.tyInt Syntax.w8
 abbrev y16 : Syntax.Ty
@@ -140,8 +141,8 @@ y16 = Syntax.tyRef Syntax.erased Syntax.mut y15
 abbrev y17 : Syntax.Ty
 y17 = Syntax.tyStruct (38 ∷ 91 ∷ 93 ∷ []) (Syntax.tcons y16 (Syntax.tcons y5 Syntax.tnil))
 abbrev y18 : Syntax.Ty
-y18 = Syntax.tyEnum (102 ∷ 105 ∷ 108 ∷ 108 ∷ 101 ∷ 114 ∷ 58 ∷ 58 ∷ 70 ∷ 105 ∷ 108 ∷ 108 ∷ 105 ∷ 110 ∷ 103 ∷ []) (Syntax.ttcons (Syntax.tcons y10 Syntax.tnil)
-    (Syntax.ttcons (Syntax.tcons y5 Syntax.tnil) Syntax.ttnil))
+y18 = Syntax.tyEnum (97 ∷ 110 ∷ 115 ∷ 119 ∷ 101 ∷ 114 ∷ 115 ∷ 58 ∷ 58 ∷ 70 ∷ 105 ∷ 108 ∷ 108 ∷ 105 ∷ 110 ∷ 103 ∷ []) (Syntax.ttcons (Syntax.tcons y10
+    Syntax.tnil) (Syntax.ttcons (Syntax.tcons y5 Syntax.tnil) Syntax.ttnil))
 abbrev y19 : Syntax.Ty
 y19 = Syntax.tyRef (Syntax.named 0) Syntax.imm y15
 abbrev y20 : Syntax.Ty
@@ -310,65 +311,65 @@ abbrev pub ps : List (Kinds.PK 3)
 ps = (Num.pNum Syntax.w32) ∷ (ShrSlice.pShrS (Referent.rtF (Referent.fInt Syntax.w8)) 0 tt) ∷ (MutSlice.pMutS (Referent.rtF (Referent.fInt Syntax.w8)) 1 tt) ∷
     (MutSlice.pMutS NodeRecordT.row 2 tt) ∷ []
 abbrev pub r : Kinds.RK 3
-r = Value.rVal record { ty = Declared.row Filling.the-type; one = Path'.refl; val = Laws'6.val Filling.the-type Laws''.the-laws; tells = Laws'6.tells
-    Filling.the-type Laws''.the-laws; still = Laws'6.still Filling.the-type Laws''.the-copy Exit.yes; row = Rows'.whole (Declared.row Filling.the-type); rd =
-    λ x. x; mk = λ x. x } λ M 𝓤 H A W. record { copies = Laws'6.copy Filling.the-type Laws''.the-copy 𝓤 H A W; lawful = Laws'6.lawful Filling.the-type
-    Laws''.the-laws 𝓤 H A W tt; makes = Laws'6.makes Filling.the-type Laws''.the-plain 𝓤 H A; in-mem = Local.mem-whole 𝓤 H A W (Declared.row
-    Filling.the-type); of-mem = Local.whole-mem 𝓤 H A W (Declared.row Filling.the-type) }
+r = Value.rVal record { ty = Declared.row Filling.the-type; one = Path'.refl; val = Laws'6.val Filling.the-type Laws.the-laws; tells = Laws'6.tells
+    Filling.the-type Laws.the-laws; still = Laws'6.still Filling.the-type Laws.the-copy Exit.yes; row = Rows'.whole (Declared.row Filling.the-type); rd = λ x.
+    x; mk = λ x. x } λ M 𝓤 H A W. record { copies = Laws'6.copy Filling.the-type Laws.the-copy 𝓤 H A W; lawful = Laws'6.lawful Filling.the-type Laws.the-laws
+    𝓤 H A W tt; makes = Laws'6.makes Filling.the-type Laws.the-plain 𝓤 H A; in-mem = Local.mem-whole 𝓤 H A W (Declared.row Filling.the-type); of-mem =
+    Local.whole-mem 𝓤 H A W (Declared.row Filling.the-type) }
 abbrev pub xs : List Syntax.Ty
 xs = y2 ∷ y9 ∷ Syntax.tyBool ∷ y5 ∷ y5 ∷ y7 ∷ Syntax.tyBool ∷ y10 ∷ y8 ∷ y10 ∷ y8 ∷ y5 ∷ y10 ∷ y8 ∷ y5 ∷ y5 ∷ y5 ∷ y10 ∷ y8 ∷ y1 ∷ y11 ∷ y12 ∷ y13 ∷ y14 ∷
     Syntax.tyUnit ∷ y11 ∷ y12 ∷ y10 ∷ Syntax.tyUnit ∷ y16 ∷ y17 ∷ y16 ∷ y17 ∷ y11 ∷ y12 ∷ y11 ∷ y12 ∷ []
 abbrev pub m : Nat.ℕ
 m = 7
 abbrev pub ps·0 : List (Kinds.PK 0)
-ps·0 = (Value.pVal record { ty = Declared.row Cause.the-type; one = Path'.refl; val = Laws'6.val Cause.the-type Laws'.the-laws; tells = Laws'6.tells
-    Cause.the-type Laws'.the-laws; still = Laws'6.still Cause.the-type Laws'.the-copy Exit.yes; row = Rows'.whole (Declared.row Cause.the-type); rd = λ x. x;
-    mk = λ x. x } λ M 𝓤 H A W. record { copies = Laws'6.copy Cause.the-type Laws'.the-copy 𝓤 H A W; lawful = Laws'6.lawful Cause.the-type Laws'.the-laws 𝓤 H A
-    W tt; makes = Laws'6.makes Cause.the-type Laws'.the-plain 𝓤 H A; in-mem = Local.mem-whole 𝓤 H A W (Declared.row Cause.the-type); of-mem = Local.whole-mem
-    𝓤 H A W (Declared.row Cause.the-type) }) ∷ []
+ps·0 = (Value.pVal record { ty = Declared.row Cause.the-type; one = Path'.refl; val = Laws'6.val Cause.the-type Laws'4.the-laws; tells = Laws'6.tells
+    Cause.the-type Laws'4.the-laws; still = Laws'6.still Cause.the-type Laws'4.the-copy Exit.yes; row = Rows'.whole (Declared.row Cause.the-type); rd = λ x.
+    x; mk = λ x. x } λ M 𝓤 H A W. record { copies = Laws'6.copy Cause.the-type Laws'4.the-copy 𝓤 H A W; lawful = Laws'6.lawful Cause.the-type Laws'4.the-laws
+    𝓤 H A W tt; makes = Laws'6.makes Cause.the-type Laws'4.the-plain 𝓤 H A; in-mem = Local.mem-whole 𝓤 H A W (Declared.row Cause.the-type); of-mem =
+    Local.whole-mem 𝓤 H A W (Declared.row Cause.the-type) }) ∷ []
 abbrev pub r·0 : Kinds.RK 0
-r·0 = Value.rVal record { ty = Declared'.row Refusal.the-type; one = Path'.refl; val = Laws'7.val Refusal.the-type Laws.the-laws; tells = Laws'7.tells
-    Refusal.the-type Laws.the-laws; still = Laws'7.still Refusal.the-type Laws.the-copy Exit.yes; row = Rows'.whole (Declared'.row Refusal.the-type); rd = λ
-    x. x; mk = λ x. x } λ M 𝓤 H A W. record { copies = Laws'7.copy Refusal.the-type Laws.the-copy 𝓤 H A W; lawful = Laws'7.lawful Refusal.the-type
-    Laws.the-laws 𝓤 H A W; makes = Laws'7.makes Refusal.the-type Laws.the-plain 𝓤 H A; in-mem = Local.mem-whole 𝓤 H A W (Declared'.row Refusal.the-type);
+r·0 = Value.rVal record { ty = Declared'.row Refusal.the-type; one = Path'.refl; val = Laws'7.val Refusal.the-type Laws'.the-laws; tells = Laws'7.tells
+    Refusal.the-type Laws'.the-laws; still = Laws'7.still Refusal.the-type Laws'.the-copy Exit.yes; row = Rows'.whole (Declared'.row Refusal.the-type); rd = λ
+    x. x; mk = λ x. x } λ M 𝓤 H A W. record { copies = Laws'7.copy Refusal.the-type Laws'.the-copy 𝓤 H A W; lawful = Laws'7.lawful Refusal.the-type
+    Laws'.the-laws 𝓤 H A W; makes = Laws'7.makes Refusal.the-type Laws'.the-plain 𝓤 H A; in-mem = Local.mem-whole 𝓤 H A W (Declared'.row Refusal.the-type);
     of-mem = Local.whole-mem 𝓤 H A W (Declared'.row Refusal.the-type) }
 abbrev pub ps·1 : List (Kinds.PK 0)
 ps·1 = []
 abbrev pub r·1 : Kinds.RK 0
-r·1 = Value.rVal record { ty = Declared'.row Cursor.the-type; one = Path'.refl; val = Laws'7.val Cursor.the-type Laws'3.the-laws; tells = Laws'7.tells
-    Cursor.the-type Laws'3.the-laws; still = Laws'7.still Cursor.the-type Laws'3.the-copy Exit.yes; row = Rows'.whole (Declared'.row Cursor.the-type); rd = λ
-    x. x; mk = λ x. x } λ M 𝓤 H A W. record { copies = Laws'7.copy Cursor.the-type Laws'3.the-copy 𝓤 H A W; lawful = Laws'7.lawful Cursor.the-type
-    Laws'3.the-laws 𝓤 H A W; makes = Laws'7.makes Cursor.the-type Laws'3.the-plain 𝓤 H A; in-mem = Local.mem-whole 𝓤 H A W (Declared'.row Cursor.the-type);
+r·1 = Value.rVal record { ty = Declared'.row Cursor.the-type; one = Path'.refl; val = Laws'7.val Cursor.the-type Laws''.the-laws; tells = Laws'7.tells
+    Cursor.the-type Laws''.the-laws; still = Laws'7.still Cursor.the-type Laws''.the-copy Exit.yes; row = Rows'.whole (Declared'.row Cursor.the-type); rd = λ
+    x. x; mk = λ x. x } λ M 𝓤 H A W. record { copies = Laws'7.copy Cursor.the-type Laws''.the-copy 𝓤 H A W; lawful = Laws'7.lawful Cursor.the-type
+    Laws''.the-laws 𝓤 H A W; makes = Laws'7.makes Cursor.the-type Laws''.the-plain 𝓤 H A; in-mem = Local.mem-whole 𝓤 H A W (Declared'.row Cursor.the-type);
     of-mem = Local.whole-mem 𝓤 H A W (Declared'.row Cursor.the-type) }
 abbrev pub ps·2 : List (Kinds.PK 3)
 ps·2 = (Num.pNum Syntax.w32) ∷ (ShrSlice.pShrS (Referent.rtF (Referent.fInt Syntax.w8)) 0 tt) ∷ (MutSlice.pMutS NodeRecordT.row 1 tt) ∷ (Kinds.pMut
     (Array'.Array (Array'.Array (Referent.rtF (Referent.fInt Syntax.w32)) 4) 32) 2 tt) ∷ (Value.pVal record { ty = Declared'.row Cursor.the-type; one =
-    Path'.refl; val = Laws'7.val Cursor.the-type Laws'3.the-laws; tells = Laws'7.tells Cursor.the-type Laws'3.the-laws; still = Laws'7.still Cursor.the-type
-    Laws'3.the-copy Exit.yes; row = Rows'.whole (Declared'.row Cursor.the-type); rd = λ x. x; mk = λ x. x } λ M 𝓤 H A W. record { copies = Laws'7.copy
-    Cursor.the-type Laws'3.the-copy 𝓤 H A W; lawful = Laws'7.lawful Cursor.the-type Laws'3.the-laws 𝓤 H A W; makes = Laws'7.makes Cursor.the-type
-    Laws'3.the-plain 𝓤 H A; in-mem = Local.mem-whole 𝓤 H A W (Declared'.row Cursor.the-type); of-mem = Local.whole-mem 𝓤 H A W (Declared'.row Cursor.the-type)
+    Path'.refl; val = Laws'7.val Cursor.the-type Laws''.the-laws; tells = Laws'7.tells Cursor.the-type Laws''.the-laws; still = Laws'7.still Cursor.the-type
+    Laws''.the-copy Exit.yes; row = Rows'.whole (Declared'.row Cursor.the-type); rd = λ x. x; mk = λ x. x } λ M 𝓤 H A W. record { copies = Laws'7.copy
+    Cursor.the-type Laws''.the-copy 𝓤 H A W; lawful = Laws'7.lawful Cursor.the-type Laws''.the-laws 𝓤 H A W; makes = Laws'7.makes Cursor.the-type
+    Laws''.the-plain 𝓤 H A; in-mem = Local.mem-whole 𝓤 H A W (Declared'.row Cursor.the-type); of-mem = Local.whole-mem 𝓤 H A W (Declared'.row Cursor.the-type)
     }) ∷ (Num.pNum Syntax.w64) ∷ []
 abbrev pub r·2 : Kinds.RK 3
-r·2 = Value.rVal record { ty = Declared'.row Reached.the-type; one = Path'.refl; val = Laws'7.val Reached.the-type Laws'4.the-laws; tells = Laws'7.tells
-    Reached.the-type Laws'4.the-laws; still = Laws'7.still Reached.the-type Laws'4.the-copy Exit.yes; row = Rows'.whole (Declared'.row Reached.the-type); rd =
-    λ x. x; mk = λ x. x } λ M 𝓤 H A W. record { copies = Laws'7.copy Reached.the-type Laws'4.the-copy 𝓤 H A W; lawful = Laws'7.lawful Reached.the-type
-    Laws'4.the-laws 𝓤 H A W; makes = Laws'7.makes Reached.the-type Laws'4.the-plain 𝓤 H A; in-mem = Local.mem-whole 𝓤 H A W (Declared'.row Reached.the-type);
+r·2 = Value.rVal record { ty = Declared'.row Reached.the-type; one = Path'.refl; val = Laws'7.val Reached.the-type Laws'5.the-laws; tells = Laws'7.tells
+    Reached.the-type Laws'5.the-laws; still = Laws'7.still Reached.the-type Laws'5.the-copy Exit.yes; row = Rows'.whole (Declared'.row Reached.the-type); rd =
+    λ x. x; mk = λ x. x } λ M 𝓤 H A W. record { copies = Laws'7.copy Reached.the-type Laws'5.the-copy 𝓤 H A W; lawful = Laws'7.lawful Reached.the-type
+    Laws'5.the-laws 𝓤 H A W; makes = Laws'7.makes Reached.the-type Laws'5.the-plain 𝓤 H A; in-mem = Local.mem-whole 𝓤 H A W (Declared'.row Reached.the-type);
     of-mem = Local.whole-mem 𝓤 H A W (Declared'.row Reached.the-type) }
 abbrev pub ps·3 : List (Kinds.PK 1)
 ps·3 = (MutSlice.pMutS NodeRecordT.row 0 tt) ∷ (Num.pNum Syntax.w64) ∷ []
 abbrev pub r·3 : Kinds.RK 1
 r·3 = Unit'.rUnit
 abbrev pub ps·4 : List (Kinds.PK 0)
-ps·4 = (Value.pVal record { ty = Declared'.row Reached.the-type; one = Path'.refl; val = Laws'7.val Reached.the-type Laws'4.the-laws; tells = Laws'7.tells
-    Reached.the-type Laws'4.the-laws; still = Laws'7.still Reached.the-type Laws'4.the-copy Exit.yes; row = Rows'.whole (Declared'.row Reached.the-type); rd =
-    λ x. x; mk = λ x. x } λ M 𝓤 H A W. record { copies = Laws'7.copy Reached.the-type Laws'4.the-copy 𝓤 H A W; lawful = Laws'7.lawful Reached.the-type
-    Laws'4.the-laws 𝓤 H A W; makes = Laws'7.makes Reached.the-type Laws'4.the-plain 𝓤 H A; in-mem = Local.mem-whole 𝓤 H A W (Declared'.row Reached.the-type);
+ps·4 = (Value.pVal record { ty = Declared'.row Reached.the-type; one = Path'.refl; val = Laws'7.val Reached.the-type Laws'5.the-laws; tells = Laws'7.tells
+    Reached.the-type Laws'5.the-laws; still = Laws'7.still Reached.the-type Laws'5.the-copy Exit.yes; row = Rows'.whole (Declared'.row Reached.the-type); rd =
+    λ x. x; mk = λ x. x } λ M 𝓤 H A W. record { copies = Laws'7.copy Reached.the-type Laws'5.the-copy 𝓤 H A W; lawful = Laws'7.lawful Reached.the-type
+    Laws'5.the-laws 𝓤 H A W; makes = Laws'7.makes Reached.the-type Laws'5.the-plain 𝓤 H A; in-mem = Local.mem-whole 𝓤 H A W (Declared'.row Reached.the-type);
     of-mem = Local.whole-mem 𝓤 H A W (Declared'.row Reached.the-type) }) ∷ []
 abbrev pub r·4 : Kinds.RK 0
-r·4 = Value.rVal record { ty = Declared'.row Refusal.the-type; one = Path'.refl; val = Laws'7.val Refusal.the-type Laws.the-laws; tells = Laws'7.tells
-    Refusal.the-type Laws.the-laws; still = Laws'7.still Refusal.the-type Laws.the-copy Exit.yes; row = Rows'.whole (Declared'.row Refusal.the-type); rd = λ
-    x. x; mk = λ x. x } λ M 𝓤 H A W. record { copies = Laws'7.copy Refusal.the-type Laws.the-copy 𝓤 H A W; lawful = Laws'7.lawful Refusal.the-type
-    Laws.the-laws 𝓤 H A W; makes = Laws'7.makes Refusal.the-type Laws.the-plain 𝓤 H A; in-mem = Local.mem-whole 𝓤 H A W (Declared'.row Refusal.the-type);
+r·4 = Value.rVal record { ty = Declared'.row Refusal.the-type; one = Path'.refl; val = Laws'7.val Refusal.the-type Laws'.the-laws; tells = Laws'7.tells
+    Refusal.the-type Laws'.the-laws; still = Laws'7.still Refusal.the-type Laws'.the-copy Exit.yes; row = Rows'.whole (Declared'.row Refusal.the-type); rd = λ
+    x. x; mk = λ x. x } λ M 𝓤 H A W. record { copies = Laws'7.copy Refusal.the-type Laws'.the-copy 𝓤 H A W; lawful = Laws'7.lawful Refusal.the-type
+    Laws'.the-laws 𝓤 H A W; makes = Laws'7.makes Refusal.the-type Laws'.the-plain 𝓤 H A; in-mem = Local.mem-whole 𝓤 H A W (Declared'.row Refusal.the-type);
     of-mem = Local.whole-mem 𝓤 H A W (Declared'.row Refusal.the-type) }
 abbrev pub ps·5 : List (Kinds.PK 1)
 ps·5 = (MutSlice.pMutS (Referent.rtF (Referent.fInt Syntax.w8)) 0 tt) ∷ []
@@ -391,7 +392,7 @@ b0 = Syntax.assign (Syntax.place 11 []) (Syntax.op2 (Syntax.lt Syntax.unsigned) 
 abbrev b1 : Syntax.Body
 b1 = Syntax.assign (Syntax.place 13 []) (Syntax.aggregate ((Syntax.int Syntax.w8 0) ∷ []))
 abbrev b2 : Syntax.Body
-b2 = Syntax.call "checker::early" ((Syntax.copy (Syntax.place 13 [])) ∷ []) (Syntax.place 12 [])
+b2 = Syntax.call "answers::early" ((Syntax.copy (Syntax.place 13 [])) ∷ []) (Syntax.place 12 [])
 abbrev b3 : Syntax.Body
 b3 = Syntax.assign (Syntax.place 0 []) (Syntax.aggregate ((Syntax.int Syntax.w8 0) ∷ (Syntax.copy (Syntax.place 12 [])) ∷ []))
 abbrev b4 : Syntax.Body
@@ -411,7 +412,7 @@ b10 = Syntax.assign (Syntax.place 11 []) (Syntax.op2 (Syntax.lt Syntax.unsigned)
 abbrev b11 : Syntax.Body
 b11 = Syntax.assign (Syntax.place 15 []) (Syntax.aggregate ((Syntax.int Syntax.w8 0) ∷ []))
 abbrev b12 : Syntax.Body
-b12 = Syntax.call "checker::early" ((Syntax.copy (Syntax.place 15 [])) ∷ []) (Syntax.place 14 [])
+b12 = Syntax.call "answers::early" ((Syntax.copy (Syntax.place 15 [])) ∷ []) (Syntax.place 14 [])
 abbrev b13 : Syntax.Body
 b13 = Syntax.assign (Syntax.place 0 []) (Syntax.aggregate ((Syntax.int Syntax.w8 0) ∷ (Syntax.copy (Syntax.place 14 [])) ∷ []))
 abbrev b14 : Syntax.Body
@@ -433,7 +434,7 @@ b21 = Syntax.assign (Syntax.place 11 []) (Syntax.op2 (Syntax.lt Syntax.unsigned)
 abbrev b22 : Syntax.Body
 b22 = Syntax.assign (Syntax.place 18 []) (Syntax.aggregate ((Syntax.int Syntax.w8 3) ∷ []))
 abbrev b23 : Syntax.Body
-b23 = Syntax.call "checker::early" ((Syntax.copy (Syntax.place 18 [])) ∷ []) (Syntax.place 17 [])
+b23 = Syntax.call "answers::early" ((Syntax.copy (Syntax.place 18 [])) ∷ []) (Syntax.place 17 [])
 abbrev b24 : Syntax.Body
 b24 = Syntax.assign (Syntax.place 0 []) (Syntax.aggregate ((Syntax.int Syntax.w8 0) ∷ (Syntax.copy (Syntax.place 17 [])) ∷ []))
 abbrev b25 : Syntax.Body
@@ -461,7 +462,7 @@ b35 = Syntax.assign (Syntax.place 11 []) (Syntax.op2 Syntax.ne (Syntax.copy (Syn
 abbrev b36 : Syntax.Body
 b36 = Syntax.assign (Syntax.place 23 []) (Syntax.aggregate ((Syntax.int Syntax.w8 5) ∷ []))
 abbrev b37 : Syntax.Body
-b37 = Syntax.call "checker::early" ((Syntax.copy (Syntax.place 23 [])) ∷ []) (Syntax.place 22 [])
+b37 = Syntax.call "answers::early" ((Syntax.copy (Syntax.place 23 [])) ∷ []) (Syntax.place 22 [])
 abbrev b38 : Syntax.Body
 b38 = Syntax.assign (Syntax.place 0 []) (Syntax.aggregate ((Syntax.int Syntax.w8 0) ∷ (Syntax.copy (Syntax.place 22 [])) ∷ []))
 abbrev b39 : Syntax.Body
@@ -487,7 +488,7 @@ b48 = Syntax.assign (Syntax.place 26 []) (Syntax.aggregate ((Syntax.copy (Syntax
 abbrev b49 : Syntax.Body
 b49 = Syntax.assign (Syntax.place 27 []) (Syntax.addrOf (Syntax.place 5 []))
 abbrev b50 : Syntax.Body
-b50 = Syntax.call "reader::first_cursor" [] (Syntax.place 28 [])
+b50 = Syntax.call "cursors::first_cursor" [] (Syntax.place 28 [])
 abbrev b51 : Syntax.Body
 b51 = Syntax.call "reader::read_on" ((Syntax.copy (Syntax.place 1 [])) ∷ (Syntax.copy (Syntax.place 2 [])) ∷ (Syntax.copy (Syntax.place 26 [])) ∷ (Syntax.copy
     (Syntax.place 27 [])) ∷ (Syntax.copy (Syntax.place 28 [])) ∷ (Syntax.intBig Syntax.w64 4294967296) ∷ []) (Syntax.place 6 [])
@@ -1184,7 +1185,7 @@ module _ (claims· : Claims) where
   abbrev s67 : (bs : List Nat.ℕ) → Typed.Mo T71 → Typed.Mo T73
   s67 = λ bs. Scalar.n-room T71 5 y2
   abbrev s68 : (bs : List Nat.ℕ) → Typed.Mo T73 → Typed.Mo T74
-  s68 = λ bs. Scalar.n-use T73 (Scalar.oFld 6 ((Syntax.field 5) ∷ []) Syntax.tyBool 81 (Reads.fieldV Reached.the-type Laws'4.the-laws 5)) 7 (Rows'.sc-here
+  s68 = λ bs. Scalar.n-use T73 (Scalar.oFld 6 ((Syntax.field 5) ∷ []) Syntax.tyBool 81 (Reads.fieldV Reached.the-type Laws'5.the-laws 5)) 7 (Rows'.sc-here
       Row.sBool) (Row.sBool .of)
   abbrev s69 : (bs : List Nat.ℕ) → Typed.Mo T74 → Typed.Mo T75
   s69 = λ bs. Scalar.n-use T74 (Scalar.oAt 7 Syntax.tyBool (Row.valS Row.sBool)) 11 (Rows'.sc-here Row.sBool) (Row.sBool .of)
@@ -1292,7 +1293,7 @@ module _ (claims· : Claims) where
     module _ (M : Type 1) where
       abbrev pub Closed : Type 2
       Closed = (𝓤 : URA.URA M) (H : Wp.Heap 𝓤) (A : Atoms.Atoms 𝓤) (W : Kit.Given 𝓤 H A) (𝓣 : Wp.Tables 𝓤 H) (known0 : Plain.Known 𝓤 H A W 𝓣 0 ps·0 r·0
-          (claims· .0) (claims· .1) "checker::early") (known1 : Plain.Known 𝓤 H A W 𝓣 0 ps·1 r·1 (claims· .2) (claims· .3) "reader::first_cursor") (known2 :
+          (claims· .0) (claims· .1) "answers::early") (known1 : Plain.Known 𝓤 H A W 𝓣 0 ps·1 r·1 (claims· .2) (claims· .3) "cursors::first_cursor") (known2 :
           Plain.Known 𝓤 H A W 𝓣 3 ps·2 r·2 (claims· .4) (claims· .5) "reader::read_on") (known3 : Plain.Known 𝓤 H A W 𝓣 1 ps·3 r·3 (claims· .6) (claims· .7)
           "record_tables::clear_records") (known4 : Plain.Known 𝓤 H A W 𝓣 0 ps·4 r·4 (claims· .8) (claims· .9) "checker::late") (known5 : Plain.Known 𝓤 H A W
           𝓣 1 ps·5 r·5 (claims· .10) (claims· .11) "filler::wipe") (known6 : Plain.Known 𝓤 H A W 𝓣 3 ps·6 r·6 (claims· .12) (claims· .13)
@@ -1601,8 +1602,8 @@ module _ (claims· : Claims) where
       Φ = λ bs. at148 bs
       module _ {M : Type 1} (𝓤 : URA.URA M) (H : Wp.Heap 𝓤) (A : Atoms.Atoms 𝓤) (W : Kit.Given 𝓤 H A) (𝓣 : Wp.Tables 𝓤 H) where
         abbrev Knowns : Type 1
-        Knowns = Plain.Known 𝓤 H A W 𝓣 0 ps·0 r·0 (claims· .0) (claims· .1) "checker::early" × Plain.Known 𝓤 H A W 𝓣 0 ps·1 r·1 (claims· .2) (claims· .3)
-            "reader::first_cursor" × Plain.Known 𝓤 H A W 𝓣 3 ps·2 r·2 (claims· .4) (claims· .5) "reader::read_on" × Plain.Known 𝓤 H A W 𝓣 1 ps·3 r·3 (claims·
+        Knowns = Plain.Known 𝓤 H A W 𝓣 0 ps·0 r·0 (claims· .0) (claims· .1) "answers::early" × Plain.Known 𝓤 H A W 𝓣 0 ps·1 r·1 (claims· .2) (claims· .3)
+            "cursors::first_cursor" × Plain.Known 𝓤 H A W 𝓣 3 ps·2 r·2 (claims· .4) (claims· .5) "reader::read_on" × Plain.Known 𝓤 H A W 𝓣 1 ps·3 r·3 (claims·
             .6) (claims· .7) "record_tables::clear_records" × Plain.Known 𝓤 H A W 𝓣 0 ps·4 r·4 (claims· .8) (claims· .9) "checker::late" × Plain.Known 𝓤 H A W
             𝓣 1 ps·5 r·5 (claims· .10) (claims· .11) "filler::wipe" × Plain.Known 𝓤 H A W 𝓣 3 ps·6 r·6 (claims· .12) (claims· .13) "filler::fill_words"
       module _ (κs : Lifetimes.Lfts 3) (qs : Lifetimes.Shares 3) where
@@ -1990,32 +1991,32 @@ module _ (claims· : Claims) where
           d2 = Typed.g-pre 𝓤 H A W 𝓣 E G10 G11 b4 Δ1 (Typed.pass T10 T11 (s8 bs)) (at1 bs) (Scalar.g-room 𝓤 H A W E G10 12 y10 (Local.room-whole 𝓤 H A W
               (Declared'.row Refusal.the-type) y10 Path'.refl)) d1
           d3 : Typed.Typed 𝓤 H A 𝓣 E G9 b5 Δ1 (at3 bs)
-          d3 = Typed.s-seq 𝓤 H A W 𝓣 E G9 G10 b3 b4 Δ1 (Typed.pass T9 T10 (s7 bs)) (at2 bs) (Make.t-enum-make-wt 𝓤 H A W E 𝓣 Filling.the-type Laws''.the-laws
-              Laws''.the-plain tt G9 0 ((Scalar.oInt Syntax.w8 0) ∷ (Scalar.oAt 12 y10 (Laws'7.val Refusal.the-type Laws.the-laws)) ∷ []) (λ m. Filling.enum
+          d3 = Typed.s-seq 𝓤 H A W 𝓣 E G9 G10 b3 b4 Δ1 (Typed.pass T9 T10 (s7 bs)) (at2 bs) (Make.t-enum-make-wt 𝓤 H A W E 𝓣 Filling.the-type Laws.the-laws
+              Laws.the-plain tt G9 0 ((Scalar.oInt Syntax.w8 0) ∷ (Scalar.oAt 12 y10 (Laws'7.val Refusal.the-type Laws'.the-laws)) ∷ []) (λ m. Filling.enum
               .make (Logic.inl (m .1 .1 .1 .1 .1 .1 .1 .1 .1 .1 .1 .1 .0, tt))) (Reads'.room-gone 𝓤 H A y18) (tt, ((Reads.reads-struct 𝓤 H A W
-              Refusal.the-type Laws.the-laws, Path'.refl), tt)) Path'.refl (λ m wa. Make.made-val Filling.the-type Laws''.the-laws ((Laws'7.val
-              Refusal.the-type Laws.the-laws (m .1 .1 .1 .1 .1 .1 .1 .1 .1 .1 .1 .1 .0)) ∷ []) (Filling.enum .make (Logic.inl (m .1 .1 .1 .1 .1 .1 .1 .1 .1 .1
-              .1 .1 .0, tt))) (Signed.made-wt Refusal.the-field Laws.the-field-laws (Make'.struct-wt Refusal.the-type Laws.the-laws (Whole.enum-wt
-              Cause.the-type Laws'.the-laws (tt, (tt, (tt, (tt, (tt, (tt, (tt, (tt, (tt, (tt, (tt, (tt, (tt, tt))))))))))))), (Make'.u32-wt, (Make'.u64-wt,
-              tt)))) (Refusal.the-type .to (m .1 .1 .1 .1 .1 .1 .1 .1 .1 .1 .1 .1 .0)), tt) (wa .1)) λ m wa. Make.made-is Filling.the-type Laws''.the-laws
-              ((Laws'7.val Refusal.the-type Laws.the-laws (m .1 .1 .1 .1 .1 .1 .1 .1 .1 .1 .1 .1 .0)) ∷ []) (Filling.enum .make (Logic.inl (m .1 .1 .1 .1 .1
-              .1 .1 .1 .1 .1 .1 .1 .0, tt))) (Signed.made-wt Refusal.the-field Laws.the-field-laws (Make'.struct-wt Refusal.the-type Laws.the-laws
-              (Whole.enum-wt Cause.the-type Laws'.the-laws (tt, (tt, (tt, (tt, (tt, (tt, (tt, (tt, (tt, (tt, (tt, (tt, (tt, tt))))))))))))), (Make'.u32-wt,
+              Refusal.the-type Laws'.the-laws, Path'.refl), tt)) Path'.refl (λ m wa. Make.made-val Filling.the-type Laws.the-laws ((Laws'7.val
+              Refusal.the-type Laws'.the-laws (m .1 .1 .1 .1 .1 .1 .1 .1 .1 .1 .1 .1 .0)) ∷ []) (Filling.enum .make (Logic.inl (m .1 .1 .1 .1 .1 .1 .1 .1 .1
+              .1 .1 .1 .0, tt))) (Signed.made-wt Refusal.the-field Laws'.the-field-laws (Make'.struct-wt Refusal.the-type Laws'.the-laws (Whole.enum-wt
+              Cause.the-type Laws'4.the-laws (tt, (tt, (tt, (tt, (tt, (tt, (tt, (tt, (tt, (tt, (tt, (tt, (tt, tt))))))))))))), (Make'.u32-wt, (Make'.u64-wt,
+              tt)))) (Refusal.the-type .to (m .1 .1 .1 .1 .1 .1 .1 .1 .1 .1 .1 .1 .0)), tt) (wa .1)) λ m wa. Make.made-is Filling.the-type Laws.the-laws
+              ((Laws'7.val Refusal.the-type Laws'.the-laws (m .1 .1 .1 .1 .1 .1 .1 .1 .1 .1 .1 .1 .0)) ∷ []) (Filling.enum .make (Logic.inl (m .1 .1 .1 .1 .1
+              .1 .1 .1 .1 .1 .1 .1 .0, tt))) (Signed.made-wt Refusal.the-field Laws'.the-field-laws (Make'.struct-wt Refusal.the-type Laws'.the-laws
+              (Whole.enum-wt Cause.the-type Laws'4.the-laws (tt, (tt, (tt, (tt, (tt, (tt, (tt, (tt, (tt, (tt, (tt, (tt, (tt, tt))))))))))))), (Make'.u32-wt,
               (Make'.u64-wt, tt)))) (Refusal.the-type .to (m .1 .1 .1 .1 .1 .1 .1 .1 .1 .1 .1 .1 .0)), tt) (wa .1)) d2
           d4 : Typed.Typed 𝓤 H A 𝓣 E G8 b5 Δ1 (at4 bs)
           d4 = Typed.g-pre 𝓤 H A W 𝓣 E G8 G9 b5 Δ1 (Typed.pass T8 T9 (s6 bs)) (at3 bs) (Scalar.g-room 𝓤 H A W E G8 13 y8 (Local.room-whole 𝓤 H A W
               (Declared.row Cause.the-type) y8 Path'.refl)) d3
           d5 : Typed.Typed 𝓤 H A 𝓣 E G7 b6 Δ1 (at5 bs)
           d5 = Typed.s-seq 𝓤 H A W 𝓣 E G7 G8 b2 b5 Δ1 (Typed.both (s5 bs)) (at4 bs) (Plain.t-call-plain 𝓤 H A W 𝓣 0 ps·0 r·0 (claims· .0) (claims· .1)
-              "checker::early" (known .0) E (λ pos β. β) G7 (record { pos = 13; st = []; d = 0; at = λ x. x }, tt) 12 [] (Call.sub-id 𝓤 H A W (G7 .slots))
-              ((Yields.yields-copy 𝓤 H A W (λ ρ. Unit) (Declared.row Cause.the-type) Path'.refl (Copies.cEnum Cause.the-type Laws'.the-laws Laws'.the-copy
+              "answers::early" (known .0) E (λ pos β. β) G7 (record { pos = 13; st = []; d = 0; at = λ x. x }, tt) 12 [] (Call.sub-id 𝓤 H A W (G7 .slots))
+              ((Yields.yields-copy 𝓤 H A W (λ ρ. Unit) (Declared.row Cause.the-type) Path'.refl (Copies.cEnum Cause.the-type Laws'4.the-laws Laws'4.the-copy
               .copy 𝓤 H A W) (Rows'.whole (Declared.row Cause.the-type)) (λ x. x) (λ x. x) (λ ρ told. Local.mem-whole 𝓤 H A W (Declared.row Cause.the-type) ρ)
               λ ρ told. Local.whole-mem 𝓤 H A W (Declared.row Cause.the-type) ρ, Path'.refl), tt) (Reads'.room-gone 𝓤 H A y10) tt Path'.refl) d4
           d6 : Typed.Typed 𝓤 H A 𝓣 E G6 b7 Δ1 (at6 bs)
-          d6 = Typed.s-seq 𝓤 H A W 𝓣 E G6 G7 b1 b6 Δ1 (Typed.pass T6 T7 (s4 bs)) (at5 bs) (Make.t-enum-make-wt 𝓤 H A W E 𝓣 Cause.the-type Laws'.the-laws
-              Laws'.the-plain tt G6 13 ((Scalar.oInt Syntax.w8 0) ∷ []) (λ m. Cause.enum .make (Logic.inl tt)) (Reads'.room-gone 𝓤 H A y8) (tt, tt) Path'.refl
-              (λ m wa. Make.made-val Cause.the-type Laws'.the-laws [] (Cause.enum .make (Logic.inl tt)) tt (wa .1)) λ m wa. Make.made-is Cause.the-type
-              Laws'.the-laws [] (Cause.enum .make (Logic.inl tt)) tt (wa .1)) d5
+          d6 = Typed.s-seq 𝓤 H A W 𝓣 E G6 G7 b1 b6 Δ1 (Typed.pass T6 T7 (s4 bs)) (at5 bs) (Make.t-enum-make-wt 𝓤 H A W E 𝓣 Cause.the-type Laws'4.the-laws
+              Laws'4.the-plain tt G6 13 ((Scalar.oInt Syntax.w8 0) ∷ []) (λ m. Cause.enum .make (Logic.inl tt)) (Reads'.room-gone 𝓤 H A y8) (tt, tt)
+              Path'.refl (λ m wa. Make.made-val Cause.the-type Laws'4.the-laws [] (Cause.enum .make (Logic.inl tt)) tt (wa .1)) λ m wa. Make.made-is
+              Cause.the-type Laws'4.the-laws [] (Cause.enum .make (Logic.inl tt)) tt (wa .1)) d5
           d7 : Typed.Typed 𝓤 H A 𝓣 E G4 b7 Δ1 (at7 bs)
           d7 = Typed.g-pre 𝓤 H A W 𝓣 E G4 G6 b7 Δ1 (Typed.pass T4 T6 (s3 bs)) (at6 bs) (Scalar.g-room 𝓤 H A W E G4 11 Syntax.tyBool (Scalar.room-sc 𝓤 H A W
               Row.sBool)) d6
@@ -2036,31 +2037,32 @@ module _ (claims· : Claims) where
               (Declared'.row Refusal.the-type) y10 Path'.refl)) d12
           d14 : Typed.Typed 𝓤 H A 𝓣 E G19 b15 Δ2 (at14 bs)
           d14 = Typed.s-seq 𝓤 H A W 𝓣 E G19 G20 b13 b14 Δ2 (Typed.pass T19 T20 (s16 bs)) (at13 bs) (Make.t-enum-make-wt 𝓤 H A W E 𝓣 Filling.the-type
-              Laws''.the-laws Laws''.the-plain tt G19 0 ((Scalar.oInt Syntax.w8 0) ∷ (Scalar.oAt 14 y10 (Laws'7.val Refusal.the-type Laws.the-laws)) ∷ []) (λ
-              m. Filling.enum .make (Logic.inl (m .1 .1 .1 .1 .1 .1 .1 .1 .1 .1 .1 .1 .1 .1 .0, tt))) (Reads'.room-gone 𝓤 H A y18) (tt, ((Reads.reads-struct 𝓤
-              H A W Refusal.the-type Laws.the-laws, Path'.refl), tt)) Path'.refl (λ m wa. Make.made-val Filling.the-type Laws''.the-laws ((Laws'7.val
-              Refusal.the-type Laws.the-laws (m .1 .1 .1 .1 .1 .1 .1 .1 .1 .1 .1 .1 .1 .1 .0)) ∷ []) (Filling.enum .make (Logic.inl (m .1 .1 .1 .1 .1 .1 .1 .1
-              .1 .1 .1 .1 .1 .1 .0, tt))) (Signed.made-wt Refusal.the-field Laws.the-field-laws (Make'.struct-wt Refusal.the-type Laws.the-laws (Whole.enum-wt
-              Cause.the-type Laws'.the-laws (tt, (tt, (tt, (tt, (tt, (tt, (tt, (tt, (tt, (tt, (tt, (tt, (tt, tt))))))))))))), (Make'.u32-wt, (Make'.u64-wt,
-              tt)))) (Refusal.the-type .to (m .1 .1 .1 .1 .1 .1 .1 .1 .1 .1 .1 .1 .1 .1 .0)), tt) (wa .1)) λ m wa. Make.made-is Filling.the-type
-              Laws''.the-laws ((Laws'7.val Refusal.the-type Laws.the-laws (m .1 .1 .1 .1 .1 .1 .1 .1 .1 .1 .1 .1 .1 .1 .0)) ∷ []) (Filling.enum .make
-              (Logic.inl (m .1 .1 .1 .1 .1 .1 .1 .1 .1 .1 .1 .1 .1 .1 .0, tt))) (Signed.made-wt Refusal.the-field Laws.the-field-laws (Make'.struct-wt
-              Refusal.the-type Laws.the-laws (Whole.enum-wt Cause.the-type Laws'.the-laws (tt, (tt, (tt, (tt, (tt, (tt, (tt, (tt, (tt, (tt, (tt, (tt, (tt,
-              tt))))))))))))), (Make'.u32-wt, (Make'.u64-wt, tt)))) (Refusal.the-type .to (m .1 .1 .1 .1 .1 .1 .1 .1 .1 .1 .1 .1 .1 .1 .0)), tt) (wa .1)) d13
+              Laws.the-laws Laws.the-plain tt G19 0 ((Scalar.oInt Syntax.w8 0) ∷ (Scalar.oAt 14 y10 (Laws'7.val Refusal.the-type Laws'.the-laws)) ∷ []) (λ m.
+              Filling.enum .make (Logic.inl (m .1 .1 .1 .1 .1 .1 .1 .1 .1 .1 .1 .1 .1 .1 .0, tt))) (Reads'.room-gone 𝓤 H A y18) (tt, ((Reads.reads-struct 𝓤 H
+              A W Refusal.the-type Laws'.the-laws, Path'.refl), tt)) Path'.refl (λ m wa. Make.made-val Filling.the-type Laws.the-laws ((Laws'7.val
+              Refusal.the-type Laws'.the-laws (m .1 .1 .1 .1 .1 .1 .1 .1 .1 .1 .1 .1 .1 .1 .0)) ∷ []) (Filling.enum .make (Logic.inl (m .1 .1 .1 .1 .1 .1 .1
+              .1 .1 .1 .1 .1 .1 .1 .0, tt))) (Signed.made-wt Refusal.the-field Laws'.the-field-laws (Make'.struct-wt Refusal.the-type Laws'.the-laws
+              (Whole.enum-wt Cause.the-type Laws'4.the-laws (tt, (tt, (tt, (tt, (tt, (tt, (tt, (tt, (tt, (tt, (tt, (tt, (tt, tt))))))))))))), (Make'.u32-wt,
+              (Make'.u64-wt, tt)))) (Refusal.the-type .to (m .1 .1 .1 .1 .1 .1 .1 .1 .1 .1 .1 .1 .1 .1 .0)), tt) (wa .1)) λ m wa. Make.made-is
+              Filling.the-type Laws.the-laws ((Laws'7.val Refusal.the-type Laws'.the-laws (m .1 .1 .1 .1 .1 .1 .1 .1 .1 .1 .1 .1 .1 .1 .0)) ∷ [])
+              (Filling.enum .make (Logic.inl (m .1 .1 .1 .1 .1 .1 .1 .1 .1 .1 .1 .1 .1 .1 .0, tt))) (Signed.made-wt Refusal.the-field Laws'.the-field-laws
+              (Make'.struct-wt Refusal.the-type Laws'.the-laws (Whole.enum-wt Cause.the-type Laws'4.the-laws (tt, (tt, (tt, (tt, (tt, (tt, (tt, (tt, (tt, (tt,
+              (tt, (tt, (tt, tt))))))))))))), (Make'.u32-wt, (Make'.u64-wt, tt)))) (Refusal.the-type .to (m .1 .1 .1 .1 .1 .1 .1 .1 .1 .1 .1 .1 .1 .1 .0)),
+              tt) (wa .1)) d13
           d15 : Typed.Typed 𝓤 H A 𝓣 E G18 b15 Δ2 (at15 bs)
           d15 = Typed.g-pre 𝓤 H A W 𝓣 E G18 G19 b15 Δ2 (Typed.pass T18 T19 (s15 bs)) (at14 bs) (Scalar.g-room 𝓤 H A W E G18 15 y8 (Local.room-whole 𝓤 H A W
               (Declared.row Cause.the-type) y8 Path'.refl)) d14
           d16 : Typed.Typed 𝓤 H A 𝓣 E G17 b16 Δ2 (at16 bs)
           d16 = Typed.s-seq 𝓤 H A W 𝓣 E G17 G18 b12 b15 Δ2 (Typed.both (s14 bs)) (at15 bs) (Plain.t-call-plain 𝓤 H A W 𝓣 0 ps·0 r·0 (claims· .0) (claims· .1)
-              "checker::early" (known .0) E (λ pos β. β) G17 (record { pos = 15; st = []; d = 0; at = λ x. x }, tt) 14 [] (Call.sub-id 𝓤 H A W (G17 .slots))
-              ((Yields.yields-copy 𝓤 H A W (λ ρ. Unit) (Declared.row Cause.the-type) Path'.refl (Copies.cEnum Cause.the-type Laws'.the-laws Laws'.the-copy
+              "answers::early" (known .0) E (λ pos β. β) G17 (record { pos = 15; st = []; d = 0; at = λ x. x }, tt) 14 [] (Call.sub-id 𝓤 H A W (G17 .slots))
+              ((Yields.yields-copy 𝓤 H A W (λ ρ. Unit) (Declared.row Cause.the-type) Path'.refl (Copies.cEnum Cause.the-type Laws'4.the-laws Laws'4.the-copy
               .copy 𝓤 H A W) (Rows'.whole (Declared.row Cause.the-type)) (λ x. x) (λ x. x) (λ ρ told. Local.mem-whole 𝓤 H A W (Declared.row Cause.the-type) ρ)
               λ ρ told. Local.whole-mem 𝓤 H A W (Declared.row Cause.the-type) ρ, Path'.refl), tt) (Reads'.room-gone 𝓤 H A y10) tt Path'.refl) d15
           d17 : Typed.Typed 𝓤 H A 𝓣 E G16 b17 Δ2 (at17 bs)
           d17 = Typed.s-seq 𝓤 H A W 𝓣 E G16 G17 b11 b16 Δ2 (Typed.pass T16 T17 (s13 bs)) (at16 bs) (Make.t-enum-make-wt 𝓤 H A W E 𝓣 Cause.the-type
-              Laws'.the-laws Laws'.the-plain tt G16 15 ((Scalar.oInt Syntax.w8 0) ∷ []) (λ m. Cause.enum .make (Logic.inl tt)) (Reads'.room-gone 𝓤 H A y8)
-              (tt, tt) Path'.refl (λ m wa. Make.made-val Cause.the-type Laws'.the-laws [] (Cause.enum .make (Logic.inl tt)) tt (wa .1)) λ m wa. Make.made-is
-              Cause.the-type Laws'.the-laws [] (Cause.enum .make (Logic.inl tt)) tt (wa .1)) d16
+              Laws'4.the-laws Laws'4.the-plain tt G16 15 ((Scalar.oInt Syntax.w8 0) ∷ []) (λ m. Cause.enum .make (Logic.inl tt)) (Reads'.room-gone 𝓤 H A y8)
+              (tt, tt) Path'.refl (λ m wa. Make.made-val Cause.the-type Laws'4.the-laws [] (Cause.enum .make (Logic.inl tt)) tt (wa .1)) λ m wa. Make.made-is
+              Cause.the-type Laws'4.the-laws [] (Cause.enum .make (Logic.inl tt)) tt (wa .1)) d16
           d18 : Typed.Typed 𝓤 H A 𝓣 E G14 b17 Δ2 (at18 bs)
           d18 = Typed.g-pre 𝓤 H A W 𝓣 E G14 G16 b17 Δ2 (Typed.pass T14 T16 (s12 bs)) (at17 bs) (Scalar.g-room 𝓤 H A W E G14 11 Syntax.tyBool (Scalar.room-sc 𝓤
               H A W Row.sBool)) d17
@@ -2081,32 +2083,32 @@ module _ (claims· : Claims) where
               (Declared'.row Refusal.the-type) y10 Path'.refl)) d23
           d25 : Typed.Typed 𝓤 H A 𝓣 E G31 b26 Δ3 (at25 bs)
           d25 = Typed.s-seq 𝓤 H A W 𝓣 E G31 G32 b24 b25 Δ3 (Typed.pass T31 T32 (s27 bs)) (at24 bs) (Make.t-enum-make-wt 𝓤 H A W E 𝓣 Filling.the-type
-              Laws''.the-laws Laws''.the-plain tt G31 0 ((Scalar.oInt Syntax.w8 0) ∷ (Scalar.oAt 17 y10 (Laws'7.val Refusal.the-type Laws.the-laws)) ∷ []) (λ
-              m. Filling.enum .make (Logic.inl (m .1 .1 .1 .1 .1 .1 .1 .1 .1 .1 .1 .1 .1 .1 .1 .1 .1 .0, tt))) (Reads'.room-gone 𝓤 H A y18) (tt,
-              ((Reads.reads-struct 𝓤 H A W Refusal.the-type Laws.the-laws, Path'.refl), tt)) Path'.refl (λ m wa. Make.made-val Filling.the-type
-              Laws''.the-laws ((Laws'7.val Refusal.the-type Laws.the-laws (m .1 .1 .1 .1 .1 .1 .1 .1 .1 .1 .1 .1 .1 .1 .1 .1 .1 .0)) ∷ []) (Filling.enum .make
-              (Logic.inl (m .1 .1 .1 .1 .1 .1 .1 .1 .1 .1 .1 .1 .1 .1 .1 .1 .1 .0, tt))) (Signed.made-wt Refusal.the-field Laws.the-field-laws
-              (Make'.struct-wt Refusal.the-type Laws.the-laws (Whole.enum-wt Cause.the-type Laws'.the-laws (tt, (tt, (tt, (tt, (tt, (tt, (tt, (tt, (tt, (tt,
-              (tt, (tt, (tt, tt))))))))))))), (Make'.u32-wt, (Make'.u64-wt, tt)))) (Refusal.the-type .to (m .1 .1 .1 .1 .1 .1 .1 .1 .1 .1 .1 .1 .1 .1 .1 .1 .1
-              .0)), tt) (wa .1)) λ m wa. Make.made-is Filling.the-type Laws''.the-laws ((Laws'7.val Refusal.the-type Laws.the-laws (m .1 .1 .1 .1 .1 .1 .1 .1
-              .1 .1 .1 .1 .1 .1 .1 .1 .1 .0)) ∷ []) (Filling.enum .make (Logic.inl (m .1 .1 .1 .1 .1 .1 .1 .1 .1 .1 .1 .1 .1 .1 .1 .1 .1 .0, tt)))
-              (Signed.made-wt Refusal.the-field Laws.the-field-laws (Make'.struct-wt Refusal.the-type Laws.the-laws (Whole.enum-wt Cause.the-type
-              Laws'.the-laws (tt, (tt, (tt, (tt, (tt, (tt, (tt, (tt, (tt, (tt, (tt, (tt, (tt, tt))))))))))))), (Make'.u32-wt, (Make'.u64-wt, tt))))
-              (Refusal.the-type .to (m .1 .1 .1 .1 .1 .1 .1 .1 .1 .1 .1 .1 .1 .1 .1 .1 .1 .0)), tt) (wa .1)) d24
+              Laws.the-laws Laws.the-plain tt G31 0 ((Scalar.oInt Syntax.w8 0) ∷ (Scalar.oAt 17 y10 (Laws'7.val Refusal.the-type Laws'.the-laws)) ∷ []) (λ m.
+              Filling.enum .make (Logic.inl (m .1 .1 .1 .1 .1 .1 .1 .1 .1 .1 .1 .1 .1 .1 .1 .1 .1 .0, tt))) (Reads'.room-gone 𝓤 H A y18) (tt,
+              ((Reads.reads-struct 𝓤 H A W Refusal.the-type Laws'.the-laws, Path'.refl), tt)) Path'.refl (λ m wa. Make.made-val Filling.the-type Laws.the-laws
+              ((Laws'7.val Refusal.the-type Laws'.the-laws (m .1 .1 .1 .1 .1 .1 .1 .1 .1 .1 .1 .1 .1 .1 .1 .1 .1 .0)) ∷ []) (Filling.enum .make (Logic.inl (m
+              .1 .1 .1 .1 .1 .1 .1 .1 .1 .1 .1 .1 .1 .1 .1 .1 .1 .0, tt))) (Signed.made-wt Refusal.the-field Laws'.the-field-laws (Make'.struct-wt
+              Refusal.the-type Laws'.the-laws (Whole.enum-wt Cause.the-type Laws'4.the-laws (tt, (tt, (tt, (tt, (tt, (tt, (tt, (tt, (tt, (tt, (tt, (tt, (tt,
+              tt))))))))))))), (Make'.u32-wt, (Make'.u64-wt, tt)))) (Refusal.the-type .to (m .1 .1 .1 .1 .1 .1 .1 .1 .1 .1 .1 .1 .1 .1 .1 .1 .1 .0)), tt) (wa
+              .1)) λ m wa. Make.made-is Filling.the-type Laws.the-laws ((Laws'7.val Refusal.the-type Laws'.the-laws (m .1 .1 .1 .1 .1 .1 .1 .1 .1 .1 .1 .1 .1
+              .1 .1 .1 .1 .0)) ∷ []) (Filling.enum .make (Logic.inl (m .1 .1 .1 .1 .1 .1 .1 .1 .1 .1 .1 .1 .1 .1 .1 .1 .1 .0, tt))) (Signed.made-wt
+              Refusal.the-field Laws'.the-field-laws (Make'.struct-wt Refusal.the-type Laws'.the-laws (Whole.enum-wt Cause.the-type Laws'4.the-laws (tt, (tt,
+              (tt, (tt, (tt, (tt, (tt, (tt, (tt, (tt, (tt, (tt, (tt, tt))))))))))))), (Make'.u32-wt, (Make'.u64-wt, tt)))) (Refusal.the-type .to (m .1 .1 .1
+              .1 .1 .1 .1 .1 .1 .1 .1 .1 .1 .1 .1 .1 .1 .0)), tt) (wa .1)) d24
           d26 : Typed.Typed 𝓤 H A 𝓣 E G30 b26 Δ3 (at26 bs)
           d26 = Typed.g-pre 𝓤 H A W 𝓣 E G30 G31 b26 Δ3 (Typed.pass T30 T31 (s26 bs)) (at25 bs) (Scalar.g-room 𝓤 H A W E G30 18 y8 (Local.room-whole 𝓤 H A W
               (Declared.row Cause.the-type) y8 Path'.refl)) d25
           d27 : Typed.Typed 𝓤 H A 𝓣 E G29 b27 Δ3 (at27 bs)
           d27 = Typed.s-seq 𝓤 H A W 𝓣 E G29 G30 b23 b26 Δ3 (Typed.both (s25 bs)) (at26 bs) (Plain.t-call-plain 𝓤 H A W 𝓣 0 ps·0 r·0 (claims· .0) (claims· .1)
-              "checker::early" (known .0) E (λ pos β. β) G29 (record { pos = 18; st = []; d = 0; at = λ x. x }, tt) 17 [] (Call.sub-id 𝓤 H A W (G29 .slots))
-              ((Yields.yields-copy 𝓤 H A W (λ ρ. Unit) (Declared.row Cause.the-type) Path'.refl (Copies.cEnum Cause.the-type Laws'.the-laws Laws'.the-copy
+              "answers::early" (known .0) E (λ pos β. β) G29 (record { pos = 18; st = []; d = 0; at = λ x. x }, tt) 17 [] (Call.sub-id 𝓤 H A W (G29 .slots))
+              ((Yields.yields-copy 𝓤 H A W (λ ρ. Unit) (Declared.row Cause.the-type) Path'.refl (Copies.cEnum Cause.the-type Laws'4.the-laws Laws'4.the-copy
               .copy 𝓤 H A W) (Rows'.whole (Declared.row Cause.the-type)) (λ x. x) (λ x. x) (λ ρ told. Local.mem-whole 𝓤 H A W (Declared.row Cause.the-type) ρ)
               λ ρ told. Local.whole-mem 𝓤 H A W (Declared.row Cause.the-type) ρ, Path'.refl), tt) (Reads'.room-gone 𝓤 H A y10) tt Path'.refl) d26
           d28 : Typed.Typed 𝓤 H A 𝓣 E G28 b28 Δ3 (at28 bs)
           d28 = Typed.s-seq 𝓤 H A W 𝓣 E G28 G29 b22 b27 Δ3 (Typed.pass T28 T29 (s24 bs)) (at27 bs) (Make.t-enum-make-wt 𝓤 H A W E 𝓣 Cause.the-type
-              Laws'.the-laws Laws'.the-plain tt G28 18 ((Scalar.oInt Syntax.w8 3) ∷ []) (λ m. Cause.enum .make (Logic.inr (Logic.inr (Logic.inr (Logic.inl
-              tt))))) (Reads'.room-gone 𝓤 H A y8) (tt, tt) Path'.refl (λ m wa. Make.made-val Cause.the-type Laws'.the-laws [] (Cause.enum .make (Logic.inr
-              (Logic.inr (Logic.inr (Logic.inl tt))))) tt (wa .1)) λ m wa. Make.made-is Cause.the-type Laws'.the-laws [] (Cause.enum .make (Logic.inr
+              Laws'4.the-laws Laws'4.the-plain tt G28 18 ((Scalar.oInt Syntax.w8 3) ∷ []) (λ m. Cause.enum .make (Logic.inr (Logic.inr (Logic.inr (Logic.inl
+              tt))))) (Reads'.room-gone 𝓤 H A y8) (tt, tt) Path'.refl (λ m wa. Make.made-val Cause.the-type Laws'4.the-laws [] (Cause.enum .make (Logic.inr
+              (Logic.inr (Logic.inr (Logic.inl tt))))) tt (wa .1)) λ m wa. Make.made-is Cause.the-type Laws'4.the-laws [] (Cause.enum .make (Logic.inr
               (Logic.inr (Logic.inr (Logic.inl tt))))) tt (wa .1)) d27
           d29 : Typed.Typed 𝓤 H A 𝓣 E G27 b28 Δ3 (at29 bs)
           d29 = Typed.g-pre 𝓤 H A W 𝓣 E G27 G28 b28 Δ3 (Typed.pass T27 T28 (s23 bs)) (at28 bs) (Scalar.g-room 𝓤 H A W E G27 11 Syntax.tyBool (Scalar.room-sc 𝓤
@@ -2131,34 +2133,33 @@ module _ (claims· : Claims) where
               (Declared'.row Refusal.the-type) y10 Path'.refl)) d35
           d37 : Typed.Typed 𝓤 H A 𝓣 E G49 b40 Δ4 (at37 bs)
           d37 = Typed.s-seq 𝓤 H A W 𝓣 E G49 G50 b38 b39 Δ4 (Typed.pass T49 T50 (s44 bs)) (at36 bs) (Make.t-enum-make-wt 𝓤 H A W E 𝓣 Filling.the-type
-              Laws''.the-laws Laws''.the-plain tt G49 0 ((Scalar.oInt Syntax.w8 0) ∷ (Scalar.oAt 22 y10 (Laws'7.val Refusal.the-type Laws.the-laws)) ∷ []) (λ
-              m. Filling.enum .make (Logic.inl (m .1 .1 .1 .1 .1 .1 .1 .1 .1 .1 .1 .1 .1 .1 .1 .1 .1 .1 .1 .1 .1 .1 .0, tt))) (Reads'.room-gone 𝓤 H A y18)
-              (tt, ((Reads.reads-struct 𝓤 H A W Refusal.the-type Laws.the-laws, Path'.refl), tt)) Path'.refl (λ m wa. Make.made-val Filling.the-type
-              Laws''.the-laws ((Laws'7.val Refusal.the-type Laws.the-laws (m .1 .1 .1 .1 .1 .1 .1 .1 .1 .1 .1 .1 .1 .1 .1 .1 .1 .1 .1 .1 .1 .1 .0)) ∷ [])
-              (Filling.enum .make (Logic.inl (m .1 .1 .1 .1 .1 .1 .1 .1 .1 .1 .1 .1 .1 .1 .1 .1 .1 .1 .1 .1 .1 .1 .0, tt))) (Signed.made-wt Refusal.the-field
-              Laws.the-field-laws (Make'.struct-wt Refusal.the-type Laws.the-laws (Whole.enum-wt Cause.the-type Laws'.the-laws (tt, (tt, (tt, (tt, (tt, (tt,
-              (tt, (tt, (tt, (tt, (tt, (tt, (tt, tt))))))))))))), (Make'.u32-wt, (Make'.u64-wt, tt)))) (Refusal.the-type .to (m .1 .1 .1 .1 .1 .1 .1 .1 .1 .1
-              .1 .1 .1 .1 .1 .1 .1 .1 .1 .1 .1 .1 .0)), tt) (wa .1)) λ m wa. Make.made-is Filling.the-type Laws''.the-laws ((Laws'7.val Refusal.the-type
-              Laws.the-laws (m .1 .1 .1 .1 .1 .1 .1 .1 .1 .1 .1 .1 .1 .1 .1 .1 .1 .1 .1 .1 .1 .1 .0)) ∷ []) (Filling.enum .make (Logic.inl (m .1 .1 .1 .1 .1
-              .1 .1 .1 .1 .1 .1 .1 .1 .1 .1 .1 .1 .1 .1 .1 .1 .1 .0, tt))) (Signed.made-wt Refusal.the-field Laws.the-field-laws (Make'.struct-wt
-              Refusal.the-type Laws.the-laws (Whole.enum-wt Cause.the-type Laws'.the-laws (tt, (tt, (tt, (tt, (tt, (tt, (tt, (tt, (tt, (tt, (tt, (tt, (tt,
-              tt))))))))))))), (Make'.u32-wt, (Make'.u64-wt, tt)))) (Refusal.the-type .to (m .1 .1 .1 .1 .1 .1 .1 .1 .1 .1 .1 .1 .1 .1 .1 .1 .1 .1 .1 .1 .1 .1
-              .0)), tt) (wa .1)) d36
+              Laws.the-laws Laws.the-plain tt G49 0 ((Scalar.oInt Syntax.w8 0) ∷ (Scalar.oAt 22 y10 (Laws'7.val Refusal.the-type Laws'.the-laws)) ∷ []) (λ m.
+              Filling.enum .make (Logic.inl (m .1 .1 .1 .1 .1 .1 .1 .1 .1 .1 .1 .1 .1 .1 .1 .1 .1 .1 .1 .1 .1 .1 .0, tt))) (Reads'.room-gone 𝓤 H A y18) (tt,
+              ((Reads.reads-struct 𝓤 H A W Refusal.the-type Laws'.the-laws, Path'.refl), tt)) Path'.refl (λ m wa. Make.made-val Filling.the-type Laws.the-laws
+              ((Laws'7.val Refusal.the-type Laws'.the-laws (m .1 .1 .1 .1 .1 .1 .1 .1 .1 .1 .1 .1 .1 .1 .1 .1 .1 .1 .1 .1 .1 .1 .0)) ∷ []) (Filling.enum .make
+              (Logic.inl (m .1 .1 .1 .1 .1 .1 .1 .1 .1 .1 .1 .1 .1 .1 .1 .1 .1 .1 .1 .1 .1 .1 .0, tt))) (Signed.made-wt Refusal.the-field Laws'.the-field-laws
+              (Make'.struct-wt Refusal.the-type Laws'.the-laws (Whole.enum-wt Cause.the-type Laws'4.the-laws (tt, (tt, (tt, (tt, (tt, (tt, (tt, (tt, (tt, (tt,
+              (tt, (tt, (tt, tt))))))))))))), (Make'.u32-wt, (Make'.u64-wt, tt)))) (Refusal.the-type .to (m .1 .1 .1 .1 .1 .1 .1 .1 .1 .1 .1 .1 .1 .1 .1 .1 .1
+              .1 .1 .1 .1 .1 .0)), tt) (wa .1)) λ m wa. Make.made-is Filling.the-type Laws.the-laws ((Laws'7.val Refusal.the-type Laws'.the-laws (m .1 .1 .1
+              .1 .1 .1 .1 .1 .1 .1 .1 .1 .1 .1 .1 .1 .1 .1 .1 .1 .1 .1 .0)) ∷ []) (Filling.enum .make (Logic.inl (m .1 .1 .1 .1 .1 .1 .1 .1 .1 .1 .1 .1 .1 .1
+              .1 .1 .1 .1 .1 .1 .1 .1 .0, tt))) (Signed.made-wt Refusal.the-field Laws'.the-field-laws (Make'.struct-wt Refusal.the-type Laws'.the-laws
+              (Whole.enum-wt Cause.the-type Laws'4.the-laws (tt, (tt, (tt, (tt, (tt, (tt, (tt, (tt, (tt, (tt, (tt, (tt, (tt, tt))))))))))))), (Make'.u32-wt,
+              (Make'.u64-wt, tt)))) (Refusal.the-type .to (m .1 .1 .1 .1 .1 .1 .1 .1 .1 .1 .1 .1 .1 .1 .1 .1 .1 .1 .1 .1 .1 .1 .0)), tt) (wa .1)) d36
           d38 : Typed.Typed 𝓤 H A 𝓣 E G48 b40 Δ4 (at38 bs)
           d38 = Typed.g-pre 𝓤 H A W 𝓣 E G48 G49 b40 Δ4 (Typed.pass T48 T49 (s43 bs)) (at37 bs) (Scalar.g-room 𝓤 H A W E G48 23 y8 (Local.room-whole 𝓤 H A W
               (Declared.row Cause.the-type) y8 Path'.refl)) d37
           d39 : Typed.Typed 𝓤 H A 𝓣 E G47 b41 Δ4 (at39 bs)
           d39 = Typed.s-seq 𝓤 H A W 𝓣 E G47 G48 b37 b40 Δ4 (Typed.both (s42 bs)) (at38 bs) (Plain.t-call-plain 𝓤 H A W 𝓣 0 ps·0 r·0 (claims· .0) (claims· .1)
-              "checker::early" (known .0) E (λ pos β. β) G47 (record { pos = 23; st = []; d = 0; at = λ x. x }, tt) 22 [] (Call.sub-id 𝓤 H A W (G47 .slots))
-              ((Yields.yields-copy 𝓤 H A W (λ ρ. Unit) (Declared.row Cause.the-type) Path'.refl (Copies.cEnum Cause.the-type Laws'.the-laws Laws'.the-copy
+              "answers::early" (known .0) E (λ pos β. β) G47 (record { pos = 23; st = []; d = 0; at = λ x. x }, tt) 22 [] (Call.sub-id 𝓤 H A W (G47 .slots))
+              ((Yields.yields-copy 𝓤 H A W (λ ρ. Unit) (Declared.row Cause.the-type) Path'.refl (Copies.cEnum Cause.the-type Laws'4.the-laws Laws'4.the-copy
               .copy 𝓤 H A W) (Rows'.whole (Declared.row Cause.the-type)) (λ x. x) (λ x. x) (λ ρ told. Local.mem-whole 𝓤 H A W (Declared.row Cause.the-type) ρ)
               λ ρ told. Local.whole-mem 𝓤 H A W (Declared.row Cause.the-type) ρ, Path'.refl), tt) (Reads'.room-gone 𝓤 H A y10) tt Path'.refl) d38
           d40 : Typed.Typed 𝓤 H A 𝓣 E G46 b42 Δ4 (at40 bs)
           d40 = Typed.s-seq 𝓤 H A W 𝓣 E G46 G47 b36 b41 Δ4 (Typed.pass T46 T47 (s41 bs)) (at39 bs) (Make.t-enum-make-wt 𝓤 H A W E 𝓣 Cause.the-type
-              Laws'.the-laws Laws'.the-plain tt G46 23 ((Scalar.oInt Syntax.w8 5) ∷ []) (λ m. Cause.enum .make (Logic.inr (Logic.inr (Logic.inr (Logic.inr
-              (Logic.inr (Logic.inl tt))))))) (Reads'.room-gone 𝓤 H A y8) (tt, tt) Path'.refl (λ m wa. Make.made-val Cause.the-type Laws'.the-laws []
+              Laws'4.the-laws Laws'4.the-plain tt G46 23 ((Scalar.oInt Syntax.w8 5) ∷ []) (λ m. Cause.enum .make (Logic.inr (Logic.inr (Logic.inr (Logic.inr
+              (Logic.inr (Logic.inl tt))))))) (Reads'.room-gone 𝓤 H A y8) (tt, tt) Path'.refl (λ m wa. Make.made-val Cause.the-type Laws'4.the-laws []
               (Cause.enum .make (Logic.inr (Logic.inr (Logic.inr (Logic.inr (Logic.inr (Logic.inl tt))))))) tt (wa .1)) λ m wa. Make.made-is Cause.the-type
-              Laws'.the-laws [] (Cause.enum .make (Logic.inr (Logic.inr (Logic.inr (Logic.inr (Logic.inr (Logic.inl tt))))))) tt (wa .1)) d39
+              Laws'4.the-laws [] (Cause.enum .make (Logic.inr (Logic.inr (Logic.inr (Logic.inr (Logic.inr (Logic.inl tt))))))) tt (wa .1)) d39
           d41 : Typed.Typed 𝓤 H A 𝓣 E G45 b42 Δ4 (at41 bs)
           d41 = Typed.g-pre 𝓤 H A W 𝓣 E G45 G46 b42 Δ4 (Typed.pass T45 T46 (s40 bs)) (at40 bs) (Scalar.g-room 𝓤 H A W E G45 11 Syntax.tyBool (Scalar.room-sc 𝓤
               H A W Row.sBool)) d40
@@ -2191,28 +2192,28 @@ module _ (claims· : Claims) where
               (Declared'.row Refusal.the-type) y10 Path'.refl)) d50
           d52 : Typed.Typed 𝓤 H A 𝓣 E G88 b61 Δ5 (at52 bs)
           d52 = Typed.s-seq 𝓤 H A W 𝓣 E G88 G89 b59 b60 Δ5 (Typed.pass T88 T89 (s82 bs)) (at51 bs) (Make.t-enum-make-wt 𝓤 H A W E 𝓣 Filling.the-type
-              Laws''.the-laws Laws''.the-plain tt G88 0 ((Scalar.oInt Syntax.w8 0) ∷ (Scalar.oAt 32 y10 (Laws'7.val Refusal.the-type Laws.the-laws)) ∷ []) (λ
-              m. Filling.enum .make (Logic.inl (m .1 .1 .1 .1 .1 .1 .1 .1 .1 .1 .1 .1 .1 .1 .1 .1 .1 .1 .1 .1 .1 .1 .1 .1 .1 .1 .1 .1 .1 .1 .1 .1 .0, tt)))
-              (Reads'.room-gone 𝓤 H A y18) (tt, ((Reads.reads-struct 𝓤 H A W Refusal.the-type Laws.the-laws, Path'.refl), tt)) Path'.refl (λ m wa.
-              Make.made-val Filling.the-type Laws''.the-laws ((Laws'7.val Refusal.the-type Laws.the-laws (m .1 .1 .1 .1 .1 .1 .1 .1 .1 .1 .1 .1 .1 .1 .1 .1 .1
+              Laws.the-laws Laws.the-plain tt G88 0 ((Scalar.oInt Syntax.w8 0) ∷ (Scalar.oAt 32 y10 (Laws'7.val Refusal.the-type Laws'.the-laws)) ∷ []) (λ m.
+              Filling.enum .make (Logic.inl (m .1 .1 .1 .1 .1 .1 .1 .1 .1 .1 .1 .1 .1 .1 .1 .1 .1 .1 .1 .1 .1 .1 .1 .1 .1 .1 .1 .1 .1 .1 .1 .1 .0, tt)))
+              (Reads'.room-gone 𝓤 H A y18) (tt, ((Reads.reads-struct 𝓤 H A W Refusal.the-type Laws'.the-laws, Path'.refl), tt)) Path'.refl (λ m wa.
+              Make.made-val Filling.the-type Laws.the-laws ((Laws'7.val Refusal.the-type Laws'.the-laws (m .1 .1 .1 .1 .1 .1 .1 .1 .1 .1 .1 .1 .1 .1 .1 .1 .1
               .1 .1 .1 .1 .1 .1 .1 .1 .1 .1 .1 .1 .1 .1 .1 .0)) ∷ []) (Filling.enum .make (Logic.inl (m .1 .1 .1 .1 .1 .1 .1 .1 .1 .1 .1 .1 .1 .1 .1 .1 .1 .1
-              .1 .1 .1 .1 .1 .1 .1 .1 .1 .1 .1 .1 .1 .1 .0, tt))) (Signed.made-wt Refusal.the-field Laws.the-field-laws (Make'.struct-wt Refusal.the-type
-              Laws.the-laws (Whole.enum-wt Cause.the-type Laws'.the-laws (tt, (tt, (tt, (tt, (tt, (tt, (tt, (tt, (tt, (tt, (tt, (tt, (tt, tt))))))))))))),
+              .1 .1 .1 .1 .1 .1 .1 .1 .1 .1 .1 .1 .1 .1 .0, tt))) (Signed.made-wt Refusal.the-field Laws'.the-field-laws (Make'.struct-wt Refusal.the-type
+              Laws'.the-laws (Whole.enum-wt Cause.the-type Laws'4.the-laws (tt, (tt, (tt, (tt, (tt, (tt, (tt, (tt, (tt, (tt, (tt, (tt, (tt, tt))))))))))))),
               (Make'.u32-wt, (Make'.u64-wt, tt)))) (Refusal.the-type .to (m .1 .1 .1 .1 .1 .1 .1 .1 .1 .1 .1 .1 .1 .1 .1 .1 .1 .1 .1 .1 .1 .1 .1 .1 .1 .1 .1
-              .1 .1 .1 .1 .1 .0)), tt) (wa .1)) λ m wa. Make.made-is Filling.the-type Laws''.the-laws ((Laws'7.val Refusal.the-type Laws.the-laws (m .1 .1 .1
+              .1 .1 .1 .1 .1 .0)), tt) (wa .1)) λ m wa. Make.made-is Filling.the-type Laws.the-laws ((Laws'7.val Refusal.the-type Laws'.the-laws (m .1 .1 .1
               .1 .1 .1 .1 .1 .1 .1 .1 .1 .1 .1 .1 .1 .1 .1 .1 .1 .1 .1 .1 .1 .1 .1 .1 .1 .1 .1 .1 .1 .0)) ∷ []) (Filling.enum .make (Logic.inl (m .1 .1 .1 .1
               .1 .1 .1 .1 .1 .1 .1 .1 .1 .1 .1 .1 .1 .1 .1 .1 .1 .1 .1 .1 .1 .1 .1 .1 .1 .1 .1 .1 .0, tt))) (Signed.made-wt Refusal.the-field
-              Laws.the-field-laws (Make'.struct-wt Refusal.the-type Laws.the-laws (Whole.enum-wt Cause.the-type Laws'.the-laws (tt, (tt, (tt, (tt, (tt, (tt,
-              (tt, (tt, (tt, (tt, (tt, (tt, (tt, tt))))))))))))), (Make'.u32-wt, (Make'.u64-wt, tt)))) (Refusal.the-type .to (m .1 .1 .1 .1 .1 .1 .1 .1 .1 .1
-              .1 .1 .1 .1 .1 .1 .1 .1 .1 .1 .1 .1 .1 .1 .1 .1 .1 .1 .1 .1 .1 .1 .0)), tt) (wa .1)) d51
+              Laws'.the-field-laws (Make'.struct-wt Refusal.the-type Laws'.the-laws (Whole.enum-wt Cause.the-type Laws'4.the-laws (tt, (tt, (tt, (tt, (tt,
+              (tt, (tt, (tt, (tt, (tt, (tt, (tt, (tt, tt))))))))))))), (Make'.u32-wt, (Make'.u64-wt, tt)))) (Refusal.the-type .to (m .1 .1 .1 .1 .1 .1 .1 .1
+              .1 .1 .1 .1 .1 .1 .1 .1 .1 .1 .1 .1 .1 .1 .1 .1 .1 .1 .1 .1 .1 .1 .1 .1 .0)), tt) (wa .1)) d51
           d53 : Typed.Typed 𝓤 H A 𝓣 E G87 b61 Δ5 (at53 bs)
           d53 = Typed.g-pre 𝓤 H A W 𝓣 E G87 G88 b61 Δ5 (Typed.pass T87 T88 (s81 bs)) (at52 bs) (Scalar.g-room 𝓤 H A W E G87 6 y9 (Local.room-whole 𝓤 H A W
               (Declared'.row Reached.the-type) y9 Path'.refl)) d52
           d54 : Typed.Typed 𝓤 H A 𝓣 E G86 b62 Δ5 (at54 bs)
           d54 = Typed.s-seq 𝓤 H A W 𝓣 E G86 G87 b58 b61 Δ5 (Typed.both (s80 bs)) (at53 bs) (Plain.t-call-plain 𝓤 H A W 𝓣 0 ps·4 r·4 (claims· .8) (claims· .9)
               "checker::late" (known .4) E (λ pos β. β) G86 (record { pos = 6; st = []; d = 0; at = λ x. x }, tt) 32 [] (Call.sub-id 𝓤 H A W (G86 .slots))
-              ((Yields.yields-copy 𝓤 H A W (λ ρ. Unit) (Declared'.row Reached.the-type) Path'.refl (Copies.cStruct Reached.the-type Laws'4.the-laws
-              Laws'4.the-copy .copy 𝓤 H A W) (Rows'.whole (Declared'.row Reached.the-type)) (λ x. x) (λ x. x) (λ ρ told. Local.mem-whole 𝓤 H A W
+              ((Yields.yields-copy 𝓤 H A W (λ ρ. Unit) (Declared'.row Reached.the-type) Path'.refl (Copies.cStruct Reached.the-type Laws'5.the-laws
+              Laws'5.the-copy .copy 𝓤 H A W) (Rows'.whole (Declared'.row Reached.the-type)) (λ x. x) (λ x. x) (λ ρ told. Local.mem-whole 𝓤 H A W
               (Declared'.row Reached.the-type) ρ) λ ρ told. Local.whole-mem 𝓤 H A W (Declared'.row Reached.the-type) ρ, Path'.refl), tt) (Reads'.room-gone 𝓤 H
               A y10) tt Path'.refl) d53
           d55 : Typed.Typed 𝓤 H A 𝓣 E G85 b62 Δ5 (at55 bs)
@@ -2275,22 +2276,22 @@ module _ (claims· : Claims) where
               (Scalar.room-sc 𝓤 H A W Row.sBool)) d71
           d73 : Typed.Typed 𝓤 H A 𝓣 E G129 b84 Δ0 (at73 bs)
           d73 = Typed.s-seq 𝓤 H A W 𝓣 E G129 G130 b82 b83 Δ0 (Typed.pass T129 T130 (s123 bs)) (at72 bs) (Make.t-enum-make-wt 𝓤 H A W E 𝓣 Filling.the-type
-              Laws''.the-laws Laws''.the-plain tt G129 0 ((Scalar.oInt Syntax.w8 1) ∷ (Scalar.oFld 10 ((Syntax.field 3) ∷ []) y5 40 (Reads.fieldV Run.the-type
-              Laws'5.the-laws 3)) ∷ []) (λ m. Filling.enum .make (Logic.inr (Logic.inl (Run.struct .as-values (m .1 .1 .1 .1 .1 .1 .1 .1 .1 .1 .0) .1 .1 .1
-              .0, tt)))) (Reads'.room-gone 𝓤 H A y18) (tt, ((Reads.reads-field 𝓤 H A W Run.the-type Laws'5.the-laws 3 y5 40 Path'.refl, Path'.refl), tt))
-              Path'.refl (λ m wa. Make.made-val Filling.the-type Laws''.the-laws ((Laws''.the-laws .1 .0 .0 .val (Run.struct .as-values (m .1 .1 .1 .1 .1 .1
-              .1 .1 .1 .1 .0) .1 .1 .1 .0)) ∷ []) (Filling.enum .make (Logic.inr (Logic.inl (Run.struct .as-values (m .1 .1 .1 .1 .1 .1 .1 .1 .1 .1 .0) .1 .1
-              .1 .0, tt)))) (Signed.made-wt Field.u64-field (Laws''.the-laws .1 .0 .0) Make'.u64-wt (Run.struct .as-values (m .1 .1 .1 .1 .1 .1 .1 .1 .1 .1
-              .0) .1 .1 .1 .0), tt) (wa .1)) λ m wa. Make.made-is Filling.the-type Laws''.the-laws ((Laws''.the-laws .1 .0 .0 .val (Run.struct .as-values (m
-              .1 .1 .1 .1 .1 .1 .1 .1 .1 .1 .0) .1 .1 .1 .0)) ∷ []) (Filling.enum .make (Logic.inr (Logic.inl (Run.struct .as-values (m .1 .1 .1 .1 .1 .1 .1
-              .1 .1 .1 .0) .1 .1 .1 .0, tt)))) (Signed.made-wt Field.u64-field (Laws''.the-laws .1 .0 .0) Make'.u64-wt (Run.struct .as-values (m .1 .1 .1 .1
-              .1 .1 .1 .1 .1 .1 .0) .1 .1 .1 .0), tt) (wa .1)) d72
+              Laws.the-laws Laws.the-plain tt G129 0 ((Scalar.oInt Syntax.w8 1) ∷ (Scalar.oFld 10 ((Syntax.field 3) ∷ []) y5 40 (Reads.fieldV Run.the-type
+              Laws'3.the-laws 3)) ∷ []) (λ m. Filling.enum .make (Logic.inr (Logic.inl (Run.struct .as-values (m .1 .1 .1 .1 .1 .1 .1 .1 .1 .1 .0) .1 .1 .1
+              .0, tt)))) (Reads'.room-gone 𝓤 H A y18) (tt, ((Reads.reads-field 𝓤 H A W Run.the-type Laws'3.the-laws 3 y5 40 Path'.refl, Path'.refl), tt))
+              Path'.refl (λ m wa. Make.made-val Filling.the-type Laws.the-laws ((Laws.the-laws .1 .0 .0 .val (Run.struct .as-values (m .1 .1 .1 .1 .1 .1 .1 .1
+              .1 .1 .0) .1 .1 .1 .0)) ∷ []) (Filling.enum .make (Logic.inr (Logic.inl (Run.struct .as-values (m .1 .1 .1 .1 .1 .1 .1 .1 .1 .1 .0) .1 .1 .1 .0,
+              tt)))) (Signed.made-wt Field.u64-field (Laws.the-laws .1 .0 .0) Make'.u64-wt (Run.struct .as-values (m .1 .1 .1 .1 .1 .1 .1 .1 .1 .1 .0) .1 .1
+              .1 .0), tt) (wa .1)) λ m wa. Make.made-is Filling.the-type Laws.the-laws ((Laws.the-laws .1 .0 .0 .val (Run.struct .as-values (m .1 .1 .1 .1 .1
+              .1 .1 .1 .1 .1 .0) .1 .1 .1 .0)) ∷ []) (Filling.enum .make (Logic.inr (Logic.inl (Run.struct .as-values (m .1 .1 .1 .1 .1 .1 .1 .1 .1 .1 .0) .1
+              .1 .1 .0, tt)))) (Signed.made-wt Field.u64-field (Laws.the-laws .1 .0 .0) Make'.u64-wt (Run.struct .as-values (m .1 .1 .1 .1 .1 .1 .1 .1 .1 .1
+              .0) .1 .1 .1 .0), tt) (wa .1)) d72
           d74 : Typed.Typed 𝓤 H A 𝓣 E G128 b84 Δ0 (at74 bs)
           d74 = Typed.g-pre 𝓤 H A W 𝓣 E G128 G129 b84 Δ0 (Typed.pass T128 T129 (s122 bs)) (at73 bs) (Scalar.g-room 𝓤 H A W E G128 6 y9 (Local.room-whole 𝓤 H A
               W (Declared'.row Reached.the-type) y9 Path'.refl)) d73
           d75 : Typed.Typed 𝓤 H A 𝓣 E G127 b85 Δ0 (at75 bs)
           d75 = Typed.s-seq 𝓤 H A W 𝓣 E G127 G128 b81 b84 Δ0 (Typed.both (s121 bs)) (at74 bs) (WayStmt.t-way-copy-out 𝓤 H A W E 𝓣 (Declared'.row Run.the-type)
-              Path'.refl (Copies.cStruct Run.the-type Laws'5.the-laws Laws'5.the-copy .copy 𝓤 H A W) (λ ρ. Unit) G127 (Row.out 6 (G127 .locals)) (λ u.
+              Path'.refl (Copies.cStruct Run.the-type Laws'3.the-laws Laws'3.the-copy .copy 𝓤 H A W) (λ ρ. Unit) G127 (Row.out 6 (G127 .locals)) (λ u.
               Row.drop 6 (G127 .locals) u) (G127 .slots) 6 (λ t. (Syntax.field 0) ∷ t) y7 y7 10 (Rows'.whole (Declared'.row Run.the-type)) (λ x. x) (λ u.
               At.getAt (Reached.the-type .parts) 0 (Reached.struct .as-values (u .1 .1 .1 .1 .1 .1 .0))) (λ u. (Row.hd 0 (Row.tl (Row.tl (Row.tl (Row.tl
               (Row.tl (Row.tl bs)))))), Nat._+_ 0 0)) (λ T′. record { locals = Row.setRow 6 (6, Rows'.whole (Declared'.row Reached.the-type)) T′; slots = G127
@@ -2304,7 +2305,7 @@ module _ (claims· : Claims) where
               (Row.tl (Row.tl (Row.tl (Row.tl (Row.tl (Row.tl bs)))))))))) Path'.refl λ q. Inner.cut-record 𝓤 H A q (Declared'.row Reached.the-type)
               Run.the-type 0 (u .1 .1 .1 .1 .1 .1 .0) (u .1 .1 .1 .1 .1 .1 .0) (At.getAt (Reached.the-type .parts) 0 (Reached.struct .as-values (u .1 .1 .1 .1
               .1 .1 .0))) (At.getAt (Reached.the-type .parts) 0 (Reached.struct .as-values (u .1 .1 .1 .1 .1 .1 .0))) (Row.hd 0 (Row.tl (Row.tl (Row.tl
-              (Row.tl (Row.tl (Row.tl bs)))))), 0) (Behind.look-at 𝓤 H A W q Reached.the-type Laws'4.the-laws 0 0 Path'.refl Path'.refl (Row.hd 0 (Row.tl
+              (Row.tl (Row.tl (Row.tl bs)))))), 0) (Behind.look-at 𝓤 H A W q Reached.the-type Laws'5.the-laws 0 0 Path'.refl Path'.refl (Row.hd 0 (Row.tl
               (Row.tl (Row.tl (Row.tl (Row.tl (Row.tl bs)))))), 0) (u .1 .1 .1 .1 .1 .1 .0) (Reached.struct .as-values (u .1 .1 .1 .1 .1 .1 .0)) Path'.refl))
               (Reads'.room-gone 𝓤 H A y7) (Yields.makes-mem 𝓤 H A W (λ ρ. Unit) (Declared'.row Run.the-type) Path'.refl (Rows'.whole (Declared'.row
               Run.the-type)) (λ x. x) λ ρ told. Local.whole-mem 𝓤 H A W (Declared'.row Run.the-type) ρ) Path'.refl Path'.refl Path'.refl) d74
@@ -2442,8 +2443,8 @@ module _ (claims· : Claims) where
               Path'.refl) (Reads'.room-gone 𝓤 H A Syntax.tyBool) (Scalar.holds-sc 𝓤 H A W Row.sBool) Path'.refl (λ u. Path'.refl) λ u. tt) d109
           d111 : Typed.Typed 𝓤 H A 𝓣 E G73 b100 Δ0 (at111 bs)
           d111 = Typed.s-seq 𝓤 H A W 𝓣 E G73 G74 b52 b99 Δ0 (Typed.pass T73 T74 (s68 bs)) (at110 bs) (Scalar.t-use 𝓤 H A W E 𝓣 G73 (Scalar.oFld 6
-              ((Syntax.field 5) ∷ []) Syntax.tyBool 81 (Reads.fieldV Reached.the-type Laws'4.the-laws 5)) 7 (Rows'.sc-here Row.sBool) Syntax.tyBool (Row.valS
-              Row.sBool) (Row.sBool .of) (Reads.reads-field 𝓤 H A W Reached.the-type Laws'4.the-laws 5 Syntax.tyBool 81 Path'.refl, Path'.refl)
+              ((Syntax.field 5) ∷ []) Syntax.tyBool 81 (Reads.fieldV Reached.the-type Laws'5.the-laws 5)) 7 (Rows'.sc-here Row.sBool) Syntax.tyBool (Row.valS
+              Row.sBool) (Row.sBool .of) (Reads.reads-field 𝓤 H A W Reached.the-type Laws'5.the-laws 5 Syntax.tyBool 81 Path'.refl, Path'.refl)
               (Reads'.room-gone 𝓤 H A Syntax.tyBool) (Scalar.holds-sc 𝓤 H A W Row.sBool) Path'.refl (λ u. Path'.refl) λ u. tt) d110
           d112 : Typed.Typed 𝓤 H A 𝓣 E G72 b100 Δ0 (at112 bs)
           d112 = Typed.g-pre 𝓤 H A W 𝓣 E G72 G73 b100 Δ0 (Typed.pass T71 T73 (s67 bs)) (at111 bs) (Scalar.g-room 𝓤 H A W E G72 5 y2 (Init.room-arr 𝓤 H A W
@@ -2478,13 +2479,13 @@ module _ (claims· : Claims) where
               Syntax.w8)) y19 0, Path'.refl, (Reads'.as-is 𝓤 H A (Mut.mslice NodeRecordT.row y11 3), Mut.reads-mslice 𝓤 H A W NodeRecordT.row y11 3,
               Path'.refl, (Reads'.as-is 𝓤 H A (Rows'.mref (Array'.Array (Array'.Array (Referent.rtF (Referent.fInt Syntax.w32)) 4) 32) y13 4),
               Reads'.reads-mref 𝓤 H A W (Array'.Array (Array'.Array (Referent.rtF (Referent.fInt Syntax.w32)) 4) 32) y13 4, Path'.refl, ((Yields.yields-copy 𝓤
-              H A W (λ ρ. Unit) (Declared'.row Cursor.the-type) Path'.refl (Copies.cStruct Cursor.the-type Laws'3.the-laws Laws'3.the-copy .copy 𝓤 H A W)
+              H A W (λ ρ. Unit) (Declared'.row Cursor.the-type) Path'.refl (Copies.cStruct Cursor.the-type Laws''.the-laws Laws''.the-copy .copy 𝓤 H A W)
               (Rows'.whole (Declared'.row Cursor.the-type)) (λ x. x) (λ x. x) (λ ρ told. Local.mem-whole 𝓤 H A W (Declared'.row Cursor.the-type) ρ) λ ρ told.
               Local.whole-mem 𝓤 H A W (Declared'.row Cursor.the-type) ρ, Path'.refl), (record { lower = record { fits = Dec'.lit< tt } }, tt))))))
               (Reads'.room-gone 𝓤 H A y9) (tt, (tt, (tt, tt))) Path'.refl) d119
           d121 : Typed.Typed 𝓤 H A 𝓣 E G63 b102 Δ0 (at121 bs)
           d121 = Typed.s-seq 𝓤 H A W 𝓣 E G63 G64 b50 b101 Δ0 (Typed.both (s58 bs)) (at120 bs) (Plain.t-call-plain 𝓤 H A W 𝓣 0 ps·1 r·1 (claims· .2) (claims·
-              .3) "reader::first_cursor" (known .1) E (λ pos β. β) G63 tt 28 [] (Call.sub-id 𝓤 H A W (G63 .slots)) tt (Reads'.room-gone 𝓤 H A y14) tt
+              .3) "cursors::first_cursor" (known .1) E (λ pos β. β) G63 tt 28 [] (Call.sub-id 𝓤 H A W (G63 .slots)) tt (Reads'.room-gone 𝓤 H A y14) tt
               Path'.refl) d120
           d122 : Typed.Typed 𝓤 H A 𝓣 E G62 b103 Δ0 (at122 bs)
           d122 = Typed.s-seq 𝓤 H A W 𝓣 E G62 G63 b49 b102 Δ0 (Typed.give (s57 bs)) (at121 bs) (Local.t-sc-borrow 𝓤 H A W E 𝓣 G62 5 27 4 (Array'.Array
@@ -3554,7 +3555,7 @@ module _ (claims· : Claims) where
           asked = λ a good pre bs. laid record { κs = κs; args = record { n = a .0; s = a .1 .0; v = a .1 .1 .0; t = a .1 .1 .1 .0 }; blocks = bs; good =
               good; fits = record { n = record { fits = good .0 .1 } }; pre = pre }
         module _ {M : Type 1} (𝓤 : URA.URA M) (H : Wp.Heap 𝓤) (A : Atoms.Atoms 𝓤) (W : Kit.Given 𝓤 H A) (𝓣 : Wp.Tables 𝓤 H) (known0 : Plain.Known 𝓤 H A W 𝓣 0
-            ps·0 r·0 (claims· .0) (claims· .1) "checker::early") (known1 : Plain.Known 𝓤 H A W 𝓣 0 ps·1 r·1 (claims· .2) (claims· .3) "reader::first_cursor")
+            ps·0 r·0 (claims· .0) (claims· .1) "answers::early") (known1 : Plain.Known 𝓤 H A W 𝓣 0 ps·1 r·1 (claims· .2) (claims· .3) "cursors::first_cursor")
             (known2 : Plain.Known 𝓤 H A W 𝓣 3 ps·2 r·2 (claims· .4) (claims· .5) "reader::read_on") (known3 : Plain.Known 𝓤 H A W 𝓣 1 ps·3 r·3 (claims· .6)
             (claims· .7) "record_tables::clear_records") (known4 : Plain.Known 𝓤 H A W 𝓣 0 ps·4 r·4 (claims· .8) (claims· .9) "checker::late") (known5 :
             Plain.Known 𝓤 H A W 𝓣 1 ps·5 r·5 (claims· .10) (claims· .11) "filler::wipe") (known6 : Plain.Known 𝓤 H A W 𝓣 3 ps·6 r·6 (claims· .12) (claims·

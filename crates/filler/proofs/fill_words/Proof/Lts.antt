@@ -1,21 +1,21 @@
 -- Generated: the derivation of a body.
--- From f6531645029ebcc1, as 9a3d2b8fa220687c.
+-- From f5a38dbcc6d8e36e, as e08123d553e36301.
 use Prim.Native.Nat
+use Rattle.cursors.proofs.Cursor
+use Rattle.cursors.proofs.Cursor.Laws
+use Rattle.cursors.proofs.Pair
+use Rattle.cursors.proofs.Pair.Laws as Laws'
+use Rattle.cursors.proofs.Run
+use Rattle.cursors.proofs.Run.Laws as Laws''
 use Rattle.elements.proofs.Context
-use Rattle.elements.proofs.Context.Laws
+use Rattle.elements.proofs.Context.Laws as Laws'3
 use Rattle.elements.proofs.Ref
-use Rattle.elements.proofs.Ref.Laws as Laws'
+use Rattle.elements.proofs.Ref.Laws as Laws'4
 use Rattle.node_records.proofs.Edge
-use Rattle.node_records.proofs.Edge.Laws as Laws''
+use Rattle.node_records.proofs.Edge.Laws as Laws'5
 use Rattle.node_records.proofs.Tables.NodeRecord as NodeRecordT
-use Rattle.reader.proofs.Cursor
-use Rattle.reader.proofs.Cursor.Laws as Laws'3
-use Rattle.reader.proofs.Pair
-use Rattle.reader.proofs.Pair.Laws as Laws'4
 use Rattle.reader.proofs.Reached
-use Rattle.reader.proofs.Reached.Laws as Laws'5
-use Rattle.reader.proofs.Run
-use Rattle.reader.proofs.Run.Laws as Laws'6
+use Rattle.reader.proofs.Reached.Laws as Laws'6
 use borrow.Author.Called
 use borrow.Enum.Whole
 use borrow.Fn.Any
@@ -105,8 +105,8 @@ y2 = Syntax.tyArray y1 32
 abbrev y3 : Syntax.Ty
 y3 = Syntax.tyStruct (101 ∷ 108 ∷ 101 ∷ 109 ∷ 101 ∷ 110 ∷ 116 ∷ 115 ∷ 58 ∷ 58 ∷ 82 ∷ 101 ∷ 102 ∷ []) (Syntax.tcons y0 (Syntax.tcons y0 Syntax.tnil))
 abbrev y4 : Syntax.Ty
-y4 = Syntax.tyStruct (114 ∷ 101 ∷ 97 ∷ 100 ∷ 101 ∷ 114 ∷ 58 ∷ 58 ∷ 80 ∷ 97 ∷ 105 ∷ 114 ∷ []) (Syntax.tcons Syntax.tyBool (Syntax.tcons y3 (Syntax.tcons y3
-    Syntax.tnil)))
+y4 = Syntax.tyStruct (99 ∷ 117 ∷ 114 ∷ 115 ∷ 111 ∷ 114 ∷ 115 ∷ 58 ∷ 58 ∷ 80 ∷ 97 ∷ 105 ∷ 114 ∷ []) (Syntax.tcons Syntax.tyBool (Syntax.tcons y3 (Syntax.tcons
+    y3 Syntax.tnil)))
 abbrev y5 : Syntax.Ty
 y5 = Syntax.tyInt Syntax.w64
 abbrev y6 : Syntax.Ty
@@ -114,10 +114,11 @@ y6 = Syntax.tyEnum (101 ∷ 108 ∷ 101 ∷ 109 ∷ 101 ∷ 110 ∷ 116 ∷ 115 
     (Syntax.ttcons Syntax.tnil (Syntax.ttcons Syntax.tnil (Syntax.ttcons Syntax.tnil (Syntax.ttcons Syntax.tnil (Syntax.ttcons Syntax.tnil (Syntax.ttcons
     Syntax.tnil Syntax.ttnil)))))))
 abbrev y7 : Syntax.Ty
-y7 = Syntax.tyStruct (114 ∷ 101 ∷ 97 ∷ 100 ∷ 101 ∷ 114 ∷ 58 ∷ 58 ∷ 82 ∷ 117 ∷ 110 ∷ []) (Syntax.tcons y3 (Syntax.tcons y4 (Syntax.tcons y5 (Syntax.tcons y5
-    (Syntax.tcons y0 (Syntax.tcons y6 (Syntax.tcons Syntax.tyBool Syntax.tnil)))))))
+y7 = Syntax.tyStruct (99 ∷ 117 ∷ 114 ∷ 115 ∷ 111 ∷ 114 ∷ 115 ∷ 58 ∷ 58 ∷ 82 ∷ 117 ∷ 110 ∷ []) (Syntax.tcons y3 (Syntax.tcons y4 (Syntax.tcons y5 (Syntax.tcons
+    y5 (Syntax.tcons y0 (Syntax.tcons y6 (Syntax.tcons Syntax.tyBool Syntax.tnil)))))))
 abbrev y8 : Syntax.Ty
-y8 = Syntax.tyStruct (114 ∷ 101 ∷ 97 ∷ 100 ∷ 101 ∷ 114 ∷ 58 ∷ 58 ∷ 67 ∷ 117 ∷ 114 ∷ 115 ∷ 111 ∷ 114 ∷ []) (Syntax.tcons y7 (Syntax.tcons y5 Syntax.tnil))
+y8 = Syntax.tyStruct (99 ∷ 117 ∷ 114 ∷ 115 ∷ 111 ∷ 114 ∷ 115 ∷ 58 ∷ 58 ∷ 67 ∷ 117 ∷ 114 ∷ 115 ∷ 111 ∷ 114 ∷ []) (Syntax.tcons y7 (Syntax.tcons y5
+    Syntax.tnil))
 abbrev y9 : Syntax.Ty
 y9 = Syntax.tyEnum (101 ∷ 108 ∷ 101 ∷ 109 ∷ 101 ∷ 110 ∷ 116 ∷ 115 ∷ 58 ∷ 58 ∷ 67 ∷ 97 ∷ 117 ∷ 115 ∷ 101 ∷ []) (Syntax.ttcons Syntax.tnil (Syntax.ttcons
     Syntax.tnil (Syntax.ttcons Syntax.tnil (Syntax.ttcons Syntax.tnil (Syntax.ttcons Syntax.tnil (Syntax.ttcons Syntax.tnil (Syntax.ttcons Syntax.tnil
@@ -277,48 +278,48 @@ m = 5
 abbrev pub ps·0 : List (Kinds.PK 0)
 ps·0 = []
 abbrev pub r·0 : Kinds.RK 0
-r·0 = Value.rVal record { ty = Declared.row Cursor.the-type; one = Path'.refl; val = Laws'7.val Cursor.the-type Laws'3.the-laws; tells = Laws'7.tells
-    Cursor.the-type Laws'3.the-laws; still = Laws'7.still Cursor.the-type Laws'3.the-copy Exit.yes; row = Rows'.whole (Declared.row Cursor.the-type); rd = λ
-    x. x; mk = λ x. x } λ M 𝓤 H A W. record { copies = Laws'7.copy Cursor.the-type Laws'3.the-copy 𝓤 H A W; lawful = Laws'7.lawful Cursor.the-type
-    Laws'3.the-laws 𝓤 H A W; makes = Laws'7.makes Cursor.the-type Laws'3.the-plain 𝓤 H A; in-mem = Local.mem-whole 𝓤 H A W (Declared.row Cursor.the-type);
-    of-mem = Local.whole-mem 𝓤 H A W (Declared.row Cursor.the-type) }
+r·0 = Value.rVal record { ty = Declared.row Cursor.the-type; one = Path'.refl; val = Laws'7.val Cursor.the-type Laws.the-laws; tells = Laws'7.tells
+    Cursor.the-type Laws.the-laws; still = Laws'7.still Cursor.the-type Laws.the-copy Exit.yes; row = Rows'.whole (Declared.row Cursor.the-type); rd = λ x. x;
+    mk = λ x. x } λ M 𝓤 H A W. record { copies = Laws'7.copy Cursor.the-type Laws.the-copy 𝓤 H A W; lawful = Laws'7.lawful Cursor.the-type Laws.the-laws 𝓤 H A
+    W; makes = Laws'7.makes Cursor.the-type Laws.the-plain 𝓤 H A; in-mem = Local.mem-whole 𝓤 H A W (Declared.row Cursor.the-type); of-mem = Local.whole-mem 𝓤
+    H A W (Declared.row Cursor.the-type) }
 abbrev pub ps·1 : List (Kinds.PK 3)
 ps·1 = (Num.pNum Syntax.w32) ∷ (ShrSlice.pShrS (Referent.rtF (Referent.fInt Syntax.w8)) 0 tt) ∷ (MutSlice.pMutS NodeRecordT.row 1 tt) ∷ (Kinds.pMut
     (Array'.Array (Array'.Array (Referent.rtF (Referent.fInt Syntax.w32)) 4) 32) 2 tt) ∷ (Value.pVal record { ty = Declared.row Cursor.the-type; one =
-    Path'.refl; val = Laws'7.val Cursor.the-type Laws'3.the-laws; tells = Laws'7.tells Cursor.the-type Laws'3.the-laws; still = Laws'7.still Cursor.the-type
-    Laws'3.the-copy Exit.yes; row = Rows'.whole (Declared.row Cursor.the-type); rd = λ x. x; mk = λ x. x } λ M 𝓤 H A W. record { copies = Laws'7.copy
-    Cursor.the-type Laws'3.the-copy 𝓤 H A W; lawful = Laws'7.lawful Cursor.the-type Laws'3.the-laws 𝓤 H A W; makes = Laws'7.makes Cursor.the-type
-    Laws'3.the-plain 𝓤 H A; in-mem = Local.mem-whole 𝓤 H A W (Declared.row Cursor.the-type); of-mem = Local.whole-mem 𝓤 H A W (Declared.row Cursor.the-type)
-    }) ∷ (Num.pNum Syntax.w64) ∷ []
+    Path'.refl; val = Laws'7.val Cursor.the-type Laws.the-laws; tells = Laws'7.tells Cursor.the-type Laws.the-laws; still = Laws'7.still Cursor.the-type
+    Laws.the-copy Exit.yes; row = Rows'.whole (Declared.row Cursor.the-type); rd = λ x. x; mk = λ x. x } λ M 𝓤 H A W. record { copies = Laws'7.copy
+    Cursor.the-type Laws.the-copy 𝓤 H A W; lawful = Laws'7.lawful Cursor.the-type Laws.the-laws 𝓤 H A W; makes = Laws'7.makes Cursor.the-type Laws.the-plain 𝓤
+    H A; in-mem = Local.mem-whole 𝓤 H A W (Declared.row Cursor.the-type); of-mem = Local.whole-mem 𝓤 H A W (Declared.row Cursor.the-type) }) ∷ (Num.pNum
+    Syntax.w64) ∷ []
 abbrev pub r·1 : Kinds.RK 3
-r·1 = Value.rVal record { ty = Declared.row Reached.the-type; one = Path'.refl; val = Laws'7.val Reached.the-type Laws'5.the-laws; tells = Laws'7.tells
-    Reached.the-type Laws'5.the-laws; still = Laws'7.still Reached.the-type Laws'5.the-copy Exit.yes; row = Rows'.whole (Declared.row Reached.the-type); rd =
-    λ x. x; mk = λ x. x } λ M 𝓤 H A W. record { copies = Laws'7.copy Reached.the-type Laws'5.the-copy 𝓤 H A W; lawful = Laws'7.lawful Reached.the-type
-    Laws'5.the-laws 𝓤 H A W; makes = Laws'7.makes Reached.the-type Laws'5.the-plain 𝓤 H A; in-mem = Local.mem-whole 𝓤 H A W (Declared.row Reached.the-type);
+r·1 = Value.rVal record { ty = Declared.row Reached.the-type; one = Path'.refl; val = Laws'7.val Reached.the-type Laws'6.the-laws; tells = Laws'7.tells
+    Reached.the-type Laws'6.the-laws; still = Laws'7.still Reached.the-type Laws'6.the-copy Exit.yes; row = Rows'.whole (Declared.row Reached.the-type); rd =
+    λ x. x; mk = λ x. x } λ M 𝓤 H A W. record { copies = Laws'7.copy Reached.the-type Laws'6.the-copy 𝓤 H A W; lawful = Laws'7.lawful Reached.the-type
+    Laws'6.the-laws 𝓤 H A W; makes = Laws'7.makes Reached.the-type Laws'6.the-plain 𝓤 H A; in-mem = Local.mem-whole 𝓤 H A W (Declared.row Reached.the-type);
     of-mem = Local.whole-mem 𝓤 H A W (Declared.row Reached.the-type) }
 abbrev pub ps·2 : List (Kinds.PK 0)
 ps·2 = (Num.pNum Syntax.w32) ∷ (Num.pNum Syntax.w64) ∷ []
 abbrev pub r·2 : Kinds.RK 0
 r·2 = Num.rNum Syntax.w32
 abbrev pub ps·3 : List (Kinds.PK 1)
-ps·3 = (Value.pVal record { ty = Declared.row Reached.the-type; one = Path'.refl; val = Laws'7.val Reached.the-type Laws'5.the-laws; tells = Laws'7.tells
-    Reached.the-type Laws'5.the-laws; still = Laws'7.still Reached.the-type Laws'5.the-copy Exit.yes; row = Rows'.whole (Declared.row Reached.the-type); rd =
-    λ x. x; mk = λ x. x } λ M 𝓤 H A W. record { copies = Laws'7.copy Reached.the-type Laws'5.the-copy 𝓤 H A W; lawful = Laws'7.lawful Reached.the-type
-    Laws'5.the-laws 𝓤 H A W; makes = Laws'7.makes Reached.the-type Laws'5.the-plain 𝓤 H A; in-mem = Local.mem-whole 𝓤 H A W (Declared.row Reached.the-type);
+ps·3 = (Value.pVal record { ty = Declared.row Reached.the-type; one = Path'.refl; val = Laws'7.val Reached.the-type Laws'6.the-laws; tells = Laws'7.tells
+    Reached.the-type Laws'6.the-laws; still = Laws'7.still Reached.the-type Laws'6.the-copy Exit.yes; row = Rows'.whole (Declared.row Reached.the-type); rd =
+    λ x. x; mk = λ x. x } λ M 𝓤 H A W. record { copies = Laws'7.copy Reached.the-type Laws'6.the-copy 𝓤 H A W; lawful = Laws'7.lawful Reached.the-type
+    Laws'6.the-laws 𝓤 H A W; makes = Laws'7.makes Reached.the-type Laws'6.the-plain 𝓤 H A; in-mem = Local.mem-whole 𝓤 H A W (Declared.row Reached.the-type);
     of-mem = Local.whole-mem 𝓤 H A W (Declared.row Reached.the-type) }) ∷ (ShrRef.pShr (Array'.Array (Array'.Array (Referent.rtF (Referent.fInt Syntax.w32))
     4) 32) 0 tt) ∷ []
 abbrev pub r·3 : Kinds.RK 1
-r·3 = Value.rVal record { ty = Declared.row Edge.the-type; one = Path'.refl; val = Laws'7.val Edge.the-type Laws''.the-laws; tells = Laws'7.tells
-    Edge.the-type Laws''.the-laws; still = Laws'7.still Edge.the-type Laws''.the-copy Exit.yes; row = Rows'.whole (Declared.row Edge.the-type); rd = λ x. x;
-    mk = λ x. x } λ M 𝓤 H A W. record { copies = Laws'7.copy Edge.the-type Laws''.the-copy 𝓤 H A W; lawful = Laws'7.lawful Edge.the-type Laws''.the-laws 𝓤 H A
-    W; makes = Laws'7.makes Edge.the-type Laws''.the-plain 𝓤 H A; in-mem = Local.mem-whole 𝓤 H A W (Declared.row Edge.the-type); of-mem = Local.whole-mem 𝓤 H
+r·3 = Value.rVal record { ty = Declared.row Edge.the-type; one = Path'.refl; val = Laws'7.val Edge.the-type Laws'5.the-laws; tells = Laws'7.tells
+    Edge.the-type Laws'5.the-laws; still = Laws'7.still Edge.the-type Laws'5.the-copy Exit.yes; row = Rows'.whole (Declared.row Edge.the-type); rd = λ x. x;
+    mk = λ x. x } λ M 𝓤 H A W. record { copies = Laws'7.copy Edge.the-type Laws'5.the-copy 𝓤 H A W; lawful = Laws'7.lawful Edge.the-type Laws'5.the-laws 𝓤 H A
+    W; makes = Laws'7.makes Edge.the-type Laws'5.the-plain 𝓤 H A; in-mem = Local.mem-whole 𝓤 H A W (Declared.row Edge.the-type); of-mem = Local.whole-mem 𝓤 H
     A W (Declared.row Edge.the-type) }
 abbrev pub ps·4 : List (Kinds.PK 2)
 ps·4 = (ShrSlice.pShrS NodeRecordT.row 0 tt) ∷ (Num.pNum Syntax.w32) ∷ (MutSlice.pMutS (Referent.rtF (Referent.fInt Syntax.w8)) 1 tt) ∷ (Num.pNum Syntax.w32)
-    ∷ (Num.pNum Syntax.w32) ∷ (Value.pVal record { ty = Declared.row Edge.the-type; one = Path'.refl; val = Laws'7.val Edge.the-type Laws''.the-laws; tells =
-    Laws'7.tells Edge.the-type Laws''.the-laws; still = Laws'7.still Edge.the-type Laws''.the-copy Exit.yes; row = Rows'.whole (Declared.row Edge.the-type);
-    rd = λ x. x; mk = λ x. x } λ M 𝓤 H A W. record { copies = Laws'7.copy Edge.the-type Laws''.the-copy 𝓤 H A W; lawful = Laws'7.lawful Edge.the-type
-    Laws''.the-laws 𝓤 H A W; makes = Laws'7.makes Edge.the-type Laws''.the-plain 𝓤 H A; in-mem = Local.mem-whole 𝓤 H A W (Declared.row Edge.the-type); of-mem
+    ∷ (Num.pNum Syntax.w32) ∷ (Value.pVal record { ty = Declared.row Edge.the-type; one = Path'.refl; val = Laws'7.val Edge.the-type Laws'5.the-laws; tells =
+    Laws'7.tells Edge.the-type Laws'5.the-laws; still = Laws'7.still Edge.the-type Laws'5.the-copy Exit.yes; row = Rows'.whole (Declared.row Edge.the-type);
+    rd = λ x. x; mk = λ x. x } λ M 𝓤 H A W. record { copies = Laws'7.copy Edge.the-type Laws'5.the-copy 𝓤 H A W; lawful = Laws'7.lawful Edge.the-type
+    Laws'5.the-laws 𝓤 H A W; makes = Laws'7.makes Edge.the-type Laws'5.the-plain 𝓤 H A; in-mem = Local.mem-whole 𝓤 H A W (Declared.row Edge.the-type); of-mem
     = Local.whole-mem 𝓤 H A W (Declared.row Edge.the-type) }) ∷ (Num.pNum Syntax.w64) ∷ []
 abbrev pub r·4 : Kinds.RK 2
 r·4 = Unit'.rUnit
@@ -332,7 +333,7 @@ b0 = Syntax.assign (Syntax.place 13 []) (Syntax.repeat (Syntax.int Syntax.w32 0)
 abbrev b1 : Syntax.Body
 b1 = Syntax.assign (Syntax.place 5 []) (Syntax.repeat (Syntax.copy (Syntax.place 13 [])) 32)
 abbrev b2 : Syntax.Body
-b2 = Syntax.call "reader::first_cursor" [] (Syntax.place 6 [])
+b2 = Syntax.call "cursors::first_cursor" [] (Syntax.place 6 [])
 abbrev b3 : Syntax.Body
 b3 = Syntax.assign (Syntax.place 7 []) (Syntax.rvOpd (Syntax.copy (Syntax.place 6 ((Syntax.field 0) ∷ []))))
 abbrev b4 : Syntax.Body
@@ -626,7 +627,7 @@ module _ (claims· : Claims) where
   s21 = λ bs. Local.k-back-sc (cx t18 t15) 16 5 4 (Array'.Array (Array'.Array (Referent.rtF (Referent.fInt Syntax.w32)) 4) 32) y13 (Rows.arrF (Array'.Array
       (Referent.rtF (Referent.fInt Syntax.w32)) 4) 32 0) (λ x. x) (λ x. x) λ x. x
   abbrev s23 : (bs : List Nat.ℕ) → Typed.Mo (cx t19 t1) → Typed.Mo (cx t20 t1)
-  s23 = λ bs. Scalar.n-use (cx t19 t1) (Scalar.oFld 8 ((Syntax.field 4) ∷ []) Syntax.tyBool 80 (Reads.fieldV Reached.the-type Laws'5.the-laws 4)) 9
+  s23 = λ bs. Scalar.n-use (cx t19 t1) (Scalar.oFld 8 ((Syntax.field 4) ∷ []) Syntax.tyBool 80 (Reads.fieldV Reached.the-type Laws'6.the-laws 4)) 9
       (Rows'.sc-here Row.sBool) (Row.sBool .of)
   abbrev s24 : (bs : List Nat.ℕ) → Typed.Mo (cx t20 t1) → Typed.Mo (cx t20 t21)
   s24 = λ bs. Scalar.n-use (cx t20 t1) (Scalar.oAt 9 Syntax.tyBool (Row.valS Row.sBool)) 17 (Rows'.sc-here Row.sBool) (Row.sBool .of)
@@ -650,7 +651,7 @@ module _ (claims· : Claims) where
       Row.setRow 8 (8, Rows'.whole (Declared.row Reached.the-type)) T′; slots = [] }) (λ u T′ m′. Row.set 8 (8, Rows'.whole (Declared.row Reached.the-type))
       (u .1 .1 .1 .1 .1 .1 .1 .1 .0) T′ m′) (λ u. Unit) λ u. Unit
   abbrev s33 : (bs : List Nat.ℕ) → Typed.Mo (cx t26 t1) → Typed.Mo (cx t27 t1)
-  s33 = λ bs. Scalar.n-use (cx t26 t1) (Scalar.oFld 8 ((Syntax.field 3) ∷ []) y5 72 (Reads.fieldV Reached.the-type Laws'5.the-laws 3)) 11 (Rows'.sc-here
+  s33 = λ bs. Scalar.n-use (cx t26 t1) (Scalar.oFld 8 ((Syntax.field 3) ∷ []) y5 72 (Reads.fieldV Reached.the-type Laws'6.the-laws 3)) 11 (Rows'.sc-here
       (Row.sInt Syntax.w64)) (Row.sInt Syntax.w64 .of)
   abbrev s34 : (bs : List Nat.ℕ) → Typed.Asks (cx t27 t1) (cx t27 t28)
   s34 = λ bs. Scalar.k-op1 (cx t27 t1) (Syntax.cast Syntax.unsigned Syntax.unsigned Syntax.w32) (Scalar.oAt 11 y5 (Row.valS (Row.sInt Syntax.w64))) 18
@@ -682,7 +683,7 @@ module _ (claims· : Claims) where
   abbrev s49 : (bs : List Nat.ℕ) → Typed.Mo (cx t37 t40) → Typed.Mo (cx t33 t40)
   s49 = λ bs. Local.n-back-shr (cx t37 t40) 5 7 (Rows.arrF (Array'.Array (Referent.rtF (Referent.fInt Syntax.w32)) 4) 32 0) λ x. x
   abbrev s51 : (bs : List Nat.ℕ) → Typed.Mo (cx t33 t40) → Typed.Mo (cx t33 t41)
-  s51 = λ bs. Scalar.n-use (cx t33 t40) (Scalar.oFld 8 ((Syntax.field 2) ∷ []) y5 64 (Reads.fieldV Reached.the-type Laws'5.the-laws 2)) 26 (Rows'.sc-here
+  s51 = λ bs. Scalar.n-use (cx t33 t40) (Scalar.oFld 8 ((Syntax.field 2) ∷ []) y5 64 (Reads.fieldV Reached.the-type Laws'6.the-laws 2)) 26 (Rows'.sc-here
       (Row.sInt Syntax.w64)) (Row.sInt Syntax.w64 .of)
   abbrev s52 : (bs : List Nat.ℕ) → Typed.Both (cx t33 t41) (cx t33 t42)
   s52 = λ bs. Call.callB ps·4 r·4 (claims· .8) (claims· .9) (cx t33 t41) (record { pos = 21; ty = y14; ref = λ x. x }, (Num.vFld 10 ((Syntax.field 4) ∷ []) 48
@@ -731,7 +732,7 @@ module _ (claims· : Claims) where
     module _ (M : Type 1) where
       abbrev pub Closed : Type 2
       Closed = (𝓤 : URA.URA M) (H : Wp.Heap 𝓤) (A : Atoms.Atoms 𝓤) (W : Kit.Given 𝓤 H A) (𝓣 : Wp.Tables 𝓤 H) (known0 : Plain.Known 𝓤 H A W 𝓣 0 ps·0 r·0
-          (claims· .0) (claims· .1) "reader::first_cursor") (known1 : Plain.Known 𝓤 H A W 𝓣 3 ps·1 r·1 (claims· .2) (claims· .3) "reader::read_on") (known2 :
+          (claims· .0) (claims· .1) "cursors::first_cursor") (known1 : Plain.Known 𝓤 H A W 𝓣 3 ps·1 r·1 (claims· .2) (claims· .3) "reader::read_on") (known2 :
           Plain.Known 𝓤 H A W 𝓣 0 ps·2 r·2 (claims· .4) (claims· .5) "blocks::below") (known3 : Plain.Known 𝓤 H A W 𝓣 1 ps·3 r·3 (claims· .6) (claims· .7)
           "blocks::edge_of") (known4 : Plain.Known 𝓤 H A W 𝓣 2 ps·4 r·4 (claims· .8) (claims· .9) "filler::fill_node") → Statement.Triple 𝓤 (Wp.WpFn 𝓤 H (𝓣
           .C) (𝓣 .Λ) (Function.fnOf 3 ps r xs m hs body)) (Function.plainOf 𝓤 H A 3 ps r Pre· Post·)
@@ -892,7 +893,7 @@ module _ (claims· : Claims) where
       Φ = λ bs. at72 bs
       module _ {M : Type 1} (𝓤 : URA.URA M) (H : Wp.Heap 𝓤) (A : Atoms.Atoms 𝓤) (W : Kit.Given 𝓤 H A) (𝓣 : Wp.Tables 𝓤 H) where
         abbrev Knowns : Type 1
-        Knowns = Plain.Known 𝓤 H A W 𝓣 0 ps·0 r·0 (claims· .0) (claims· .1) "reader::first_cursor" × Plain.Known 𝓤 H A W 𝓣 3 ps·1 r·1 (claims· .2) (claims·
+        Knowns = Plain.Known 𝓤 H A W 𝓣 0 ps·0 r·0 (claims· .0) (claims· .1) "cursors::first_cursor" × Plain.Known 𝓤 H A W 𝓣 3 ps·1 r·1 (claims· .2) (claims·
             .3) "reader::read_on" × Plain.Known 𝓤 H A W 𝓣 0 ps·2 r·2 (claims· .4) (claims· .5) "blocks::below" × Plain.Known 𝓤 H A W 𝓣 1 ps·3 r·3 (claims· .6)
             (claims· .7) "blocks::edge_of" × Plain.Known 𝓤 H A W 𝓣 2 ps·4 r·4 (claims· .8) (claims· .9) "filler::fill_node"
       module _ (κs : Lifetimes.Lfts 3) (qs : Lifetimes.Shares 3) where
@@ -1024,14 +1025,14 @@ module _ (claims· : Claims) where
               (Typed.g-post 𝓤 H A W 𝓣 E (gx t29 t1 l0) (gx t50 t1 l0) (gx t51 t1 l0) b28 (λ Ψ. Typed.pass (cx t29 t1) (cx t49 t1) (s65 bs) (Typed.pass (cx t49
               t1) (cx t50 t1) (s66 bs) Ψ)) (Typed.pass (cx t50 t1) (cx t51 t1) (s67 bs)) (Typed.g-post 𝓤 H A W 𝓣 E (gx t29 t1 l0) (gx t49 t1 l0) (gx t50 t1
               l0) b28 (Typed.pass (cx t29 t1) (cx t49 t1) (s65 bs)) (Typed.pass (cx t49 t1) (cx t50 t1) (s66 bs)) (Make.t-struct-make 𝓤 H A W E 𝓣
-              (Apart.apartT Cursor.the-type) Laws'3.the-laws Laws'3.the-plain (gx t29 t1 l0) 6 ((Scalar.oAt 10 y7 (Laws'7.val Run.the-type Laws'6.the-laws)) ∷
-              (Scalar.oFld 8 ((Syntax.field 1) ∷ []) y5 56 (Reads.fieldV Reached.the-type Laws'5.the-laws 1)) ∷ []) (λ m. (m .1 .1 .1 .1 .1 .1 .1 .1 .1 .1 .0,
+              (Apart.apartT Cursor.the-type) Laws.the-laws Laws.the-plain (gx t29 t1 l0) 6 ((Scalar.oAt 10 y7 (Laws'7.val Run.the-type Laws''.the-laws)) ∷
+              (Scalar.oFld 8 ((Syntax.field 1) ∷ []) y5 56 (Reads.fieldV Reached.the-type Laws'6.the-laws 1)) ∷ []) (λ m. (m .1 .1 .1 .1 .1 .1 .1 .1 .1 .1 .0,
               (Reached.struct .as-values (m .1 .1 .1 .1 .1 .1 .1 .1 .0) .1 .0, tt))) (Reads'.room-gone 𝓤 H A y8) ((Reads.reads-struct 𝓤 H A W Run.the-type
-              Laws'6.the-laws, Path'.refl), ((Reads.reads-field 𝓤 H A W Reached.the-type Laws'5.the-laws 1 y5 56 Path'.refl, Path'.refl), tt)) Path'.refl (λ
-              u. Path'.refl) λ m. Make.is-wt (Apart.apartT Cursor.the-type) Laws'3.the-laws (Make.struct-wt Run.the-type Laws'6.the-laws (Make.struct-wt
-              Ref.the-type Laws'.the-laws (Make.u32-wt, (Make.u32-wt, tt)), (Make.struct-wt Pair.the-type Laws'4.the-laws (Make.bool-wt, (Make.struct-wt
-              Ref.the-type Laws'.the-laws (Make.u32-wt, (Make.u32-wt, tt)), (Make.struct-wt Ref.the-type Laws'.the-laws (Make.u32-wt, (Make.u32-wt, tt)),
-              tt))), (Make.u64-wt, (Make.u64-wt, (Make.u32-wt, (Whole.enum-wt Context.the-type Laws.the-laws (tt, (tt, (tt, (tt, (tt, (tt, (tt, tt))))))),
+              Laws''.the-laws, Path'.refl), ((Reads.reads-field 𝓤 H A W Reached.the-type Laws'6.the-laws 1 y5 56 Path'.refl, Path'.refl), tt)) Path'.refl (λ
+              u. Path'.refl) λ m. Make.is-wt (Apart.apartT Cursor.the-type) Laws.the-laws (Make.struct-wt Run.the-type Laws''.the-laws (Make.struct-wt
+              Ref.the-type Laws'4.the-laws (Make.u32-wt, (Make.u32-wt, tt)), (Make.struct-wt Pair.the-type Laws'.the-laws (Make.bool-wt, (Make.struct-wt
+              Ref.the-type Laws'4.the-laws (Make.u32-wt, (Make.u32-wt, tt)), (Make.struct-wt Ref.the-type Laws'4.the-laws (Make.u32-wt, (Make.u32-wt, tt)),
+              tt))), (Make.u64-wt, (Make.u64-wt, (Make.u32-wt, (Whole.enum-wt Context.the-type Laws'3.the-laws (tt, (tt, (tt, (tt, (tt, (tt, (tt, tt))))))),
               (Make.bool-wt, tt))))))), (Make.u64-wt, tt)) (m .1 .1 .1 .1 .1 .1 .1 .1 .1 .1 .0, (Reached.struct .as-values (m .1 .1 .1 .1 .1 .1 .1 .1 .0) .1
               .0, tt))) (Scalar.g-room 𝓤 H A W E (gx t49 t1 l0) 8 y10 (Local.room-whole 𝓤 H A W (Declared.row Reached.the-type) y10 Path'.refl)))
               (Scalar.g-room 𝓤 H A W E (gx t50 t1 l0) 9 Syntax.tyBool (Scalar.room-sc 𝓤 H A W Row.sBool))) (Scalar.g-room 𝓤 H A W E (gx t51 t1 l0) 10 y7
@@ -1084,17 +1085,17 @@ module _ (claims· : Claims) where
               10 ((Syntax.field 4) ∷ []) 48 λ x. Run.struct .as-values x .1 .1 .1 .1 .0, (record { pos = 23; ty = y17; ref = λ x. x }, (Num.vAt 18 λ x. x,
               (Num.vAt 12 λ x. x, (record { pos = 24; st = []; d = 0; at = λ x. x }, (Num.vAt 26 λ x. x, tt))))))) 19 (5 ∷ 6 ∷ []) (Call.sub-id 𝓤 H A W ((gx
               g33 t41 l11) .slots)) (ShrSlice.spares-sslice 𝓤 H A W NodeRecordT.row y14 5, Shared.reads-sslice 𝓤 H A W NodeRecordT.row y14 5, Path'.refl,
-              ((Reads.reads-field 𝓤 H A W Run.the-type Laws'6.the-laws 4 y0 48 Path'.refl, Path'.refl), (Reads'.as-is 𝓤 H A (Mut.mslice (Referent.rtF
+              ((Reads.reads-field 𝓤 H A W Run.the-type Laws''.the-laws 4 y0 48 Path'.refl, Path'.refl), (Reads'.as-is 𝓤 H A (Mut.mslice (Referent.rtF
               (Referent.fInt Syntax.w8)) y17 6), Mut.reads-mslice 𝓤 H A W (Referent.rtF (Referent.fInt Syntax.w8)) y17 6, Path'.refl, ((Scalar.reads-sc 𝓤 H A
               W (Row.sInt Syntax.w32), Path'.refl), ((Scalar.reads-sc 𝓤 H A W (Row.sInt Syntax.w32), Path'.refl), ((Yields.yields-copy 𝓤 H A W (λ ρ. Unit)
-              (Declared.row Edge.the-type) Path'.refl (Copies.cStruct Edge.the-type Laws''.the-laws Laws''.the-copy .copy 𝓤 H A W) (Rows'.whole (Declared.row
+              (Declared.row Edge.the-type) Path'.refl (Copies.cStruct Edge.the-type Laws'5.the-laws Laws'5.the-copy .copy 𝓤 H A W) (Rows'.whole (Declared.row
               Edge.the-type)) (λ x. x) (λ x. x) (λ ρ told. Local.mem-whole 𝓤 H A W (Declared.row Edge.the-type) ρ) λ ρ told. Local.whole-mem 𝓤 H A W
               (Declared.row Edge.the-type) ρ, Path'.refl), ((Scalar.reads-sc 𝓤 H A W (Row.sInt Syntax.w64), Path'.refl), tt))))))) (Reads'.room-gone 𝓤 H A
               Syntax.tyUnit) (tt, (tt, tt)) Path'.refl) d22
           d24 : Typed.Typed 𝓤 H A 𝓣 E (gx g33 t40 l11) b30 Δ3 (at24 bs)
           d24 = Typed.s-seq 𝓤 H A W 𝓣 E (gx g33 t40 l11) (gx g33 t41 l11) b26 b29 Δ3 (Typed.pass (cx t33 t40) (cx t33 t41) (s51 bs)) (at23 bs) (Scalar.t-use 𝓤
-              H A W E 𝓣 (gx g33 t40 l11) (Scalar.oFld 8 ((Syntax.field 2) ∷ []) y5 64 (Reads.fieldV Reached.the-type Laws'5.the-laws 2)) 26 (Rows'.sc-here
-              (Row.sInt Syntax.w64)) y5 (Row.valS (Row.sInt Syntax.w64)) (Row.sInt Syntax.w64 .of) (Reads.reads-field 𝓤 H A W Reached.the-type Laws'5.the-laws
+              H A W E 𝓣 (gx g33 t40 l11) (Scalar.oFld 8 ((Syntax.field 2) ∷ []) y5 64 (Reads.fieldV Reached.the-type Laws'6.the-laws 2)) 26 (Rows'.sc-here
+              (Row.sInt Syntax.w64)) y5 (Row.valS (Row.sInt Syntax.w64)) (Row.sInt Syntax.w64 .of) (Reads.reads-field 𝓤 H A W Reached.the-type Laws'6.the-laws
               2 y5 64 Path'.refl, Path'.refl) (Reads'.room-gone 𝓤 H A y5) (Scalar.holds-sc 𝓤 H A W (Row.sInt Syntax.w64)) Path'.refl (λ u. Path'.refl) λ u.
               tt) d23
           d25 : Typed.Typed 𝓤 H A 𝓣 E (gx g33 t40 l13) b30 Δ3 (at25 bs)
@@ -1119,7 +1120,7 @@ module _ (claims· : Claims) where
           d29 = Typed.s-seq 𝓤 H A W 𝓣 E (gx g37 t38 l12) (gx g37 t39 l12) b25 b30 Δ3 (Typed.both (s46 bs)) (at28 bs) (Plain.t-call-plain 𝓤 H A W 𝓣 1 ps·3 r·3
               (claims· .6) (claims· .7) "blocks::edge_of" (known .3) E (λ pos β. β) (gx g37 t38 l12) (record { pos = 8; st = []; d = 0; at = λ x. x }, (record
               { pos = 25; ty = y20; ref = λ x. x }, tt)) 24 (7 ∷ []) (Call.sub-id 𝓤 H A W ((gx g37 t38 l12) .slots)) ((Yields.yields-copy 𝓤 H A W (λ ρ. Unit)
-              (Declared.row Reached.the-type) Path'.refl (Copies.cStruct Reached.the-type Laws'5.the-laws Laws'5.the-copy .copy 𝓤 H A W) (Rows'.whole
+              (Declared.row Reached.the-type) Path'.refl (Copies.cStruct Reached.the-type Laws'6.the-laws Laws'6.the-copy .copy 𝓤 H A W) (Rows'.whole
               (Declared.row Reached.the-type)) (λ x. x) (λ x. x) (λ ρ told. Local.mem-whole 𝓤 H A W (Declared.row Reached.the-type) ρ) λ ρ told.
               Local.whole-mem 𝓤 H A W (Declared.row Reached.the-type) ρ, Path'.refl), (ShrRef.spares-sref 𝓤 H A W (Array'.Array (Array'.Array (Referent.rtF
               (Referent.fInt Syntax.w32)) 4) 32) y20 7, Reads'.reads-sref 𝓤 H A W (Array'.Array (Array'.Array (Referent.rtF (Referent.fInt Syntax.w32)) 4) 32)
@@ -1179,12 +1180,12 @@ module _ (claims· : Claims) where
               (Reads'.room-gone 𝓤 H A y0) (Scalar.holds-sc 𝓤 H A W (Row.sInt Syntax.w32)) Path'.refl (λ u. Path'.refl) λ u. tt) d40
           d42 : Typed.Typed 𝓤 H A 𝓣 E (gx t26 t1 l0) b40 Δ3 (at42 bs)
           d42 = Typed.s-seq 𝓤 H A W 𝓣 E (gx t26 t1 l0) (gx t27 t1 l0) b16 b39 Δ3 (Typed.pass (cx t26 t1) (cx t27 t1) (s33 bs)) (at41 bs) (Scalar.t-use 𝓤 H A W
-              E 𝓣 (gx t26 t1 l0) (Scalar.oFld 8 ((Syntax.field 3) ∷ []) y5 72 (Reads.fieldV Reached.the-type Laws'5.the-laws 3)) 11 (Rows'.sc-here (Row.sInt
-              Syntax.w64)) y5 (Row.valS (Row.sInt Syntax.w64)) (Row.sInt Syntax.w64 .of) (Reads.reads-field 𝓤 H A W Reached.the-type Laws'5.the-laws 3 y5 72
+              E 𝓣 (gx t26 t1 l0) (Scalar.oFld 8 ((Syntax.field 3) ∷ []) y5 72 (Reads.fieldV Reached.the-type Laws'6.the-laws 3)) 11 (Rows'.sc-here (Row.sInt
+              Syntax.w64)) y5 (Row.valS (Row.sInt Syntax.w64)) (Row.sInt Syntax.w64 .of) (Reads.reads-field 𝓤 H A W Reached.the-type Laws'6.the-laws 3 y5 72
               Path'.refl, Path'.refl) (Reads'.room-gone 𝓤 H A y5) (Scalar.holds-sc 𝓤 H A W (Row.sInt Syntax.w64)) Path'.refl (λ u. Path'.refl) λ u. tt) d41
           d43 : Typed.Typed 𝓤 H A 𝓣 E (gx t20 t1 l0) b41 Δ3 (at43 bs)
           d43 = Typed.s-seq 𝓤 H A W 𝓣 E (gx t20 t1 l0) (gx t26 t1 l0) b15 b40 Δ3 (Typed.both (s32 bs)) (at42 bs) (WayStmt.t-way-copy-out 𝓤 H A W E 𝓣
-              (Declared.row Run.the-type) Path'.refl (Copies.cStruct Run.the-type Laws'6.the-laws Laws'6.the-copy .copy 𝓤 H A W) (λ ρ. Unit) (gx t20 t1 l0)
+              (Declared.row Run.the-type) Path'.refl (Copies.cStruct Run.the-type Laws''.the-laws Laws''.the-copy .copy 𝓤 H A W) (λ ρ. Unit) (gx t20 t1 l0)
               (Row.out 8 ((gx t20 t1 l0) .locals)) (λ u. Row.drop 8 ((gx t20 t1 l0) .locals) u) ((gx t20 t1 l0) .slots) 8 (λ t. (Syntax.field 0) ∷ t) y7 y7 10
               (Rows'.whole (Declared.row Run.the-type)) (λ x. x) (λ u. At.getAt (Reached.the-type .parts) 0 (Reached.struct .as-values (u .1 .1 .1 .1 .1 .1 .1
               .1 .0))) (λ u. (Row.hd 0 (Row.tl (Row.tl (Row.tl (Row.tl (Row.tl (Row.tl (Row.tl (Row.tl bs)))))))), Nat._+_ 0 0)) (λ T′. record { locals =
@@ -1200,7 +1201,7 @@ module _ (claims· : Claims) where
               Path'.refl λ q. Inner.cut-record 𝓤 H A q (Declared.row Reached.the-type) Run.the-type 0 (u .1 .1 .1 .1 .1 .1 .1 .1 .0) (u .1 .1 .1 .1 .1 .1 .1
               .1 .0) (At.getAt (Reached.the-type .parts) 0 (Reached.struct .as-values (u .1 .1 .1 .1 .1 .1 .1 .1 .0))) (At.getAt (Reached.the-type .parts) 0
               (Reached.struct .as-values (u .1 .1 .1 .1 .1 .1 .1 .1 .0))) (Row.hd 0 (Row.tl (Row.tl (Row.tl (Row.tl (Row.tl (Row.tl (Row.tl (Row.tl
-              bs)))))))), 0) (Behind.look-at 𝓤 H A W q Reached.the-type Laws'5.the-laws 0 0 Path'.refl Path'.refl (Row.hd 0 (Row.tl (Row.tl (Row.tl (Row.tl
+              bs)))))))), 0) (Behind.look-at 𝓤 H A W q Reached.the-type Laws'6.the-laws 0 0 Path'.refl Path'.refl (Row.hd 0 (Row.tl (Row.tl (Row.tl (Row.tl
               (Row.tl (Row.tl (Row.tl (Row.tl bs)))))))), 0) (u .1 .1 .1 .1 .1 .1 .1 .1 .0) (Reached.struct .as-values (u .1 .1 .1 .1 .1 .1 .1 .1 .0))
               Path'.refl)) (Reads'.room-gone 𝓤 H A y7) (Yields.makes-mem 𝓤 H A W (λ ρ. Unit) (Declared.row Run.the-type) Path'.refl (Rows'.whole (Declared.row
               Run.the-type)) (λ x. x) λ ρ told. Local.whole-mem 𝓤 H A W (Declared.row Run.the-type) ρ) Path'.refl Path'.refl Path'.refl) d42
@@ -1213,8 +1214,8 @@ module _ (claims· : Claims) where
               Path'.refl (λ u. Path'.refl) λ u. tt) d44
           d46 : Typed.Typed 𝓤 H A 𝓣 E (gx t19 t1 l0) b44 Δ3 (at46 bs)
           d46 = Typed.s-seq 𝓤 H A W 𝓣 E (gx t19 t1 l0) (gx t20 t1 l0) b8 b43 Δ3 (Typed.pass (cx t19 t1) (cx t20 t1) (s23 bs)) (at45 bs) (Scalar.t-use 𝓤 H A W
-              E 𝓣 (gx t19 t1 l0) (Scalar.oFld 8 ((Syntax.field 4) ∷ []) Syntax.tyBool 80 (Reads.fieldV Reached.the-type Laws'5.the-laws 4)) 9 (Rows'.sc-here
-              Row.sBool) Syntax.tyBool (Row.valS Row.sBool) (Row.sBool .of) (Reads.reads-field 𝓤 H A W Reached.the-type Laws'5.the-laws 4 Syntax.tyBool 80
+              E 𝓣 (gx t19 t1 l0) (Scalar.oFld 8 ((Syntax.field 4) ∷ []) Syntax.tyBool 80 (Reads.fieldV Reached.the-type Laws'6.the-laws 4)) 9 (Rows'.sc-here
+              Row.sBool) Syntax.tyBool (Row.valS Row.sBool) (Row.sBool .of) (Reads.reads-field 𝓤 H A W Reached.the-type Laws'6.the-laws 4 Syntax.tyBool 80
               Path'.refl, Path'.refl) (Reads'.room-gone 𝓤 H A Syntax.tyBool) (Scalar.holds-sc 𝓤 H A W Row.sBool) Path'.refl (λ u. Path'.refl) λ u. tt) d45
           d47 : Typed.Typed 𝓤 H A 𝓣 E (gx t19 t1 l7) b44 Δ3 (at47 bs)
           d47 = Typed.g-pre 𝓤 H A W 𝓣 E (gx t19 t1 l7) (gx t19 t1 l0) b44 Δ3 (λ Ψ. Ψ) (at46 bs) (Lifetime.g-forget 𝓤 H A W E (gx t19 t1 l7) 4 Row.dead
@@ -1252,9 +1253,9 @@ module _ (claims· : Claims) where
               NodeRecordT.row y11 3), Mut.reads-mslice 𝓤 H A W NodeRecordT.row y11 3, Path'.refl, (Reads'.as-is 𝓤 H A (Rows'.mref (Array'.Array (Array'.Array
               (Referent.rtF (Referent.fInt Syntax.w32)) 4) 32) y13 4), Reads'.reads-mref 𝓤 H A W (Array'.Array (Array'.Array (Referent.rtF (Referent.fInt
               Syntax.w32)) 4) 32) y13 4, Path'.refl, ((Yields.yields-copy 𝓤 H A W (λ ρ. Unit) (Declared.row Cursor.the-type) Path'.refl (Copies.cStruct
-              Cursor.the-type Laws'3.the-laws Laws'3.the-copy .copy 𝓤 H A W) (Rows'.whole (Declared.row Cursor.the-type)) (λ x. x) (λ x. x) (λ ρ told.
+              Cursor.the-type Laws.the-laws Laws.the-copy .copy 𝓤 H A W) (Rows'.whole (Declared.row Cursor.the-type)) (λ x. x) (λ x. x) (λ ρ told.
               Local.mem-whole 𝓤 H A W (Declared.row Cursor.the-type) ρ) λ ρ told. Local.whole-mem 𝓤 H A W (Declared.row Cursor.the-type) ρ, Path'.refl),
-              ((Reads.reads-field 𝓤 H A W Run.the-type Laws'6.the-laws 3 y5 40 Path'.refl, Path'.refl), tt)))))) (Reads'.room-gone 𝓤 H A y10) (tt, (tt, (tt,
+              ((Reads.reads-field 𝓤 H A W Run.the-type Laws''.the-laws 3 y5 40 Path'.refl, Path'.refl), tt)))))) (Reads'.room-gone 𝓤 H A y10) (tt, (tt, (tt,
               tt))) Path'.refl) d54
           d56 : Typed.Typed 𝓤 H A 𝓣 E (gx g11 t1 l3) b46 Δ3 (at56 bs)
           d56 = Typed.s-seq 𝓤 H A W 𝓣 E (gx g11 t1 l3) (gx g12 t13 l3) b6 b45 Δ3 (Typed.give (s13 bs)) (at55 bs) (Local.t-sc-borrow 𝓤 H A W E 𝓣 (gx g11 t1 l3)
@@ -1279,7 +1280,7 @@ module _ (claims· : Claims) where
               tt)))))))))))))))))))))))))))) d59
           d61 : Typed.Typed 𝓤 H A 𝓣 E (gx t8 t1 l0) b49 Δ3 (at61 bs)
           d61 = Typed.s-seq 𝓤 H A W 𝓣 E (gx t8 t1 l0) (gx t9 t1 l0) b3 b48 Δ3 (Typed.both (s8 bs)) (at60 bs) (WayStmt.t-way-copy-out 𝓤 H A W E 𝓣 (Declared.row
-              Run.the-type) Path'.refl (Copies.cStruct Run.the-type Laws'6.the-laws Laws'6.the-copy .copy 𝓤 H A W) (λ ρ. Unit) (gx t8 t1 l0) (Row.out 6 ((gx
+              Run.the-type) Path'.refl (Copies.cStruct Run.the-type Laws''.the-laws Laws''.the-copy .copy 𝓤 H A W) (λ ρ. Unit) (gx t8 t1 l0) (Row.out 6 ((gx
               t8 t1 l0) .locals)) (λ u. Row.drop 6 ((gx t8 t1 l0) .locals) u) ((gx t8 t1 l0) .slots) 6 (λ t. (Syntax.field 0) ∷ t) y7 y7 7 (Rows'.whole
               (Declared.row Run.the-type)) (λ x. x) (λ u. At.getAt (Cursor.the-type .parts) 0 (Cursor.struct .as-values (u .1 .1 .1 .1 .1 .1 .0))) (λ u.
               (Row.hd 0 (Row.tl (Row.tl (Row.tl (Row.tl (Row.tl (Row.tl bs)))))), Nat._+_ 0 0)) (λ T′. record { locals = Row.setRow 6 (6, Rows'.whole
@@ -1294,7 +1295,7 @@ module _ (claims· : Claims) where
               Inner.cut-record 𝓤 H A q (Declared.row Cursor.the-type) Run.the-type 0 (u .1 .1 .1 .1 .1 .1 .0) (u .1 .1 .1 .1 .1 .1 .0) (At.getAt
               (Cursor.the-type .parts) 0 (Cursor.struct .as-values (u .1 .1 .1 .1 .1 .1 .0))) (At.getAt (Cursor.the-type .parts) 0 (Cursor.struct .as-values
               (u .1 .1 .1 .1 .1 .1 .0))) (Row.hd 0 (Row.tl (Row.tl (Row.tl (Row.tl (Row.tl (Row.tl bs)))))), 0) (Behind.look-at 𝓤 H A W q Cursor.the-type
-              Laws'3.the-laws 0 0 Path'.refl Path'.refl (Row.hd 0 (Row.tl (Row.tl (Row.tl (Row.tl (Row.tl (Row.tl bs)))))), 0) (u .1 .1 .1 .1 .1 .1 .0)
+              Laws.the-laws 0 0 Path'.refl Path'.refl (Row.hd 0 (Row.tl (Row.tl (Row.tl (Row.tl (Row.tl (Row.tl bs)))))), 0) (u .1 .1 .1 .1 .1 .1 .0)
               (Cursor.struct .as-values (u .1 .1 .1 .1 .1 .1 .0)) Path'.refl)) (Reads'.room-gone 𝓤 H A y7) (Yields.makes-mem 𝓤 H A W (λ ρ. Unit) (Declared.row
               Run.the-type) Path'.refl (Rows'.whole (Declared.row Run.the-type)) (λ x. x) λ ρ told. Local.whole-mem 𝓤 H A W (Declared.row Run.the-type) ρ)
               Path'.refl Path'.refl Path'.refl) d60
@@ -1310,7 +1311,7 @@ module _ (claims· : Claims) where
           d64 = Dead.t-seq-dead 𝓤 H A W 𝓣 E (gx t8 t1 l0) b51 b52 Δ0 (at63 bs) d63
           d65 : Typed.Typed 𝓤 H A 𝓣 E (gx t7 t1 l0) b54 Δ0 (at65 bs)
           d65 = Typed.s-seq 𝓤 H A W 𝓣 E (gx t7 t1 l0) (gx t8 t1 l0) b2 b53 Δ0 (Typed.both (s7 bs)) (at64 bs) (Plain.t-call-plain 𝓤 H A W 𝓣 0 ps·0 r·0 (claims·
-              .0) (claims· .1) "reader::first_cursor" (known .0) E (λ pos β. β) (gx t7 t1 l0) tt 6 [] (Call.sub-id 𝓤 H A W ((gx t7 t1 l0) .slots)) tt
+              .0) (claims· .1) "cursors::first_cursor" (known .0) E (λ pos β. β) (gx t7 t1 l0) tt 6 [] (Call.sub-id 𝓤 H A W ((gx t7 t1 l0) .slots)) tt
               (Reads'.room-gone 𝓤 H A y8) tt Path'.refl) d64
           d66 : Typed.Typed 𝓤 H A 𝓣 E (gx t6 t1 l0) b54 Δ0 (at66 bs)
           d66 = Typed.g-pre 𝓤 H A W 𝓣 E (gx t6 t1 l0) (gx t7 t1 l0) b54 Δ0 (Typed.pass (cx t6 t1) (cx t7 t1) (s6 bs)) (at65 bs) (Scalar.g-room 𝓤 H A W E (gx
@@ -1984,9 +1985,9 @@ module _ (claims· : Claims) where
           asked = λ a good pre bs. laid record { κs = κs; args = record { n = a .0; s = a .1 .0; v = a .1 .1 .0; t = a .1 .1 .1 .0 }; blocks = bs; good =
               good; fits = record { n = record { fits = good .0 .1 } }; pre = pre }
         module _ {M : Type 1} (𝓤 : URA.URA M) (H : Wp.Heap 𝓤) (A : Atoms.Atoms 𝓤) (W : Kit.Given 𝓤 H A) (𝓣 : Wp.Tables 𝓤 H) (known0 : Plain.Known 𝓤 H A W 𝓣 0
-            ps·0 r·0 (claims· .0) (claims· .1) "reader::first_cursor") (known1 : Plain.Known 𝓤 H A W 𝓣 3 ps·1 r·1 (claims· .2) (claims· .3) "reader::read_on")
-            (known2 : Plain.Known 𝓤 H A W 𝓣 0 ps·2 r·2 (claims· .4) (claims· .5) "blocks::below") (known3 : Plain.Known 𝓤 H A W 𝓣 1 ps·3 r·3 (claims· .6)
-            (claims· .7) "blocks::edge_of") (known4 : Plain.Known 𝓤 H A W 𝓣 2 ps·4 r·4 (claims· .8) (claims· .9) "filler::fill_node") where
+            ps·0 r·0 (claims· .0) (claims· .1) "cursors::first_cursor") (known1 : Plain.Known 𝓤 H A W 𝓣 3 ps·1 r·1 (claims· .2) (claims· .3)
+            "reader::read_on") (known2 : Plain.Known 𝓤 H A W 𝓣 0 ps·2 r·2 (claims· .4) (claims· .5) "blocks::below") (known3 : Plain.Known 𝓤 H A W 𝓣 1 ps·3
+            r·3 (claims· .6) (claims· .7) "blocks::edge_of") (known4 : Plain.Known 𝓤 H A W 𝓣 2 ps·4 r·4 (claims· .8) (claims· .9) "filler::fill_node") where
           pub spec : Statement.Triple 𝓤 (Wp.WpFn 𝓤 H (𝓣 .C) (𝓣 .Λ) (Function.fnOf 3 ps r xs m hs body)) (Function.plainOf 𝓤 H A 3 ps r Pre· Post·)
           spec = Plain.t-fn-plain 𝓤 H A W 𝓣 3 ps r xs m hs body (λ κs qs bs. Φ bs) (λ κs qs bs bd. typed κs qs 𝓤 H A W 𝓣 (known0, known1, known2, known3,
               known4) bs bd) Pre· Post· asked

@@ -1,17 +1,17 @@
 -- Generated: the derivation of a body.
--- From 67c274d1b2303cbb, as 91c2d05563d629fc.
+-- From 90a438c920363d05, as 0410b513dc14055d.
 use Prim.Native.Nat
-use Rattle.checker.proofs.Refusal
-use Rattle.checker.proofs.Refusal.Laws
+use Rattle.answers.proofs.Finding
+use Rattle.answers.proofs.Finding.Laws
+use Rattle.answers.proofs.Refusal
+use Rattle.answers.proofs.Refusal.Laws as Laws'
+use Rattle.cursors.proofs.Cursor
+use Rattle.cursors.proofs.Cursor.Laws as Laws''
 use Rattle.elements.proofs.Cause
-use Rattle.elements.proofs.Cause.Laws as Laws'
-use Rattle.finder.proofs.Finding
-use Rattle.finder.proofs.Finding.Laws as Laws''
+use Rattle.elements.proofs.Cause.Laws as Laws'3
 use Rattle.finder.proofs.Sought
-use Rattle.finder.proofs.Sought.Laws as Laws'3
+use Rattle.finder.proofs.Sought.Laws as Laws'4
 use Rattle.node_records.proofs.Tables.NodeRecord as NodeRecordT
-use Rattle.reader.proofs.Cursor
-use Rattle.reader.proofs.Cursor.Laws as Laws'4
 use Rattle.reader.proofs.Reached
 use Rattle.reader.proofs.Reached.Laws as Laws'5
 use borrow.Author.Called
@@ -95,8 +95,8 @@ y2 = Syntax.tyArray y1 32
 abbrev y3 : Syntax.Ty
 y3 = Syntax.tyStruct (101 ∷ 108 ∷ 101 ∷ 109 ∷ 101 ∷ 110 ∷ 116 ∷ 115 ∷ 58 ∷ 58 ∷ 82 ∷ 101 ∷ 102 ∷ []) (Syntax.tcons y0 (Syntax.tcons y0 Syntax.tnil))
 abbrev y4 : Syntax.Ty
-y4 = Syntax.tyStruct (114 ∷ 101 ∷ 97 ∷ 100 ∷ 101 ∷ 114 ∷ 58 ∷ 58 ∷ 80 ∷ 97 ∷ 105 ∷ 114 ∷ []) (Syntax.tcons Syntax.tyBool (Syntax.tcons y3 (Syntax.tcons y3
-    Syntax.tnil)))
+y4 = Syntax.tyStruct (99 ∷ 117 ∷ 114 ∷ 115 ∷ 111 ∷ 114 ∷ 115 ∷ 58 ∷ 58 ∷ 80 ∷ 97 ∷ 105 ∷ 114 ∷ []) (Syntax.tcons Syntax.tyBool (Syntax.tcons y3 (Syntax.tcons
+    y3 Syntax.tnil)))
 abbrev y5 : Syntax.Ty
 y5 = Syntax.tyInt Syntax.w64
 abbrev y6 : Syntax.Ty
@@ -104,8 +104,8 @@ y6 = Syntax.tyEnum (101 ∷ 108 ∷ 101 ∷ 109 ∷ 101 ∷ 110 ∷ 116 ∷ 115 
     (Syntax.ttcons Syntax.tnil (Syntax.ttcons Syntax.tnil (Syntax.ttcons Syntax.tnil (Syntax.ttcons Syntax.tnil (Syntax.ttcons Syntax.tnil (Syntax.ttcons
     Syntax.tnil Syntax.ttnil)))))))
 abbrev y7 : Syntax.Ty
-y7 = Syntax.tyStruct (114 ∷ 101 ∷ 97 ∷ 100 ∷ 101 ∷ 114 ∷ 58 ∷ 58 ∷ 82 ∷ 117 ∷ 110 ∷ []) (Syntax.tcons y3 (Syntax.tcons y4 (Syntax.tcons y5 (Syntax.tcons y5
-    (Syntax.tcons y0 (Syntax.tcons y6 (Syntax.tcons Syntax.tyBool Syntax.tnil)))))))
+y7 = Syntax.tyStruct (99 ∷ 117 ∷ 114 ∷ 115 ∷ 111 ∷ 114 ∷ 115 ∷ 58 ∷ 58 ∷ 82 ∷ 117 ∷ 110 ∷ []) (Syntax.tcons y3 (Syntax.tcons y4 (Syntax.tcons y5 (Syntax.tcons
+    y5 (Syntax.tcons y0 (Syntax.tcons y6 (Syntax.tcons Syntax.tyBool Syntax.tnil)))))))
 abbrev y8 : Syntax.Ty
 y8 = Syntax.tyEnum (101 ∷ 108 ∷ 101 ∷ 109 ∷ 101 ∷ 110 ∷ 116 ∷ 115 ∷ 58 ∷ 58 ∷ 67 ∷ 97 ∷ 117 ∷ 115 ∷ 101 ∷ []) (Syntax.ttcons Syntax.tnil (Syntax.ttcons
     Syntax.tnil (Syntax.ttcons Syntax.tnil (Syntax.ttcons Syntax.tnil (Syntax.ttcons Syntax.tnil (Syntax.ttcons Syntax.tnil (Syntax.ttcons Syntax.tnil
@@ -117,7 +117,7 @@ y9 = Syntax.tyStruct (114 ∷ 101 ∷ 97 ∷ 100 ∷ 101 ∷ 114 ∷ 58 ∷ 58 �
 abbrev y10 : Syntax.Ty
 y10 = Syntax.tyStruct (102 ∷ 105 ∷ 110 ∷ 100 ∷ 101 ∷ 114 ∷ 58 ∷ 58 ∷ 83 ∷ 111 ∷ 117 ∷ 103 ∷ 104 ∷ 116 ∷ []) (Syntax.tcons y9 (Syntax.tcons y5 Syntax.tnil))
 abbrev y11 : Syntax.Ty
-y11 = Syntax.tyStruct (99 ∷ 104 ∷ 101 ∷ 99 ∷ 107 ∷ 101 ∷ 114 ∷ 58 ∷ 58 ∷ 82 ∷ 101 ∷ 102 ∷ 117 ∷ 115 ∷ 97 ∷ 108 ∷ []) (Syntax.tcons y8 (Syntax.tcons y0
+y11 = Syntax.tyStruct (97 ∷ 110 ∷ 115 ∷ 119 ∷ 101 ∷ 114 ∷ 115 ∷ 58 ∷ 58 ∷ 82 ∷ 101 ∷ 102 ∷ 117 ∷ 115 ∷ 97 ∷ 108 ∷ []) (Syntax.tcons y8 (Syntax.tcons y0
     (Syntax.tcons y5 Syntax.tnil)))
 abbrev y12 : Syntax.Ty
 y12 = Syntax.tyRef Syntax.erased Syntax.mut NodeRecordT.behind
@@ -126,13 +126,14 @@ y13 = Syntax.tyStruct (38 ∷ 91 ∷ 93 ∷ []) (Syntax.tcons y12 (Syntax.tcons 
 abbrev y14 : Syntax.Ty
 y14 = Syntax.tyRef Syntax.erased Syntax.mut y2
 abbrev y15 : Syntax.Ty
-y15 = Syntax.tyStruct (114 ∷ 101 ∷ 97 ∷ 100 ∷ 101 ∷ 114 ∷ 58 ∷ 58 ∷ 67 ∷ 117 ∷ 114 ∷ 115 ∷ 111 ∷ 114 ∷ []) (Syntax.tcons y7 (Syntax.tcons y5 Syntax.tnil))
+y15 = Syntax.tyStruct (99 ∷ 117 ∷ 114 ∷ 115 ∷ 111 ∷ 114 ∷ 115 ∷ 58 ∷ 58 ∷ 67 ∷ 117 ∷ 114 ∷ 115 ∷ 111 ∷ 114 ∷ []) (Syntax.tcons y7 (Syntax.tcons y5
+    Syntax.tnil))
 abbrev y16 : Syntax.Ty
-y16 = Syntax.tyEnum (102 ∷ 105 ∷ 110 ∷ 100 ∷ 101 ∷ 114 ∷ 58 ∷ 58 ∷ 78 ∷ 101 ∷ 120 ∷ 116 ∷ 87 ∷ 111 ∷ 114 ∷ 100 ∷ []) (Syntax.ttcons (Syntax.tcons y5
+y16 = Syntax.tyEnum (97 ∷ 110 ∷ 115 ∷ 119 ∷ 101 ∷ 114 ∷ 115 ∷ 58 ∷ 58 ∷ 78 ∷ 101 ∷ 120 ∷ 116 ∷ 87 ∷ 111 ∷ 114 ∷ 100 ∷ []) (Syntax.ttcons (Syntax.tcons y5
     Syntax.tnil) (Syntax.ttcons Syntax.tnil (Syntax.ttcons Syntax.tnil Syntax.ttnil)))
 abbrev y17 : Syntax.Ty
-y17 = Syntax.tyEnum (102 ∷ 105 ∷ 110 ∷ 100 ∷ 101 ∷ 114 ∷ 58 ∷ 58 ∷ 70 ∷ 105 ∷ 110 ∷ 100 ∷ 105 ∷ 110 ∷ 103 ∷ []) (Syntax.ttcons (Syntax.tcons y11 Syntax.tnil)
-    (Syntax.ttcons (Syntax.tcons y16 Syntax.tnil) Syntax.ttnil))
+y17 = Syntax.tyEnum (97 ∷ 110 ∷ 115 ∷ 119 ∷ 101 ∷ 114 ∷ 115 ∷ 58 ∷ 58 ∷ 70 ∷ 105 ∷ 110 ∷ 100 ∷ 105 ∷ 110 ∷ 103 ∷ []) (Syntax.ttcons (Syntax.tcons y11
+    Syntax.tnil) (Syntax.ttcons (Syntax.tcons y16 Syntax.tnil) Syntax.ttnil))
 abbrev y18 : Syntax.Ty
 y18 = Syntax.tyInt Syntax.w8
 abbrev y19 : Syntax.Ty
@@ -275,42 +276,42 @@ abbrev pub ps : List (Kinds.PK 2)
 ps = (Num.pNum Syntax.w32) ∷ (ShrSlice.pShrS (Referent.rtF (Referent.fInt Syntax.w8)) 0 tt) ∷ (Num.pNum Syntax.w64) ∷ (MutSlice.pMutS NodeRecordT.row 1 tt) ∷
     []
 abbrev pub r : Kinds.RK 2
-r = Value.rVal record { ty = Declared.row Finding.the-type; one = Path'.refl; val = Laws'6.val Finding.the-type Laws''.the-laws; tells = Laws'6.tells
-    Finding.the-type Laws''.the-laws; still = Laws'6.still Finding.the-type Laws''.the-copy Exit.yes; row = Rows'.whole (Declared.row Finding.the-type); rd =
-    λ x. x; mk = λ x. x } λ M 𝓤 H A W. record { copies = Laws'6.copy Finding.the-type Laws''.the-copy 𝓤 H A W; lawful = Laws'6.lawful Finding.the-type
-    Laws''.the-laws 𝓤 H A W tt; makes = Laws'6.makes Finding.the-type Laws''.the-plain 𝓤 H A; in-mem = Local.mem-whole 𝓤 H A W (Declared.row
-    Finding.the-type); of-mem = Local.whole-mem 𝓤 H A W (Declared.row Finding.the-type) }
+r = Value.rVal record { ty = Declared.row Finding.the-type; one = Path'.refl; val = Laws'6.val Finding.the-type Laws.the-laws; tells = Laws'6.tells
+    Finding.the-type Laws.the-laws; still = Laws'6.still Finding.the-type Laws.the-copy Exit.yes; row = Rows'.whole (Declared.row Finding.the-type); rd = λ x.
+    x; mk = λ x. x } λ M 𝓤 H A W. record { copies = Laws'6.copy Finding.the-type Laws.the-copy 𝓤 H A W; lawful = Laws'6.lawful Finding.the-type Laws.the-laws
+    𝓤 H A W tt; makes = Laws'6.makes Finding.the-type Laws.the-plain 𝓤 H A; in-mem = Local.mem-whole 𝓤 H A W (Declared.row Finding.the-type); of-mem =
+    Local.whole-mem 𝓤 H A W (Declared.row Finding.the-type) }
 abbrev pub xs : List Syntax.Ty
 xs = y2 ∷ y10 ∷ y9 ∷ Syntax.tyBool ∷ y5 ∷ y9 ∷ y5 ∷ Syntax.tyBool ∷ y11 ∷ y8 ∷ y5 ∷ y11 ∷ y8 ∷ y5 ∷ y5 ∷ y11 ∷ y8 ∷ y1 ∷ y12 ∷ y13 ∷ y14 ∷ Syntax.tyUnit ∷ y12
     ∷ y13 ∷ y12 ∷ y13 ∷ y14 ∷ y15 ∷ Syntax.tyUnit ∷ y12 ∷ y13 ∷ []
 abbrev pub m : Nat.ℕ
 m = 6
 abbrev pub ps·0 : List (Kinds.PK 0)
-ps·0 = (Value.pVal record { ty = Declared.row Cause.the-type; one = Path'.refl; val = Laws'6.val Cause.the-type Laws'.the-laws; tells = Laws'6.tells
-    Cause.the-type Laws'.the-laws; still = Laws'6.still Cause.the-type Laws'.the-copy Exit.yes; row = Rows'.whole (Declared.row Cause.the-type); rd = λ x. x;
-    mk = λ x. x } λ M 𝓤 H A W. record { copies = Laws'6.copy Cause.the-type Laws'.the-copy 𝓤 H A W; lawful = Laws'6.lawful Cause.the-type Laws'.the-laws 𝓤 H A
-    W tt; makes = Laws'6.makes Cause.the-type Laws'.the-plain 𝓤 H A; in-mem = Local.mem-whole 𝓤 H A W (Declared.row Cause.the-type); of-mem = Local.whole-mem
-    𝓤 H A W (Declared.row Cause.the-type) }) ∷ []
+ps·0 = (Value.pVal record { ty = Declared.row Cause.the-type; one = Path'.refl; val = Laws'6.val Cause.the-type Laws'3.the-laws; tells = Laws'6.tells
+    Cause.the-type Laws'3.the-laws; still = Laws'6.still Cause.the-type Laws'3.the-copy Exit.yes; row = Rows'.whole (Declared.row Cause.the-type); rd = λ x.
+    x; mk = λ x. x } λ M 𝓤 H A W. record { copies = Laws'6.copy Cause.the-type Laws'3.the-copy 𝓤 H A W; lawful = Laws'6.lawful Cause.the-type Laws'3.the-laws
+    𝓤 H A W tt; makes = Laws'6.makes Cause.the-type Laws'3.the-plain 𝓤 H A; in-mem = Local.mem-whole 𝓤 H A W (Declared.row Cause.the-type); of-mem =
+    Local.whole-mem 𝓤 H A W (Declared.row Cause.the-type) }) ∷ []
 abbrev pub r·0 : Kinds.RK 0
-r·0 = Value.rVal record { ty = Declared'.row Refusal.the-type; one = Path'.refl; val = Laws'7.val Refusal.the-type Laws.the-laws; tells = Laws'7.tells
-    Refusal.the-type Laws.the-laws; still = Laws'7.still Refusal.the-type Laws.the-copy Exit.yes; row = Rows'.whole (Declared'.row Refusal.the-type); rd = λ
-    x. x; mk = λ x. x } λ M 𝓤 H A W. record { copies = Laws'7.copy Refusal.the-type Laws.the-copy 𝓤 H A W; lawful = Laws'7.lawful Refusal.the-type
-    Laws.the-laws 𝓤 H A W; makes = Laws'7.makes Refusal.the-type Laws.the-plain 𝓤 H A; in-mem = Local.mem-whole 𝓤 H A W (Declared'.row Refusal.the-type);
+r·0 = Value.rVal record { ty = Declared'.row Refusal.the-type; one = Path'.refl; val = Laws'7.val Refusal.the-type Laws'.the-laws; tells = Laws'7.tells
+    Refusal.the-type Laws'.the-laws; still = Laws'7.still Refusal.the-type Laws'.the-copy Exit.yes; row = Rows'.whole (Declared'.row Refusal.the-type); rd = λ
+    x. x; mk = λ x. x } λ M 𝓤 H A W. record { copies = Laws'7.copy Refusal.the-type Laws'.the-copy 𝓤 H A W; lawful = Laws'7.lawful Refusal.the-type
+    Laws'.the-laws 𝓤 H A W; makes = Laws'7.makes Refusal.the-type Laws'.the-plain 𝓤 H A; in-mem = Local.mem-whole 𝓤 H A W (Declared'.row Refusal.the-type);
     of-mem = Local.whole-mem 𝓤 H A W (Declared'.row Refusal.the-type) }
 abbrev pub ps·1 : List (Kinds.PK 3)
 ps·1 = (Num.pNum Syntax.w32) ∷ (ShrSlice.pShrS (Referent.rtF (Referent.fInt Syntax.w8)) 0 tt) ∷ (MutSlice.pMutS NodeRecordT.row 1 tt) ∷ (Kinds.pMut
     (Array'.Array (Array'.Array (Referent.rtF (Referent.fInt Syntax.w32)) 4) 32) 2 tt) ∷ (Num.pNum Syntax.w64) ∷ []
 abbrev pub r·1 : Kinds.RK 3
-r·1 = Value.rVal record { ty = Declared'.row Sought.the-type; one = Path'.refl; val = Laws'7.val Sought.the-type Laws'3.the-laws; tells = Laws'7.tells
-    Sought.the-type Laws'3.the-laws; still = Laws'7.still Sought.the-type Laws'3.the-copy Exit.yes; row = Rows'.whole (Declared'.row Sought.the-type); rd = λ
-    x. x; mk = λ x. x } λ M 𝓤 H A W. record { copies = Laws'7.copy Sought.the-type Laws'3.the-copy 𝓤 H A W; lawful = Laws'7.lawful Sought.the-type
-    Laws'3.the-laws 𝓤 H A W; makes = Laws'7.makes Sought.the-type Laws'3.the-plain 𝓤 H A; in-mem = Local.mem-whole 𝓤 H A W (Declared'.row Sought.the-type);
+r·1 = Value.rVal record { ty = Declared'.row Sought.the-type; one = Path'.refl; val = Laws'7.val Sought.the-type Laws'4.the-laws; tells = Laws'7.tells
+    Sought.the-type Laws'4.the-laws; still = Laws'7.still Sought.the-type Laws'4.the-copy Exit.yes; row = Rows'.whole (Declared'.row Sought.the-type); rd = λ
+    x. x; mk = λ x. x } λ M 𝓤 H A W. record { copies = Laws'7.copy Sought.the-type Laws'4.the-copy 𝓤 H A W; lawful = Laws'7.lawful Sought.the-type
+    Laws'4.the-laws 𝓤 H A W; makes = Laws'7.makes Sought.the-type Laws'4.the-plain 𝓤 H A; in-mem = Local.mem-whole 𝓤 H A W (Declared'.row Sought.the-type);
     of-mem = Local.whole-mem 𝓤 H A W (Declared'.row Sought.the-type) }
 abbrev pub ps·2 : List (Kinds.PK 0)
-ps·2 = (Value.pVal record { ty = Declared'.row Sought.the-type; one = Path'.refl; val = Laws'7.val Sought.the-type Laws'3.the-laws; tells = Laws'7.tells
-    Sought.the-type Laws'3.the-laws; still = Laws'7.still Sought.the-type Laws'3.the-copy Exit.yes; row = Rows'.whole (Declared'.row Sought.the-type); rd = λ
-    x. x; mk = λ x. x } λ M 𝓤 H A W. record { copies = Laws'7.copy Sought.the-type Laws'3.the-copy 𝓤 H A W; lawful = Laws'7.lawful Sought.the-type
-    Laws'3.the-laws 𝓤 H A W; makes = Laws'7.makes Sought.the-type Laws'3.the-plain 𝓤 H A; in-mem = Local.mem-whole 𝓤 H A W (Declared'.row Sought.the-type);
+ps·2 = (Value.pVal record { ty = Declared'.row Sought.the-type; one = Path'.refl; val = Laws'7.val Sought.the-type Laws'4.the-laws; tells = Laws'7.tells
+    Sought.the-type Laws'4.the-laws; still = Laws'7.still Sought.the-type Laws'4.the-copy Exit.yes; row = Rows'.whole (Declared'.row Sought.the-type); rd = λ
+    x. x; mk = λ x. x } λ M 𝓤 H A W. record { copies = Laws'7.copy Sought.the-type Laws'4.the-copy 𝓤 H A W; lawful = Laws'7.lawful Sought.the-type
+    Laws'4.the-laws 𝓤 H A W; makes = Laws'7.makes Sought.the-type Laws'4.the-plain 𝓤 H A; in-mem = Local.mem-whole 𝓤 H A W (Declared'.row Sought.the-type);
     of-mem = Local.whole-mem 𝓤 H A W (Declared'.row Sought.the-type) }) ∷ []
 abbrev pub r·2 : Kinds.RK 0
 r·2 = Value.rVal record { ty = Declared'.row Reached.the-type; one = Path'.refl; val = Laws'7.val Reached.the-type Laws'5.the-laws; tells = Laws'7.tells
@@ -329,11 +330,11 @@ ps·4 = (Num.pNum Syntax.w32) ∷ (Value.pVal record { ty = Declared'.row Reache
     Reached.the-type Laws'5.the-laws 𝓤 H A W; makes = Laws'7.makes Reached.the-type Laws'5.the-plain 𝓤 H A; in-mem = Local.mem-whole 𝓤 H A W (Declared'.row
     Reached.the-type); of-mem = Local.whole-mem 𝓤 H A W (Declared'.row Reached.the-type) }) ∷ []
 abbrev pub r·4 : Kinds.RK 0
-r·4 = Value.rVal record { ty = Declared.row Finding.the-type; one = Path'.refl; val = Laws'6.val Finding.the-type Laws''.the-laws; tells = Laws'6.tells
-    Finding.the-type Laws''.the-laws; still = Laws'6.still Finding.the-type Laws''.the-copy Exit.yes; row = Rows'.whole (Declared.row Finding.the-type); rd =
-    λ x. x; mk = λ x. x } λ M 𝓤 H A W. record { copies = Laws'6.copy Finding.the-type Laws''.the-copy 𝓤 H A W; lawful = Laws'6.lawful Finding.the-type
-    Laws''.the-laws 𝓤 H A W tt; makes = Laws'6.makes Finding.the-type Laws''.the-plain 𝓤 H A; in-mem = Local.mem-whole 𝓤 H A W (Declared.row
-    Finding.the-type); of-mem = Local.whole-mem 𝓤 H A W (Declared.row Finding.the-type) }
+r·4 = Value.rVal record { ty = Declared.row Finding.the-type; one = Path'.refl; val = Laws'6.val Finding.the-type Laws.the-laws; tells = Laws'6.tells
+    Finding.the-type Laws.the-laws; still = Laws'6.still Finding.the-type Laws.the-copy Exit.yes; row = Rows'.whole (Declared.row Finding.the-type); rd = λ x.
+    x; mk = λ x. x } λ M 𝓤 H A W. record { copies = Laws'6.copy Finding.the-type Laws.the-copy 𝓤 H A W; lawful = Laws'6.lawful Finding.the-type Laws.the-laws
+    𝓤 H A W tt; makes = Laws'6.makes Finding.the-type Laws.the-plain 𝓤 H A; in-mem = Local.mem-whole 𝓤 H A W (Declared.row Finding.the-type); of-mem =
+    Local.whole-mem 𝓤 H A W (Declared.row Finding.the-type) }
 abbrev pub ps·5 : List (Kinds.PK 0)
 ps·5 = (Value.pVal record { ty = Declared'.row Reached.the-type; one = Path'.refl; val = Laws'7.val Reached.the-type Laws'5.the-laws; tells = Laws'7.tells
     Reached.the-type Laws'5.the-laws; still = Laws'7.still Reached.the-type Laws'5.the-copy Exit.yes; row = Rows'.whole (Declared'.row Reached.the-type); rd =
@@ -341,18 +342,18 @@ ps·5 = (Value.pVal record { ty = Declared'.row Reached.the-type; one = Path'.re
     Laws'5.the-laws 𝓤 H A W; makes = Laws'7.makes Reached.the-type Laws'5.the-plain 𝓤 H A; in-mem = Local.mem-whole 𝓤 H A W (Declared'.row Reached.the-type);
     of-mem = Local.whole-mem 𝓤 H A W (Declared'.row Reached.the-type) }) ∷ []
 abbrev pub r·5 : Kinds.RK 0
-r·5 = Value.rVal record { ty = Declared'.row Cursor.the-type; one = Path'.refl; val = Laws'7.val Cursor.the-type Laws'4.the-laws; tells = Laws'7.tells
-    Cursor.the-type Laws'4.the-laws; still = Laws'7.still Cursor.the-type Laws'4.the-copy Exit.yes; row = Rows'.whole (Declared'.row Cursor.the-type); rd = λ
-    x. x; mk = λ x. x } λ M 𝓤 H A W. record { copies = Laws'7.copy Cursor.the-type Laws'4.the-copy 𝓤 H A W; lawful = Laws'7.lawful Cursor.the-type
-    Laws'4.the-laws 𝓤 H A W; makes = Laws'7.makes Cursor.the-type Laws'4.the-plain 𝓤 H A; in-mem = Local.mem-whole 𝓤 H A W (Declared'.row Cursor.the-type);
+r·5 = Value.rVal record { ty = Declared'.row Cursor.the-type; one = Path'.refl; val = Laws'7.val Cursor.the-type Laws''.the-laws; tells = Laws'7.tells
+    Cursor.the-type Laws''.the-laws; still = Laws'7.still Cursor.the-type Laws''.the-copy Exit.yes; row = Rows'.whole (Declared'.row Cursor.the-type); rd = λ
+    x. x; mk = λ x. x } λ M 𝓤 H A W. record { copies = Laws'7.copy Cursor.the-type Laws''.the-copy 𝓤 H A W; lawful = Laws'7.lawful Cursor.the-type
+    Laws''.the-laws 𝓤 H A W; makes = Laws'7.makes Cursor.the-type Laws''.the-plain 𝓤 H A; in-mem = Local.mem-whole 𝓤 H A W (Declared'.row Cursor.the-type);
     of-mem = Local.whole-mem 𝓤 H A W (Declared'.row Cursor.the-type) }
 abbrev pub ps·6 : List (Kinds.PK 3)
 ps·6 = (Num.pNum Syntax.w32) ∷ (ShrSlice.pShrS (Referent.rtF (Referent.fInt Syntax.w8)) 0 tt) ∷ (MutSlice.pMutS NodeRecordT.row 1 tt) ∷ (Kinds.pMut
     (Array'.Array (Array'.Array (Referent.rtF (Referent.fInt Syntax.w32)) 4) 32) 2 tt) ∷ (Value.pVal record { ty = Declared'.row Cursor.the-type; one =
-    Path'.refl; val = Laws'7.val Cursor.the-type Laws'4.the-laws; tells = Laws'7.tells Cursor.the-type Laws'4.the-laws; still = Laws'7.still Cursor.the-type
-    Laws'4.the-copy Exit.yes; row = Rows'.whole (Declared'.row Cursor.the-type); rd = λ x. x; mk = λ x. x } λ M 𝓤 H A W. record { copies = Laws'7.copy
-    Cursor.the-type Laws'4.the-copy 𝓤 H A W; lawful = Laws'7.lawful Cursor.the-type Laws'4.the-laws 𝓤 H A W; makes = Laws'7.makes Cursor.the-type
-    Laws'4.the-plain 𝓤 H A; in-mem = Local.mem-whole 𝓤 H A W (Declared'.row Cursor.the-type); of-mem = Local.whole-mem 𝓤 H A W (Declared'.row Cursor.the-type)
+    Path'.refl; val = Laws'7.val Cursor.the-type Laws''.the-laws; tells = Laws'7.tells Cursor.the-type Laws''.the-laws; still = Laws'7.still Cursor.the-type
+    Laws''.the-copy Exit.yes; row = Rows'.whole (Declared'.row Cursor.the-type); rd = λ x. x; mk = λ x. x } λ M 𝓤 H A W. record { copies = Laws'7.copy
+    Cursor.the-type Laws''.the-copy 𝓤 H A W; lawful = Laws'7.lawful Cursor.the-type Laws''.the-laws 𝓤 H A W; makes = Laws'7.makes Cursor.the-type
+    Laws''.the-plain 𝓤 H A; in-mem = Local.mem-whole 𝓤 H A W (Declared'.row Cursor.the-type); of-mem = Local.whole-mem 𝓤 H A W (Declared'.row Cursor.the-type)
     }) ∷ (Num.pNum Syntax.w64) ∷ []
 abbrev pub r·6 : Kinds.RK 3
 r·6 = Value.rVal record { ty = Declared'.row Reached.the-type; one = Path'.refl; val = Laws'7.val Reached.the-type Laws'5.the-laws; tells = Laws'7.tells
@@ -367,11 +368,11 @@ ps·7 = (Value.pVal record { ty = Declared'.row Reached.the-type; one = Path'.re
     Laws'5.the-laws 𝓤 H A W; makes = Laws'7.makes Reached.the-type Laws'5.the-plain 𝓤 H A; in-mem = Local.mem-whole 𝓤 H A W (Declared'.row Reached.the-type);
     of-mem = Local.whole-mem 𝓤 H A W (Declared'.row Reached.the-type) }) ∷ (Num.pNum Syntax.w64) ∷ []
 abbrev pub r·7 : Kinds.RK 0
-r·7 = Value.rVal record { ty = Declared.row Finding.the-type; one = Path'.refl; val = Laws'6.val Finding.the-type Laws''.the-laws; tells = Laws'6.tells
-    Finding.the-type Laws''.the-laws; still = Laws'6.still Finding.the-type Laws''.the-copy Exit.yes; row = Rows'.whole (Declared.row Finding.the-type); rd =
-    λ x. x; mk = λ x. x } λ M 𝓤 H A W. record { copies = Laws'6.copy Finding.the-type Laws''.the-copy 𝓤 H A W; lawful = Laws'6.lawful Finding.the-type
-    Laws''.the-laws 𝓤 H A W tt; makes = Laws'6.makes Finding.the-type Laws''.the-plain 𝓤 H A; in-mem = Local.mem-whole 𝓤 H A W (Declared.row
-    Finding.the-type); of-mem = Local.whole-mem 𝓤 H A W (Declared.row Finding.the-type) }
+r·7 = Value.rVal record { ty = Declared.row Finding.the-type; one = Path'.refl; val = Laws'6.val Finding.the-type Laws.the-laws; tells = Laws'6.tells
+    Finding.the-type Laws.the-laws; still = Laws'6.still Finding.the-type Laws.the-copy Exit.yes; row = Rows'.whole (Declared.row Finding.the-type); rd = λ x.
+    x; mk = λ x. x } λ M 𝓤 H A W. record { copies = Laws'6.copy Finding.the-type Laws.the-copy 𝓤 H A W; lawful = Laws'6.lawful Finding.the-type Laws.the-laws
+    𝓤 H A W tt; makes = Laws'6.makes Finding.the-type Laws.the-plain 𝓤 H A; in-mem = Local.mem-whole 𝓤 H A W (Declared.row Finding.the-type); of-mem =
+    Local.whole-mem 𝓤 H A W (Declared.row Finding.the-type) }
 abbrev pub hs : List Syntax.Home
 hs = Syntax.valueLocal ∷ Syntax.valueLocal ∷ Syntax.valueLocal ∷ Syntax.valueLocal ∷ Syntax.valueLocal ∷ Syntax.memorySlot ∷ Syntax.valueLocal ∷
     Syntax.valueLocal ∷ Syntax.valueLocal ∷ Syntax.valueLocal ∷ Syntax.valueLocal ∷ Syntax.valueLocal ∷ Syntax.valueLocal ∷ Syntax.valueLocal ∷
@@ -384,7 +385,7 @@ b0 = Syntax.assign (Syntax.place 12 []) (Syntax.op2 (Syntax.lt Syntax.unsigned) 
 abbrev b1 : Syntax.Body
 b1 = Syntax.assign (Syntax.place 14 []) (Syntax.aggregate ((Syntax.int Syntax.w8 0) ∷ []))
 abbrev b2 : Syntax.Body
-b2 = Syntax.call "checker::early" ((Syntax.copy (Syntax.place 14 [])) ∷ []) (Syntax.place 13 [])
+b2 = Syntax.call "answers::early" ((Syntax.copy (Syntax.place 14 [])) ∷ []) (Syntax.place 13 [])
 abbrev b3 : Syntax.Body
 b3 = Syntax.assign (Syntax.place 0 []) (Syntax.aggregate ((Syntax.int Syntax.w8 0) ∷ (Syntax.copy (Syntax.place 13 [])) ∷ []))
 abbrev b4 : Syntax.Body
@@ -406,7 +407,7 @@ b11 = Syntax.assign (Syntax.place 12 []) (Syntax.op2 (Syntax.lt Syntax.unsigned)
 abbrev b12 : Syntax.Body
 b12 = Syntax.assign (Syntax.place 17 []) (Syntax.aggregate ((Syntax.int Syntax.w8 3) ∷ []))
 abbrev b13 : Syntax.Body
-b13 = Syntax.call "checker::early" ((Syntax.copy (Syntax.place 17 [])) ∷ []) (Syntax.place 16 [])
+b13 = Syntax.call "answers::early" ((Syntax.copy (Syntax.place 17 [])) ∷ []) (Syntax.place 16 [])
 abbrev b14 : Syntax.Body
 b14 = Syntax.assign (Syntax.place 0 []) (Syntax.aggregate ((Syntax.int Syntax.w8 0) ∷ (Syntax.copy (Syntax.place 16 [])) ∷ []))
 abbrev b15 : Syntax.Body
@@ -430,7 +431,7 @@ b23 = Syntax.assign (Syntax.place 12 []) (Syntax.op2 (Syntax.le Syntax.unsigned)
 abbrev b24 : Syntax.Body
 b24 = Syntax.assign (Syntax.place 21 []) (Syntax.aggregate ((Syntax.int Syntax.w8 4) ∷ []))
 abbrev b25 : Syntax.Body
-b25 = Syntax.call "checker::early" ((Syntax.copy (Syntax.place 21 [])) ∷ []) (Syntax.place 20 [])
+b25 = Syntax.call "answers::early" ((Syntax.copy (Syntax.place 21 [])) ∷ []) (Syntax.place 20 [])
 abbrev b26 : Syntax.Body
 b26 = Syntax.assign (Syntax.place 0 []) (Syntax.aggregate ((Syntax.int Syntax.w8 0) ∷ (Syntax.copy (Syntax.place 20 [])) ∷ []))
 abbrev b27 : Syntax.Body
@@ -1139,7 +1140,7 @@ module _ (claims· : Claims) where
     module _ (M : Type 1) where
       abbrev pub Closed : Type 2
       Closed = (𝓤 : URA.URA M) (H : Wp.Heap 𝓤) (A : Atoms.Atoms 𝓤) (W : Kit.Given 𝓤 H A) (𝓣 : Wp.Tables 𝓤 H) (known0 : Plain.Known 𝓤 H A W 𝓣 0 ps·0 r·0
-          (claims· .0) (claims· .1) "checker::early") (known1 : Plain.Known 𝓤 H A W 𝓣 3 ps·1 r·1 (claims· .2) (claims· .3) "finder::seek") (known2 :
+          (claims· .0) (claims· .1) "answers::early") (known1 : Plain.Known 𝓤 H A W 𝓣 3 ps·1 r·1 (claims· .2) (claims· .3) "finder::seek") (known2 :
           Plain.Known 𝓤 H A W 𝓣 0 ps·2 r·2 (claims· .4) (claims· .5) "finder::reached_of") (known3 : Plain.Known 𝓤 H A W 𝓣 1 ps·3 r·3 (claims· .6) (claims·
           .7) "record_tables::clear_records") (known4 : Plain.Known 𝓤 H A W 𝓣 0 ps·4 r·4 (claims· .8) (claims· .9) "finder::ended_at") (known5 : Plain.Known 𝓤
           H A W 𝓣 0 ps·5 r·5 (claims· .10) (claims· .11) "finder::cursor_of") (known6 : Plain.Known 𝓤 H A W 𝓣 3 ps·6 r·6 (claims· .12) (claims· .13)
@@ -1400,7 +1401,7 @@ module _ (claims· : Claims) where
       Φ = at124
       module _ {M : Type 1} (𝓤 : URA.URA M) (H : Wp.Heap 𝓤) (A : Atoms.Atoms 𝓤) (W : Kit.Given 𝓤 H A) (𝓣 : Wp.Tables 𝓤 H) where
         abbrev Knowns : Type 1
-        Knowns = Plain.Known 𝓤 H A W 𝓣 0 ps·0 r·0 (claims· .0) (claims· .1) "checker::early" × Plain.Known 𝓤 H A W 𝓣 3 ps·1 r·1 (claims· .2) (claims· .3)
+        Knowns = Plain.Known 𝓤 H A W 𝓣 0 ps·0 r·0 (claims· .0) (claims· .1) "answers::early" × Plain.Known 𝓤 H A W 𝓣 3 ps·1 r·1 (claims· .2) (claims· .3)
             "finder::seek" × Plain.Known 𝓤 H A W 𝓣 0 ps·2 r·2 (claims· .4) (claims· .5) "finder::reached_of" × Plain.Known 𝓤 H A W 𝓣 1 ps·3 r·3 (claims· .6)
             (claims· .7) "record_tables::clear_records" × Plain.Known 𝓤 H A W 𝓣 0 ps·4 r·4 (claims· .8) (claims· .9) "finder::ended_at" × Plain.Known 𝓤 H A W
             𝓣 0 ps·5 r·5 (claims· .10) (claims· .11) "finder::cursor_of" × Plain.Known 𝓤 H A W 𝓣 3 ps·6 r·6 (claims· .12) (claims· .13) "reader::read_on" ×
@@ -1732,32 +1733,32 @@ module _ (claims· : Claims) where
           d3 = Typed.g-pre 𝓤 H A W 𝓣 E G9 G10 b4 Δ1 (Typed.pass T9 T10 s7) at2 (Scalar.g-room 𝓤 H A W E G9 13 y11 (Local.room-whole 𝓤 H A W (Declared'.row
               Refusal.the-type) y11 Path'.refl)) d2
           d4 : Typed.Typed 𝓤 H A 𝓣 E G8 b5 Δ1 at4
-          d4 = Typed.s-seq 𝓤 H A W 𝓣 E G8 G9 b3 b4 Δ1 (Typed.pass T8 T9 s6) at3 (Make.t-enum-make-wt 𝓤 H A W E 𝓣 Finding.the-type Laws''.the-laws
-              Laws''.the-plain tt G8 0 ((Scalar.oInt Syntax.w8 0) ∷ (Scalar.oAt 13 y11 (Laws'7.val Refusal.the-type Laws.the-laws)) ∷ []) (λ m. Finding.enum
-              .make (Logic.inl (m .1 .1 .1 .1 .1 .1 .1 .1 .1 .1 .1 .1 .1 .0, tt))) (Reads'.room-gone 𝓤 H A y17) (tt, ((Reads.reads-struct 𝓤 H A W
-              Refusal.the-type Laws.the-laws, Path'.refl), tt)) Path'.refl (λ m wa. Make.made-val Finding.the-type Laws''.the-laws ((Laws'7.val
-              Refusal.the-type Laws.the-laws (m .1 .1 .1 .1 .1 .1 .1 .1 .1 .1 .1 .1 .1 .0)) ∷ []) (Finding.enum .make (Logic.inl (m .1 .1 .1 .1 .1 .1 .1 .1 .1
-              .1 .1 .1 .1 .0, tt))) (Signed.made-wt Refusal.the-field Laws.the-field-laws (Make'.struct-wt Refusal.the-type Laws.the-laws (Whole.enum-wt
-              Cause.the-type Laws'.the-laws (tt, (tt, (tt, (tt, (tt, (tt, (tt, (tt, (tt, (tt, (tt, (tt, (tt, tt))))))))))))), (Make'.u32-wt, (Make'.u64-wt,
-              tt)))) (Refusal.the-type .to (m .1 .1 .1 .1 .1 .1 .1 .1 .1 .1 .1 .1 .1 .0)), tt) (wa .1)) λ m wa. Make.made-is Finding.the-type Laws''.the-laws
-              ((Laws'7.val Refusal.the-type Laws.the-laws (m .1 .1 .1 .1 .1 .1 .1 .1 .1 .1 .1 .1 .1 .0)) ∷ []) (Finding.enum .make (Logic.inl (m .1 .1 .1 .1
-              .1 .1 .1 .1 .1 .1 .1 .1 .1 .0, tt))) (Signed.made-wt Refusal.the-field Laws.the-field-laws (Make'.struct-wt Refusal.the-type Laws.the-laws
-              (Whole.enum-wt Cause.the-type Laws'.the-laws (tt, (tt, (tt, (tt, (tt, (tt, (tt, (tt, (tt, (tt, (tt, (tt, (tt, tt))))))))))))), (Make'.u32-wt,
+          d4 = Typed.s-seq 𝓤 H A W 𝓣 E G8 G9 b3 b4 Δ1 (Typed.pass T8 T9 s6) at3 (Make.t-enum-make-wt 𝓤 H A W E 𝓣 Finding.the-type Laws.the-laws Laws.the-plain
+              tt G8 0 ((Scalar.oInt Syntax.w8 0) ∷ (Scalar.oAt 13 y11 (Laws'7.val Refusal.the-type Laws'.the-laws)) ∷ []) (λ m. Finding.enum .make (Logic.inl
+              (m .1 .1 .1 .1 .1 .1 .1 .1 .1 .1 .1 .1 .1 .0, tt))) (Reads'.room-gone 𝓤 H A y17) (tt, ((Reads.reads-struct 𝓤 H A W Refusal.the-type
+              Laws'.the-laws, Path'.refl), tt)) Path'.refl (λ m wa. Make.made-val Finding.the-type Laws.the-laws ((Laws'7.val Refusal.the-type Laws'.the-laws
+              (m .1 .1 .1 .1 .1 .1 .1 .1 .1 .1 .1 .1 .1 .0)) ∷ []) (Finding.enum .make (Logic.inl (m .1 .1 .1 .1 .1 .1 .1 .1 .1 .1 .1 .1 .1 .0, tt)))
+              (Signed.made-wt Refusal.the-field Laws'.the-field-laws (Make'.struct-wt Refusal.the-type Laws'.the-laws (Whole.enum-wt Cause.the-type
+              Laws'3.the-laws (tt, (tt, (tt, (tt, (tt, (tt, (tt, (tt, (tt, (tt, (tt, (tt, (tt, tt))))))))))))), (Make'.u32-wt, (Make'.u64-wt, tt))))
+              (Refusal.the-type .to (m .1 .1 .1 .1 .1 .1 .1 .1 .1 .1 .1 .1 .1 .0)), tt) (wa .1)) λ m wa. Make.made-is Finding.the-type Laws.the-laws
+              ((Laws'7.val Refusal.the-type Laws'.the-laws (m .1 .1 .1 .1 .1 .1 .1 .1 .1 .1 .1 .1 .1 .0)) ∷ []) (Finding.enum .make (Logic.inl (m .1 .1 .1 .1
+              .1 .1 .1 .1 .1 .1 .1 .1 .1 .0, tt))) (Signed.made-wt Refusal.the-field Laws'.the-field-laws (Make'.struct-wt Refusal.the-type Laws'.the-laws
+              (Whole.enum-wt Cause.the-type Laws'3.the-laws (tt, (tt, (tt, (tt, (tt, (tt, (tt, (tt, (tt, (tt, (tt, (tt, (tt, tt))))))))))))), (Make'.u32-wt,
               (Make'.u64-wt, tt)))) (Refusal.the-type .to (m .1 .1 .1 .1 .1 .1 .1 .1 .1 .1 .1 .1 .1 .0)), tt) (wa .1)) d3
           d5 : Typed.Typed 𝓤 H A 𝓣 E G7 b5 Δ1 at5
           d5 = Typed.g-pre 𝓤 H A W 𝓣 E G7 G8 b5 Δ1 (Typed.pass T7 T8 s5) at4 (Scalar.g-room 𝓤 H A W E G7 14 y8 (Local.room-whole 𝓤 H A W (Declared.row
               Cause.the-type) y8 Path'.refl)) d4
           d6 : Typed.Typed 𝓤 H A 𝓣 E G6 b6 Δ1 at6
-          d6 = Typed.s-seq 𝓤 H A W 𝓣 E G6 G7 b2 b5 Δ1 (Typed.both s4) at5 (Plain.t-call-plain 𝓤 H A W 𝓣 0 ps·0 r·0 (claims· .0) (claims· .1) "checker::early"
+          d6 = Typed.s-seq 𝓤 H A W 𝓣 E G6 G7 b2 b5 Δ1 (Typed.both s4) at5 (Plain.t-call-plain 𝓤 H A W 𝓣 0 ps·0 r·0 (claims· .0) (claims· .1) "answers::early"
               (known .0) E (λ pos β. β) G6 (record { pos = 14; st = []; d = 0; at = λ x. x }, tt) 13 [] (Call.sub-id 𝓤 H A W (G6 .slots)) ((Yields.yields-copy
-              𝓤 H A W (λ ρ. Unit) (Declared.row Cause.the-type) Path'.refl (Copies.cEnum Cause.the-type Laws'.the-laws Laws'.the-copy .copy 𝓤 H A W)
+              𝓤 H A W (λ ρ. Unit) (Declared.row Cause.the-type) Path'.refl (Copies.cEnum Cause.the-type Laws'3.the-laws Laws'3.the-copy .copy 𝓤 H A W)
               (Rows'.whole (Declared.row Cause.the-type)) (λ x. x) (λ x. x) (λ ρ told. Local.mem-whole 𝓤 H A W (Declared.row Cause.the-type) ρ) λ ρ told.
               Local.whole-mem 𝓤 H A W (Declared.row Cause.the-type) ρ, Path'.refl), tt) (Reads'.room-gone 𝓤 H A y11) tt Path'.refl) d5
           d7 : Typed.Typed 𝓤 H A 𝓣 E G5 b7 Δ1 at7
-          d7 = Typed.s-seq 𝓤 H A W 𝓣 E G5 G6 b1 b6 Δ1 (Typed.pass T5 T6 s3) at6 (Make.t-enum-make-wt 𝓤 H A W E 𝓣 Cause.the-type Laws'.the-laws Laws'.the-plain
-              tt G5 14 ((Scalar.oInt Syntax.w8 0) ∷ []) (λ m. Cause.enum .make (Logic.inl tt)) (Reads'.room-gone 𝓤 H A y8) (tt, tt) Path'.refl (λ m wa.
-              Make.made-val Cause.the-type Laws'.the-laws [] (Cause.enum .make (Logic.inl tt)) tt (wa .1)) λ m wa. Make.made-is Cause.the-type Laws'.the-laws
-              [] (Cause.enum .make (Logic.inl tt)) tt (wa .1)) d6
+          d7 = Typed.s-seq 𝓤 H A W 𝓣 E G5 G6 b1 b6 Δ1 (Typed.pass T5 T6 s3) at6 (Make.t-enum-make-wt 𝓤 H A W E 𝓣 Cause.the-type Laws'3.the-laws
+              Laws'3.the-plain tt G5 14 ((Scalar.oInt Syntax.w8 0) ∷ []) (λ m. Cause.enum .make (Logic.inl tt)) (Reads'.room-gone 𝓤 H A y8) (tt, tt)
+              Path'.refl (λ m wa. Make.made-val Cause.the-type Laws'3.the-laws [] (Cause.enum .make (Logic.inl tt)) tt (wa .1)) λ m wa. Make.made-is
+              Cause.the-type Laws'3.the-laws [] (Cause.enum .make (Logic.inl tt)) tt (wa .1)) d6
           d8 : Typed.Typed 𝓤 H A 𝓣 E G3 b7 Δ1 at8
           d8 = Typed.g-pre 𝓤 H A W 𝓣 E G3 G5 b7 Δ1 (Typed.pass T3 T5 s2) at7 (Scalar.g-room 𝓤 H A W E G3 12 Syntax.tyBool (Scalar.room-sc 𝓤 H A W Row.sBool))
               d7
@@ -1780,33 +1781,33 @@ module _ (claims· : Claims) where
           d15 = Typed.g-pre 𝓤 H A W 𝓣 E G22 G23 b15 Δ2 (Typed.pass T22 T23 s19) at14 (Scalar.g-room 𝓤 H A W E G22 16 y11 (Local.room-whole 𝓤 H A W
               (Declared'.row Refusal.the-type) y11 Path'.refl)) d14
           d16 : Typed.Typed 𝓤 H A 𝓣 E G21 b16 Δ2 at16
-          d16 = Typed.s-seq 𝓤 H A W 𝓣 E G21 G22 b14 b15 Δ2 (Typed.pass T21 T22 s18) at15 (Make.t-enum-make-wt 𝓤 H A W E 𝓣 Finding.the-type Laws''.the-laws
-              Laws''.the-plain tt G21 0 ((Scalar.oInt Syntax.w8 0) ∷ (Scalar.oAt 16 y11 (Laws'7.val Refusal.the-type Laws.the-laws)) ∷ []) (λ m. Finding.enum
+          d16 = Typed.s-seq 𝓤 H A W 𝓣 E G21 G22 b14 b15 Δ2 (Typed.pass T21 T22 s18) at15 (Make.t-enum-make-wt 𝓤 H A W E 𝓣 Finding.the-type Laws.the-laws
+              Laws.the-plain tt G21 0 ((Scalar.oInt Syntax.w8 0) ∷ (Scalar.oAt 16 y11 (Laws'7.val Refusal.the-type Laws'.the-laws)) ∷ []) (λ m. Finding.enum
               .make (Logic.inl (m .1 .1 .1 .1 .1 .1 .1 .1 .1 .1 .1 .1 .1 .1 .1 .1 .0, tt))) (Reads'.room-gone 𝓤 H A y17) (tt, ((Reads.reads-struct 𝓤 H A W
-              Refusal.the-type Laws.the-laws, Path'.refl), tt)) Path'.refl (λ m wa. Make.made-val Finding.the-type Laws''.the-laws ((Laws'7.val
-              Refusal.the-type Laws.the-laws (m .1 .1 .1 .1 .1 .1 .1 .1 .1 .1 .1 .1 .1 .1 .1 .1 .0)) ∷ []) (Finding.enum .make (Logic.inl (m .1 .1 .1 .1 .1 .1
-              .1 .1 .1 .1 .1 .1 .1 .1 .1 .1 .0, tt))) (Signed.made-wt Refusal.the-field Laws.the-field-laws (Make'.struct-wt Refusal.the-type Laws.the-laws
-              (Whole.enum-wt Cause.the-type Laws'.the-laws (tt, (tt, (tt, (tt, (tt, (tt, (tt, (tt, (tt, (tt, (tt, (tt, (tt, tt))))))))))))), (Make'.u32-wt,
-              (Make'.u64-wt, tt)))) (Refusal.the-type .to (m .1 .1 .1 .1 .1 .1 .1 .1 .1 .1 .1 .1 .1 .1 .1 .1 .0)), tt) (wa .1)) λ m wa. Make.made-is
-              Finding.the-type Laws''.the-laws ((Laws'7.val Refusal.the-type Laws.the-laws (m .1 .1 .1 .1 .1 .1 .1 .1 .1 .1 .1 .1 .1 .1 .1 .1 .0)) ∷ [])
-              (Finding.enum .make (Logic.inl (m .1 .1 .1 .1 .1 .1 .1 .1 .1 .1 .1 .1 .1 .1 .1 .1 .0, tt))) (Signed.made-wt Refusal.the-field
-              Laws.the-field-laws (Make'.struct-wt Refusal.the-type Laws.the-laws (Whole.enum-wt Cause.the-type Laws'.the-laws (tt, (tt, (tt, (tt, (tt, (tt,
-              (tt, (tt, (tt, (tt, (tt, (tt, (tt, tt))))))))))))), (Make'.u32-wt, (Make'.u64-wt, tt)))) (Refusal.the-type .to (m .1 .1 .1 .1 .1 .1 .1 .1 .1 .1
-              .1 .1 .1 .1 .1 .1 .0)), tt) (wa .1)) d15
+              Refusal.the-type Laws'.the-laws, Path'.refl), tt)) Path'.refl (λ m wa. Make.made-val Finding.the-type Laws.the-laws ((Laws'7.val
+              Refusal.the-type Laws'.the-laws (m .1 .1 .1 .1 .1 .1 .1 .1 .1 .1 .1 .1 .1 .1 .1 .1 .0)) ∷ []) (Finding.enum .make (Logic.inl (m .1 .1 .1 .1 .1
+              .1 .1 .1 .1 .1 .1 .1 .1 .1 .1 .1 .0, tt))) (Signed.made-wt Refusal.the-field Laws'.the-field-laws (Make'.struct-wt Refusal.the-type
+              Laws'.the-laws (Whole.enum-wt Cause.the-type Laws'3.the-laws (tt, (tt, (tt, (tt, (tt, (tt, (tt, (tt, (tt, (tt, (tt, (tt, (tt, tt))))))))))))),
+              (Make'.u32-wt, (Make'.u64-wt, tt)))) (Refusal.the-type .to (m .1 .1 .1 .1 .1 .1 .1 .1 .1 .1 .1 .1 .1 .1 .1 .1 .0)), tt) (wa .1)) λ m wa.
+              Make.made-is Finding.the-type Laws.the-laws ((Laws'7.val Refusal.the-type Laws'.the-laws (m .1 .1 .1 .1 .1 .1 .1 .1 .1 .1 .1 .1 .1 .1 .1 .1 .0))
+              ∷ []) (Finding.enum .make (Logic.inl (m .1 .1 .1 .1 .1 .1 .1 .1 .1 .1 .1 .1 .1 .1 .1 .1 .0, tt))) (Signed.made-wt Refusal.the-field
+              Laws'.the-field-laws (Make'.struct-wt Refusal.the-type Laws'.the-laws (Whole.enum-wt Cause.the-type Laws'3.the-laws (tt, (tt, (tt, (tt, (tt,
+              (tt, (tt, (tt, (tt, (tt, (tt, (tt, (tt, tt))))))))))))), (Make'.u32-wt, (Make'.u64-wt, tt)))) (Refusal.the-type .to (m .1 .1 .1 .1 .1 .1 .1 .1
+              .1 .1 .1 .1 .1 .1 .1 .1 .0)), tt) (wa .1)) d15
           d17 : Typed.Typed 𝓤 H A 𝓣 E G20 b16 Δ2 at17
           d17 = Typed.g-pre 𝓤 H A W 𝓣 E G20 G21 b16 Δ2 (Typed.pass T20 T21 s17) at16 (Scalar.g-room 𝓤 H A W E G20 17 y8 (Local.room-whole 𝓤 H A W
               (Declared.row Cause.the-type) y8 Path'.refl)) d16
           d18 : Typed.Typed 𝓤 H A 𝓣 E G19 b17 Δ2 at18
           d18 = Typed.s-seq 𝓤 H A W 𝓣 E G19 G20 b13 b16 Δ2 (Typed.both s16) at17 (Plain.t-call-plain 𝓤 H A W 𝓣 0 ps·0 r·0 (claims· .0) (claims· .1)
-              "checker::early" (known .0) E (λ pos β. β) G19 (record { pos = 17; st = []; d = 0; at = λ x. x }, tt) 16 [] (Call.sub-id 𝓤 H A W (G19 .slots))
-              ((Yields.yields-copy 𝓤 H A W (λ ρ. Unit) (Declared.row Cause.the-type) Path'.refl (Copies.cEnum Cause.the-type Laws'.the-laws Laws'.the-copy
+              "answers::early" (known .0) E (λ pos β. β) G19 (record { pos = 17; st = []; d = 0; at = λ x. x }, tt) 16 [] (Call.sub-id 𝓤 H A W (G19 .slots))
+              ((Yields.yields-copy 𝓤 H A W (λ ρ. Unit) (Declared.row Cause.the-type) Path'.refl (Copies.cEnum Cause.the-type Laws'3.the-laws Laws'3.the-copy
               .copy 𝓤 H A W) (Rows'.whole (Declared.row Cause.the-type)) (λ x. x) (λ x. x) (λ ρ told. Local.mem-whole 𝓤 H A W (Declared.row Cause.the-type) ρ)
               λ ρ told. Local.whole-mem 𝓤 H A W (Declared.row Cause.the-type) ρ, Path'.refl), tt) (Reads'.room-gone 𝓤 H A y11) tt Path'.refl) d17
           d19 : Typed.Typed 𝓤 H A 𝓣 E G18 b18 Δ2 at19
-          d19 = Typed.s-seq 𝓤 H A W 𝓣 E G18 G19 b12 b17 Δ2 (Typed.pass T18 T19 s15) at18 (Make.t-enum-make-wt 𝓤 H A W E 𝓣 Cause.the-type Laws'.the-laws
-              Laws'.the-plain tt G18 17 ((Scalar.oInt Syntax.w8 3) ∷ []) (λ m. Cause.enum .make (Logic.inr (Logic.inr (Logic.inr (Logic.inl tt)))))
-              (Reads'.room-gone 𝓤 H A y8) (tt, tt) Path'.refl (λ m wa. Make.made-val Cause.the-type Laws'.the-laws [] (Cause.enum .make (Logic.inr (Logic.inr
-              (Logic.inr (Logic.inl tt))))) tt (wa .1)) λ m wa. Make.made-is Cause.the-type Laws'.the-laws [] (Cause.enum .make (Logic.inr (Logic.inr
+          d19 = Typed.s-seq 𝓤 H A W 𝓣 E G18 G19 b12 b17 Δ2 (Typed.pass T18 T19 s15) at18 (Make.t-enum-make-wt 𝓤 H A W E 𝓣 Cause.the-type Laws'3.the-laws
+              Laws'3.the-plain tt G18 17 ((Scalar.oInt Syntax.w8 3) ∷ []) (λ m. Cause.enum .make (Logic.inr (Logic.inr (Logic.inr (Logic.inl tt)))))
+              (Reads'.room-gone 𝓤 H A y8) (tt, tt) Path'.refl (λ m wa. Make.made-val Cause.the-type Laws'3.the-laws [] (Cause.enum .make (Logic.inr (Logic.inr
+              (Logic.inr (Logic.inl tt))))) tt (wa .1)) λ m wa. Make.made-is Cause.the-type Laws'3.the-laws [] (Cause.enum .make (Logic.inr (Logic.inr
               (Logic.inr (Logic.inl tt))))) tt (wa .1)) d18
           d20 : Typed.Typed 𝓤 H A 𝓣 E G17 b18 Δ2 at20
           d20 = Typed.g-pre 𝓤 H A W 𝓣 E G17 G18 b18 Δ2 (Typed.pass T17 T18 s14) at19 (Scalar.g-room 𝓤 H A W E G17 12 Syntax.tyBool (Scalar.room-sc 𝓤 H A W
@@ -1833,33 +1834,33 @@ module _ (claims· : Claims) where
           d28 = Typed.g-pre 𝓤 H A W 𝓣 E G37 G38 b27 Δ3 (Typed.pass T37 T38 s33) at27 (Scalar.g-room 𝓤 H A W E G37 20 y11 (Local.room-whole 𝓤 H A W
               (Declared'.row Refusal.the-type) y11 Path'.refl)) d27
           d29 : Typed.Typed 𝓤 H A 𝓣 E G36 b28 Δ3 at29
-          d29 = Typed.s-seq 𝓤 H A W 𝓣 E G36 G37 b26 b27 Δ3 (Typed.pass T36 T37 s32) at28 (Make.t-enum-make-wt 𝓤 H A W E 𝓣 Finding.the-type Laws''.the-laws
-              Laws''.the-plain tt G36 0 ((Scalar.oInt Syntax.w8 0) ∷ (Scalar.oAt 20 y11 (Laws'7.val Refusal.the-type Laws.the-laws)) ∷ []) (λ m. Finding.enum
+          d29 = Typed.s-seq 𝓤 H A W 𝓣 E G36 G37 b26 b27 Δ3 (Typed.pass T36 T37 s32) at28 (Make.t-enum-make-wt 𝓤 H A W E 𝓣 Finding.the-type Laws.the-laws
+              Laws.the-plain tt G36 0 ((Scalar.oInt Syntax.w8 0) ∷ (Scalar.oAt 20 y11 (Laws'7.val Refusal.the-type Laws'.the-laws)) ∷ []) (λ m. Finding.enum
               .make (Logic.inl (m .1 .1 .1 .1 .1 .1 .1 .1 .1 .1 .1 .1 .1 .1 .1 .1 .1 .1 .1 .1 .0, tt))) (Reads'.room-gone 𝓤 H A y17) (tt, ((Reads.reads-struct
-              𝓤 H A W Refusal.the-type Laws.the-laws, Path'.refl), tt)) Path'.refl (λ m wa. Make.made-val Finding.the-type Laws''.the-laws ((Laws'7.val
-              Refusal.the-type Laws.the-laws (m .1 .1 .1 .1 .1 .1 .1 .1 .1 .1 .1 .1 .1 .1 .1 .1 .1 .1 .1 .1 .0)) ∷ []) (Finding.enum .make (Logic.inl (m .1 .1
-              .1 .1 .1 .1 .1 .1 .1 .1 .1 .1 .1 .1 .1 .1 .1 .1 .1 .1 .0, tt))) (Signed.made-wt Refusal.the-field Laws.the-field-laws (Make'.struct-wt
-              Refusal.the-type Laws.the-laws (Whole.enum-wt Cause.the-type Laws'.the-laws (tt, (tt, (tt, (tt, (tt, (tt, (tt, (tt, (tt, (tt, (tt, (tt, (tt,
+              𝓤 H A W Refusal.the-type Laws'.the-laws, Path'.refl), tt)) Path'.refl (λ m wa. Make.made-val Finding.the-type Laws.the-laws ((Laws'7.val
+              Refusal.the-type Laws'.the-laws (m .1 .1 .1 .1 .1 .1 .1 .1 .1 .1 .1 .1 .1 .1 .1 .1 .1 .1 .1 .1 .0)) ∷ []) (Finding.enum .make (Logic.inl (m .1
+              .1 .1 .1 .1 .1 .1 .1 .1 .1 .1 .1 .1 .1 .1 .1 .1 .1 .1 .1 .0, tt))) (Signed.made-wt Refusal.the-field Laws'.the-field-laws (Make'.struct-wt
+              Refusal.the-type Laws'.the-laws (Whole.enum-wt Cause.the-type Laws'3.the-laws (tt, (tt, (tt, (tt, (tt, (tt, (tt, (tt, (tt, (tt, (tt, (tt, (tt,
               tt))))))))))))), (Make'.u32-wt, (Make'.u64-wt, tt)))) (Refusal.the-type .to (m .1 .1 .1 .1 .1 .1 .1 .1 .1 .1 .1 .1 .1 .1 .1 .1 .1 .1 .1 .1 .0)),
-              tt) (wa .1)) λ m wa. Make.made-is Finding.the-type Laws''.the-laws ((Laws'7.val Refusal.the-type Laws.the-laws (m .1 .1 .1 .1 .1 .1 .1 .1 .1 .1
+              tt) (wa .1)) λ m wa. Make.made-is Finding.the-type Laws.the-laws ((Laws'7.val Refusal.the-type Laws'.the-laws (m .1 .1 .1 .1 .1 .1 .1 .1 .1 .1
               .1 .1 .1 .1 .1 .1 .1 .1 .1 .1 .0)) ∷ []) (Finding.enum .make (Logic.inl (m .1 .1 .1 .1 .1 .1 .1 .1 .1 .1 .1 .1 .1 .1 .1 .1 .1 .1 .1 .1 .0, tt)))
-              (Signed.made-wt Refusal.the-field Laws.the-field-laws (Make'.struct-wt Refusal.the-type Laws.the-laws (Whole.enum-wt Cause.the-type
-              Laws'.the-laws (tt, (tt, (tt, (tt, (tt, (tt, (tt, (tt, (tt, (tt, (tt, (tt, (tt, tt))))))))))))), (Make'.u32-wt, (Make'.u64-wt, tt))))
+              (Signed.made-wt Refusal.the-field Laws'.the-field-laws (Make'.struct-wt Refusal.the-type Laws'.the-laws (Whole.enum-wt Cause.the-type
+              Laws'3.the-laws (tt, (tt, (tt, (tt, (tt, (tt, (tt, (tt, (tt, (tt, (tt, (tt, (tt, tt))))))))))))), (Make'.u32-wt, (Make'.u64-wt, tt))))
               (Refusal.the-type .to (m .1 .1 .1 .1 .1 .1 .1 .1 .1 .1 .1 .1 .1 .1 .1 .1 .1 .1 .1 .1 .0)), tt) (wa .1)) d28
           d30 : Typed.Typed 𝓤 H A 𝓣 E G35 b28 Δ3 at30
           d30 = Typed.g-pre 𝓤 H A W 𝓣 E G35 G36 b28 Δ3 (Typed.pass T35 T36 s31) at29 (Scalar.g-room 𝓤 H A W E G35 21 y8 (Local.room-whole 𝓤 H A W
               (Declared.row Cause.the-type) y8 Path'.refl)) d29
           d31 : Typed.Typed 𝓤 H A 𝓣 E G34 b29 Δ3 at31
           d31 = Typed.s-seq 𝓤 H A W 𝓣 E G34 G35 b25 b28 Δ3 (Typed.both s30) at30 (Plain.t-call-plain 𝓤 H A W 𝓣 0 ps·0 r·0 (claims· .0) (claims· .1)
-              "checker::early" (known .0) E (λ pos β. β) G34 (record { pos = 21; st = []; d = 0; at = λ x. x }, tt) 20 [] (Call.sub-id 𝓤 H A W (G34 .slots))
-              ((Yields.yields-copy 𝓤 H A W (λ ρ. Unit) (Declared.row Cause.the-type) Path'.refl (Copies.cEnum Cause.the-type Laws'.the-laws Laws'.the-copy
+              "answers::early" (known .0) E (λ pos β. β) G34 (record { pos = 21; st = []; d = 0; at = λ x. x }, tt) 20 [] (Call.sub-id 𝓤 H A W (G34 .slots))
+              ((Yields.yields-copy 𝓤 H A W (λ ρ. Unit) (Declared.row Cause.the-type) Path'.refl (Copies.cEnum Cause.the-type Laws'3.the-laws Laws'3.the-copy
               .copy 𝓤 H A W) (Rows'.whole (Declared.row Cause.the-type)) (λ x. x) (λ x. x) (λ ρ told. Local.mem-whole 𝓤 H A W (Declared.row Cause.the-type) ρ)
               λ ρ told. Local.whole-mem 𝓤 H A W (Declared.row Cause.the-type) ρ, Path'.refl), tt) (Reads'.room-gone 𝓤 H A y11) tt Path'.refl) d30
           d32 : Typed.Typed 𝓤 H A 𝓣 E G33 b30 Δ3 at32
-          d32 = Typed.s-seq 𝓤 H A W 𝓣 E G33 G34 b24 b29 Δ3 (Typed.pass T33 T34 s29) at31 (Make.t-enum-make-wt 𝓤 H A W E 𝓣 Cause.the-type Laws'.the-laws
-              Laws'.the-plain tt G33 21 ((Scalar.oInt Syntax.w8 4) ∷ []) (λ m. Cause.enum .make (Logic.inr (Logic.inr (Logic.inr (Logic.inr (Logic.inl
-              tt)))))) (Reads'.room-gone 𝓤 H A y8) (tt, tt) Path'.refl (λ m wa. Make.made-val Cause.the-type Laws'.the-laws [] (Cause.enum .make (Logic.inr
-              (Logic.inr (Logic.inr (Logic.inr (Logic.inl tt)))))) tt (wa .1)) λ m wa. Make.made-is Cause.the-type Laws'.the-laws [] (Cause.enum .make
+          d32 = Typed.s-seq 𝓤 H A W 𝓣 E G33 G34 b24 b29 Δ3 (Typed.pass T33 T34 s29) at31 (Make.t-enum-make-wt 𝓤 H A W E 𝓣 Cause.the-type Laws'3.the-laws
+              Laws'3.the-plain tt G33 21 ((Scalar.oInt Syntax.w8 4) ∷ []) (λ m. Cause.enum .make (Logic.inr (Logic.inr (Logic.inr (Logic.inr (Logic.inl
+              tt)))))) (Reads'.room-gone 𝓤 H A y8) (tt, tt) Path'.refl (λ m wa. Make.made-val Cause.the-type Laws'3.the-laws [] (Cause.enum .make (Logic.inr
+              (Logic.inr (Logic.inr (Logic.inr (Logic.inl tt)))))) tt (wa .1)) λ m wa. Make.made-is Cause.the-type Laws'3.the-laws [] (Cause.enum .make
               (Logic.inr (Logic.inr (Logic.inr (Logic.inr (Logic.inl tt)))))) tt (wa .1)) d31
           d33 : Typed.Typed 𝓤 H A 𝓣 E G32 b30 Δ3 at33
           d33 = Typed.g-pre 𝓤 H A W 𝓣 E G32 G33 b30 Δ3 (Typed.pass T32 T33 s28) at32 (Scalar.g-room 𝓤 H A W E G32 12 Syntax.tyBool (Scalar.room-sc 𝓤 H A W
@@ -1974,7 +1975,7 @@ module _ (claims· : Claims) where
               Sought.struct .as-values x .1 .0, tt)) 0 [] (Call.sub-id 𝓤 H A W (G106 .slots)) ((Yields.yields-copy 𝓤 H A W (λ ρ. Unit) (Declared'.row
               Reached.the-type) Path'.refl (Copies.cStruct Reached.the-type Laws'5.the-laws Laws'5.the-copy .copy 𝓤 H A W) (Rows'.whole (Declared'.row
               Reached.the-type)) (λ x. x) (λ x. x) (λ ρ told. Local.mem-whole 𝓤 H A W (Declared'.row Reached.the-type) ρ) λ ρ told. Local.whole-mem 𝓤 H A W
-              (Declared'.row Reached.the-type) ρ, Path'.refl), ((Reads.reads-field 𝓤 H A W Sought.the-type Laws'3.the-laws 1 y5 96 Path'.refl, Path'.refl),
+              (Declared'.row Reached.the-type) ρ, Path'.refl), ((Reads.reads-field 𝓤 H A W Sought.the-type Laws'4.the-laws 1 y5 96 Path'.refl, Path'.refl),
               tt)) (Reads'.room-gone 𝓤 H A y17) tt Path'.refl) d66
           d68 : Typed.Typed 𝓤 H A 𝓣 E G105 b66 Δ0 at68
           d68 = Typed.g-pre 𝓤 H A W 𝓣 E G105 G106 b66 Δ0 (λ Ψ. Ψ) at67 (Lifetime.g-forget 𝓤 H A W E G105 7 Row.dead Path'.refl) d67
@@ -2043,7 +2044,7 @@ module _ (claims· : Claims) where
               (Reads'.as-is 𝓤 H A (Mut.mslice NodeRecordT.row y12 5), Mut.reads-mslice 𝓤 H A W NodeRecordT.row y12 5, Path'.refl, (Reads'.as-is 𝓤 H A
               (Rows'.mref (Array'.Array (Array'.Array (Referent.rtF (Referent.fInt Syntax.w32)) 4) 32) y14 6), Reads'.reads-mref 𝓤 H A W (Array'.Array
               (Array'.Array (Referent.rtF (Referent.fInt Syntax.w32)) 4) 32) y14 6, Path'.refl, ((Yields.yields-copy 𝓤 H A W (λ ρ. Unit) (Declared'.row
-              Cursor.the-type) Path'.refl (Copies.cStruct Cursor.the-type Laws'4.the-laws Laws'4.the-copy .copy 𝓤 H A W) (Rows'.whole (Declared'.row
+              Cursor.the-type) Path'.refl (Copies.cStruct Cursor.the-type Laws''.the-laws Laws''.the-copy .copy 𝓤 H A W) (Rows'.whole (Declared'.row
               Cursor.the-type)) (λ x. x) (λ x. x) (λ ρ told. Local.mem-whole 𝓤 H A W (Declared'.row Cursor.the-type) ρ) λ ρ told. Local.whole-mem 𝓤 H A W
               (Declared'.row Cursor.the-type) ρ, Path'.refl), (record { lower = record { fits = Dec'.lit< tt } }, tt)))))) (Reads'.room-gone 𝓤 H A y9) (tt,
               (tt, (tt, tt))) Path'.refl) d84
@@ -2092,8 +2093,8 @@ module _ (claims· : Claims) where
           d96 : Typed.Typed 𝓤 H A 𝓣 E G58 b79 Δ0 at96
           d96 = Typed.s-seq 𝓤 H A W 𝓣 E G58 G59 b39 b78 Δ0 (Typed.both s54) at95 (Plain.t-call-plain 𝓤 H A W 𝓣 0 ps·2 r·2 (claims· .4) (claims· .5)
               "finder::reached_of" (known .2) E (λ pos β. β) G58 (record { pos = 6; st = []; d = 0; at = λ x. x }, tt) 7 [] (Call.sub-id 𝓤 H A W (G58 .slots))
-              ((Yields.yields-copy 𝓤 H A W (λ ρ. Unit) (Declared'.row Sought.the-type) Path'.refl (Copies.cStruct Sought.the-type Laws'3.the-laws
-              Laws'3.the-copy .copy 𝓤 H A W) (Rows'.whole (Declared'.row Sought.the-type)) (λ x. x) (λ x. x) (λ ρ told. Local.mem-whole 𝓤 H A W (Declared'.row
+              ((Yields.yields-copy 𝓤 H A W (λ ρ. Unit) (Declared'.row Sought.the-type) Path'.refl (Copies.cStruct Sought.the-type Laws'4.the-laws
+              Laws'4.the-copy .copy 𝓤 H A W) (Rows'.whole (Declared'.row Sought.the-type)) (λ x. x) (λ x. x) (λ ρ told. Local.mem-whole 𝓤 H A W (Declared'.row
               Sought.the-type) ρ) λ ρ told. Local.whole-mem 𝓤 H A W (Declared'.row Sought.the-type) ρ, Path'.refl), tt) (Reads'.room-gone 𝓤 H A y9) tt
               Path'.refl) d95
           d97 : Typed.Typed 𝓤 H A 𝓣 E G57 b79 Δ0 at97
@@ -2848,7 +2849,7 @@ module _ (claims· : Claims) where
           asked = λ a good pre bs. laid record { κs = κs; args = record { n = a .0; s = a .1 .0; w = a .1 .1 .0; t = a .1 .1 .1 .0 }; good = good; fits =
               record { n = record { fits = good .0 .1 }; w = record { fits = good .1 .1 .0 .1 } }; pre = pre }
         module _ {M : Type 1} (𝓤 : URA.URA M) (H : Wp.Heap 𝓤) (A : Atoms.Atoms 𝓤) (W : Kit.Given 𝓤 H A) (𝓣 : Wp.Tables 𝓤 H) (known0 : Plain.Known 𝓤 H A W 𝓣 0
-            ps·0 r·0 (claims· .0) (claims· .1) "checker::early") (known1 : Plain.Known 𝓤 H A W 𝓣 3 ps·1 r·1 (claims· .2) (claims· .3) "finder::seek") (known2
+            ps·0 r·0 (claims· .0) (claims· .1) "answers::early") (known1 : Plain.Known 𝓤 H A W 𝓣 3 ps·1 r·1 (claims· .2) (claims· .3) "finder::seek") (known2
             : Plain.Known 𝓤 H A W 𝓣 0 ps·2 r·2 (claims· .4) (claims· .5) "finder::reached_of") (known3 : Plain.Known 𝓤 H A W 𝓣 1 ps·3 r·3 (claims· .6)
             (claims· .7) "record_tables::clear_records") (known4 : Plain.Known 𝓤 H A W 𝓣 0 ps·4 r·4 (claims· .8) (claims· .9) "finder::ended_at") (known5 :
             Plain.Known 𝓤 H A W 𝓣 0 ps·5 r·5 (claims· .10) (claims· .11) "finder::cursor_of") (known6 : Plain.Known 𝓤 H A W 𝓣 3 ps·6 r·6 (claims· .12)

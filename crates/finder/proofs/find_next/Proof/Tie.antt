@@ -1,11 +1,11 @@
 -- Generated: the needs of find_next at its contract, and how its theorem closes.
--- From 67c274d1b2303cbb, as 4d386c859d3a990e.
+-- From 90a438c920363d05, as 56c393668cfea2e8.
 use borrow.Fn.Run
 use borrow.Fn.Written
 use contract.Running.{givenOf, tablesOf}
-use Rattle.checker.proofs.early.Reads as early-reads
-use Rattle.checker.proofs.early.Met as early-met
-use Rattle.checker.proofs.early.Symbol as early-symbol
+use Rattle.answers.proofs.early.Reads as early-reads
+use Rattle.answers.proofs.early.Met as early-met
+use Rattle.answers.proofs.early.Symbol as early-symbol
 use Rattle.finder.proofs.Lifted.seek as seek-reads
 use Rattle.finder.proofs.seek.Met as seek-met
 use Rattle.finder.proofs.seek.Symbol as seek-symbol
@@ -102,7 +102,7 @@ module _ {M : Type 1} where
   close closed 𝓤 H 𝓜 𝓖 𝓡 =
       Written.close 2 self.ps self.r self.Ghost self.requires self.ensures self.pre-read self.Pinned self.Owned self.post-read record { M = M; 𝓤 = 𝓤; H = H; 𝓜 = 𝓜; 𝓖 = 𝓖; 𝓡 = 𝓡 } code.env Key.name code.function (code.unfolded 𝓤 H 𝓜 𝓡)
       (λ κs a g. tt) (λ κs. self.owns κs record { M = M; 𝓤 = 𝓤; H = H; 𝓜 = 𝓜; 𝓖 = 𝓖; 𝓡 = 𝓡 }) (self.passes record { M = M; 𝓤 = 𝓤; H = H; 𝓜 = 𝓜; 𝓖 = 𝓖; 𝓡 = 𝓡 }) λ g. closed 𝓤 H (𝓖 .A) (givenOf 𝓤 H 𝓜 𝓖) (Run.Over 𝓤 H 𝓜 𝓖 𝓡 code.env)
-      (early-reads.known record { M = M; 𝓤 = 𝓤; H = H; 𝓜 = 𝓜; 𝓖 = 𝓖; 𝓡 = 𝓡 } code.env early-symbol.name early-symbol.routine code.calls-checker·early (early-met.met 𝓤 H 𝓜 𝓖 𝓡))
+      (early-reads.known record { M = M; 𝓤 = 𝓤; H = H; 𝓜 = 𝓜; 𝓖 = 𝓖; 𝓡 = 𝓡 } code.env early-symbol.name early-symbol.routine code.calls-answers·early (early-met.met 𝓤 H 𝓜 𝓖 𝓡))
       (seek-reads.known record { M = M; 𝓤 = 𝓤; H = H; 𝓜 = 𝓜; 𝓖 = 𝓖; 𝓡 = 𝓡 } code.env seek-symbol.name seek-symbol.routine code.calls-finder·seek (seek-met.met 𝓤 H 𝓜 𝓖 𝓡))
       (reached-of-reads.known record { M = M; 𝓤 = 𝓤; H = H; 𝓜 = 𝓜; 𝓖 = 𝓖; 𝓡 = 𝓡 } code.env reached-of-symbol.name reached-of-symbol.routine code.calls-finder·reached-of (reached-of-met.met 𝓤 H 𝓜 𝓖 𝓡))
       (clear-records-reads.known record { M = M; 𝓤 = 𝓤; H = H; 𝓜 = 𝓜; 𝓖 = 𝓖; 𝓡 = 𝓡 } code.env clear-records-symbol.name clear-records-symbol.routine code.calls-record-tables·clear-records (clear-records-met.met 𝓤 H 𝓜 𝓖 𝓡))

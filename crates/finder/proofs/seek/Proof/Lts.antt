@@ -1,23 +1,23 @@
 -- Generated: the derivation of a body.
--- From 67c274d1b2303cbb, as fa5d8f8c34611f27.
+-- From 90a438c920363d05, as cac1b2f1e1eb716b.
 use Prim.Native.Nat
+use Rattle.cursors.proofs.Cursor
+use Rattle.cursors.proofs.Cursor.Laws
+use Rattle.cursors.proofs.Pair
+use Rattle.cursors.proofs.Pair.Laws as Laws'
+use Rattle.cursors.proofs.Run
+use Rattle.cursors.proofs.Run.Laws as Laws''
 use Rattle.elements.proofs.Cause
-use Rattle.elements.proofs.Cause.Laws
+use Rattle.elements.proofs.Cause.Laws as Laws'3
 use Rattle.elements.proofs.Context
-use Rattle.elements.proofs.Context.Laws as Laws'
+use Rattle.elements.proofs.Context.Laws as Laws'4
 use Rattle.elements.proofs.Ref
-use Rattle.elements.proofs.Ref.Laws as Laws''
+use Rattle.elements.proofs.Ref.Laws as Laws'5
 use Rattle.finder.proofs.Sought
-use Rattle.finder.proofs.Sought.Laws as Laws'3
+use Rattle.finder.proofs.Sought.Laws as Laws'6
 use Rattle.node_records.proofs.Tables.NodeRecord as NodeRecordT
-use Rattle.reader.proofs.Cursor
-use Rattle.reader.proofs.Cursor.Laws as Laws'4
-use Rattle.reader.proofs.Pair
-use Rattle.reader.proofs.Pair.Laws as Laws'5
 use Rattle.reader.proofs.Reached
-use Rattle.reader.proofs.Reached.Laws as Laws'6
-use Rattle.reader.proofs.Run
-use Rattle.reader.proofs.Run.Laws as Laws'7
+use Rattle.reader.proofs.Reached.Laws as Laws'7
 use borrow.Author.Called
 use borrow.Author.Tests
 use borrow.Enum.Whole
@@ -90,8 +90,8 @@ y0 = Syntax.tyInt Syntax.w32
 abbrev y1 : Syntax.Ty
 y1 = Syntax.tyStruct (101 ∷ 108 ∷ 101 ∷ 109 ∷ 101 ∷ 110 ∷ 116 ∷ 115 ∷ 58 ∷ 58 ∷ 82 ∷ 101 ∷ 102 ∷ []) (Syntax.tcons y0 (Syntax.tcons y0 Syntax.tnil))
 abbrev y2 : Syntax.Ty
-y2 = Syntax.tyStruct (114 ∷ 101 ∷ 97 ∷ 100 ∷ 101 ∷ 114 ∷ 58 ∷ 58 ∷ 80 ∷ 97 ∷ 105 ∷ 114 ∷ []) (Syntax.tcons Syntax.tyBool (Syntax.tcons y1 (Syntax.tcons y1
-    Syntax.tnil)))
+y2 = Syntax.tyStruct (99 ∷ 117 ∷ 114 ∷ 115 ∷ 111 ∷ 114 ∷ 115 ∷ 58 ∷ 58 ∷ 80 ∷ 97 ∷ 105 ∷ 114 ∷ []) (Syntax.tcons Syntax.tyBool (Syntax.tcons y1 (Syntax.tcons
+    y1 Syntax.tnil)))
 abbrev y3 : Syntax.Ty
 y3 = Syntax.tyInt Syntax.w64
 abbrev y4 : Syntax.Ty
@@ -99,10 +99,11 @@ y4 = Syntax.tyEnum (101 ∷ 108 ∷ 101 ∷ 109 ∷ 101 ∷ 110 ∷ 116 ∷ 115 
     (Syntax.ttcons Syntax.tnil (Syntax.ttcons Syntax.tnil (Syntax.ttcons Syntax.tnil (Syntax.ttcons Syntax.tnil (Syntax.ttcons Syntax.tnil (Syntax.ttcons
     Syntax.tnil Syntax.ttnil)))))))
 abbrev y5 : Syntax.Ty
-y5 = Syntax.tyStruct (114 ∷ 101 ∷ 97 ∷ 100 ∷ 101 ∷ 114 ∷ 58 ∷ 58 ∷ 82 ∷ 117 ∷ 110 ∷ []) (Syntax.tcons y1 (Syntax.tcons y2 (Syntax.tcons y3 (Syntax.tcons y3
-    (Syntax.tcons y0 (Syntax.tcons y4 (Syntax.tcons Syntax.tyBool Syntax.tnil)))))))
+y5 = Syntax.tyStruct (99 ∷ 117 ∷ 114 ∷ 115 ∷ 111 ∷ 114 ∷ 115 ∷ 58 ∷ 58 ∷ 82 ∷ 117 ∷ 110 ∷ []) (Syntax.tcons y1 (Syntax.tcons y2 (Syntax.tcons y3 (Syntax.tcons
+    y3 (Syntax.tcons y0 (Syntax.tcons y4 (Syntax.tcons Syntax.tyBool Syntax.tnil)))))))
 abbrev y6 : Syntax.Ty
-y6 = Syntax.tyStruct (114 ∷ 101 ∷ 97 ∷ 100 ∷ 101 ∷ 114 ∷ 58 ∷ 58 ∷ 67 ∷ 117 ∷ 114 ∷ 115 ∷ 111 ∷ 114 ∷ []) (Syntax.tcons y5 (Syntax.tcons y3 Syntax.tnil))
+y6 = Syntax.tyStruct (99 ∷ 117 ∷ 114 ∷ 115 ∷ 111 ∷ 114 ∷ 115 ∷ 58 ∷ 58 ∷ 67 ∷ 117 ∷ 114 ∷ 115 ∷ 111 ∷ 114 ∷ []) (Syntax.tcons y5 (Syntax.tcons y3
+    Syntax.tnil))
 abbrev y7 : Syntax.Ty
 y7 = Syntax.tyEnum (101 ∷ 108 ∷ 101 ∷ 109 ∷ 101 ∷ 110 ∷ 116 ∷ 115 ∷ 58 ∷ 58 ∷ 67 ∷ 97 ∷ 117 ∷ 115 ∷ 101 ∷ []) (Syntax.ttcons Syntax.tnil (Syntax.ttcons
     Syntax.tnil (Syntax.ttcons Syntax.tnil (Syntax.ttcons Syntax.tnil (Syntax.ttcons Syntax.tnil (Syntax.ttcons Syntax.tnil (Syntax.ttcons Syntax.tnil
@@ -221,10 +222,10 @@ abbrev pub ps : List (Kinds.PK 3)
 ps = (Num.pNum Syntax.w32) ∷ (ShrSlice.pShrS (Referent.rtF (Referent.fInt Syntax.w8)) 0 tt) ∷ (MutSlice.pMutS NodeRecordT.row 1 tt) ∷ (Kinds.pMut (Array.Array
     (Array.Array (Referent.rtF (Referent.fInt Syntax.w32)) 4) 32) 2 tt) ∷ (Num.pNum Syntax.w64) ∷ []
 abbrev pub r : Kinds.RK 3
-r = Value.rVal record { ty = Declared.row Sought.the-type; one = Path'.refl; val = Laws'8.val Sought.the-type Laws'3.the-laws; tells = Laws'8.tells
-    Sought.the-type Laws'3.the-laws; still = Laws'8.still Sought.the-type Laws'3.the-copy Exit.yes; row = Rows.whole (Declared.row Sought.the-type); rd = λ x.
-    x; mk = λ x. x } λ M 𝓤 H A W. record { copies = Laws'8.copy Sought.the-type Laws'3.the-copy 𝓤 H A W; lawful = Laws'8.lawful Sought.the-type
-    Laws'3.the-laws 𝓤 H A W; makes = Laws'8.makes Sought.the-type Laws'3.the-plain 𝓤 H A; in-mem = Local.mem-whole 𝓤 H A W (Declared.row Sought.the-type);
+r = Value.rVal record { ty = Declared.row Sought.the-type; one = Path'.refl; val = Laws'8.val Sought.the-type Laws'6.the-laws; tells = Laws'8.tells
+    Sought.the-type Laws'6.the-laws; still = Laws'8.still Sought.the-type Laws'6.the-copy Exit.yes; row = Rows.whole (Declared.row Sought.the-type); rd = λ x.
+    x; mk = λ x. x } λ M 𝓤 H A W. record { copies = Laws'8.copy Sought.the-type Laws'6.the-copy 𝓤 H A W; lawful = Laws'8.lawful Sought.the-type
+    Laws'6.the-laws 𝓤 H A W; makes = Laws'8.makes Sought.the-type Laws'6.the-plain 𝓤 H A; in-mem = Local.mem-whole 𝓤 H A W (Declared.row Sought.the-type);
     of-mem = Local.whole-mem 𝓤 H A W (Declared.row Sought.the-type) }
 abbrev pub xs : List Syntax.Ty
 xs = y6 ∷ y3 ∷ y8 ∷ Syntax.tyBool ∷ y3 ∷ y9 ∷ y10 ∷ y13 ∷ Syntax.tyBool ∷ y14 ∷ y15 ∷ y16 ∷ y3 ∷ []
@@ -233,60 +234,60 @@ m = 4
 abbrev pub ps·0 : List (Kinds.PK 0)
 ps·0 = []
 abbrev pub r·0 : Kinds.RK 0
-r·0 = Value.rVal record { ty = Declared.row Cursor.the-type; one = Path'.refl; val = Laws'8.val Cursor.the-type Laws'4.the-laws; tells = Laws'8.tells
-    Cursor.the-type Laws'4.the-laws; still = Laws'8.still Cursor.the-type Laws'4.the-copy Exit.yes; row = Rows.whole (Declared.row Cursor.the-type); rd = λ x.
-    x; mk = λ x. x } λ M 𝓤 H A W. record { copies = Laws'8.copy Cursor.the-type Laws'4.the-copy 𝓤 H A W; lawful = Laws'8.lawful Cursor.the-type
-    Laws'4.the-laws 𝓤 H A W; makes = Laws'8.makes Cursor.the-type Laws'4.the-plain 𝓤 H A; in-mem = Local.mem-whole 𝓤 H A W (Declared.row Cursor.the-type);
-    of-mem = Local.whole-mem 𝓤 H A W (Declared.row Cursor.the-type) }
+r·0 = Value.rVal record { ty = Declared.row Cursor.the-type; one = Path'.refl; val = Laws'8.val Cursor.the-type Laws.the-laws; tells = Laws'8.tells
+    Cursor.the-type Laws.the-laws; still = Laws'8.still Cursor.the-type Laws.the-copy Exit.yes; row = Rows.whole (Declared.row Cursor.the-type); rd = λ x. x;
+    mk = λ x. x } λ M 𝓤 H A W. record { copies = Laws'8.copy Cursor.the-type Laws.the-copy 𝓤 H A W; lawful = Laws'8.lawful Cursor.the-type Laws.the-laws 𝓤 H A
+    W; makes = Laws'8.makes Cursor.the-type Laws.the-plain 𝓤 H A; in-mem = Local.mem-whole 𝓤 H A W (Declared.row Cursor.the-type); of-mem = Local.whole-mem 𝓤
+    H A W (Declared.row Cursor.the-type) }
 abbrev pub ps·1 : List (Kinds.PK 3)
 ps·1 = (Num.pNum Syntax.w32) ∷ (ShrSlice.pShrS (Referent.rtF (Referent.fInt Syntax.w8)) 0 tt) ∷ (MutSlice.pMutS NodeRecordT.row 1 tt) ∷ (Kinds.pMut
     (Array.Array (Array.Array (Referent.rtF (Referent.fInt Syntax.w32)) 4) 32) 2 tt) ∷ (Value.pVal record { ty = Declared.row Cursor.the-type; one =
-    Path'.refl; val = Laws'8.val Cursor.the-type Laws'4.the-laws; tells = Laws'8.tells Cursor.the-type Laws'4.the-laws; still = Laws'8.still Cursor.the-type
-    Laws'4.the-copy Exit.yes; row = Rows.whole (Declared.row Cursor.the-type); rd = λ x. x; mk = λ x. x } λ M 𝓤 H A W. record { copies = Laws'8.copy
-    Cursor.the-type Laws'4.the-copy 𝓤 H A W; lawful = Laws'8.lawful Cursor.the-type Laws'4.the-laws 𝓤 H A W; makes = Laws'8.makes Cursor.the-type
-    Laws'4.the-plain 𝓤 H A; in-mem = Local.mem-whole 𝓤 H A W (Declared.row Cursor.the-type); of-mem = Local.whole-mem 𝓤 H A W (Declared.row Cursor.the-type)
-    }) ∷ (Num.pNum Syntax.w64) ∷ []
+    Path'.refl; val = Laws'8.val Cursor.the-type Laws.the-laws; tells = Laws'8.tells Cursor.the-type Laws.the-laws; still = Laws'8.still Cursor.the-type
+    Laws.the-copy Exit.yes; row = Rows.whole (Declared.row Cursor.the-type); rd = λ x. x; mk = λ x. x } λ M 𝓤 H A W. record { copies = Laws'8.copy
+    Cursor.the-type Laws.the-copy 𝓤 H A W; lawful = Laws'8.lawful Cursor.the-type Laws.the-laws 𝓤 H A W; makes = Laws'8.makes Cursor.the-type Laws.the-plain 𝓤
+    H A; in-mem = Local.mem-whole 𝓤 H A W (Declared.row Cursor.the-type); of-mem = Local.whole-mem 𝓤 H A W (Declared.row Cursor.the-type) }) ∷ (Num.pNum
+    Syntax.w64) ∷ []
 abbrev pub r·1 : Kinds.RK 3
-r·1 = Value.rVal record { ty = Declared.row Reached.the-type; one = Path'.refl; val = Laws'8.val Reached.the-type Laws'6.the-laws; tells = Laws'8.tells
-    Reached.the-type Laws'6.the-laws; still = Laws'8.still Reached.the-type Laws'6.the-copy Exit.yes; row = Rows.whole (Declared.row Reached.the-type); rd = λ
-    x. x; mk = λ x. x } λ M 𝓤 H A W. record { copies = Laws'8.copy Reached.the-type Laws'6.the-copy 𝓤 H A W; lawful = Laws'8.lawful Reached.the-type
-    Laws'6.the-laws 𝓤 H A W; makes = Laws'8.makes Reached.the-type Laws'6.the-plain 𝓤 H A; in-mem = Local.mem-whole 𝓤 H A W (Declared.row Reached.the-type);
+r·1 = Value.rVal record { ty = Declared.row Reached.the-type; one = Path'.refl; val = Laws'8.val Reached.the-type Laws'7.the-laws; tells = Laws'8.tells
+    Reached.the-type Laws'7.the-laws; still = Laws'8.still Reached.the-type Laws'7.the-copy Exit.yes; row = Rows.whole (Declared.row Reached.the-type); rd = λ
+    x. x; mk = λ x. x } λ M 𝓤 H A W. record { copies = Laws'8.copy Reached.the-type Laws'7.the-copy 𝓤 H A W; lawful = Laws'8.lawful Reached.the-type
+    Laws'7.the-laws 𝓤 H A W; makes = Laws'8.makes Reached.the-type Laws'7.the-plain 𝓤 H A; in-mem = Local.mem-whole 𝓤 H A W (Declared.row Reached.the-type);
     of-mem = Local.whole-mem 𝓤 H A W (Declared.row Reached.the-type) }
 abbrev pub ps·2 : List (Kinds.PK 2)
 ps·2 = (ShrSlice.pShrS NodeRecordT.row 0 tt) ∷ (ShrRef.pShr (Array.Array (Array.Array (Referent.rtF (Referent.fInt Syntax.w32)) 4) 32) 1 tt) ∷ (Num.pNum
-    Syntax.w32) ∷ (Value.pVal record { ty = Declared.row Reached.the-type; one = Path'.refl; val = Laws'8.val Reached.the-type Laws'6.the-laws; tells =
-    Laws'8.tells Reached.the-type Laws'6.the-laws; still = Laws'8.still Reached.the-type Laws'6.the-copy Exit.yes; row = Rows.whole (Declared.row
-    Reached.the-type); rd = λ x. x; mk = λ x. x } λ M 𝓤 H A W. record { copies = Laws'8.copy Reached.the-type Laws'6.the-copy 𝓤 H A W; lawful = Laws'8.lawful
-    Reached.the-type Laws'6.the-laws 𝓤 H A W; makes = Laws'8.makes Reached.the-type Laws'6.the-plain 𝓤 H A; in-mem = Local.mem-whole 𝓤 H A W (Declared.row
+    Syntax.w32) ∷ (Value.pVal record { ty = Declared.row Reached.the-type; one = Path'.refl; val = Laws'8.val Reached.the-type Laws'7.the-laws; tells =
+    Laws'8.tells Reached.the-type Laws'7.the-laws; still = Laws'8.still Reached.the-type Laws'7.the-copy Exit.yes; row = Rows.whole (Declared.row
+    Reached.the-type); rd = λ x. x; mk = λ x. x } λ M 𝓤 H A W. record { copies = Laws'8.copy Reached.the-type Laws'7.the-copy 𝓤 H A W; lawful = Laws'8.lawful
+    Reached.the-type Laws'7.the-laws 𝓤 H A W; makes = Laws'8.makes Reached.the-type Laws'7.the-plain 𝓤 H A; in-mem = Local.mem-whole 𝓤 H A W (Declared.row
     Reached.the-type); of-mem = Local.whole-mem 𝓤 H A W (Declared.row Reached.the-type) }) ∷ (Num.pNum Syntax.w64) ∷ []
 abbrev pub r·2 : Kinds.RK 2
 r·2 = Num.rNum Syntax.w64
 abbrev pub ps·3 : List (Kinds.PK 0)
-ps·3 = (Value.pVal record { ty = Declared.row Reached.the-type; one = Path'.refl; val = Laws'8.val Reached.the-type Laws'6.the-laws; tells = Laws'8.tells
-    Reached.the-type Laws'6.the-laws; still = Laws'8.still Reached.the-type Laws'6.the-copy Exit.yes; row = Rows.whole (Declared.row Reached.the-type); rd = λ
-    x. x; mk = λ x. x } λ M 𝓤 H A W. record { copies = Laws'8.copy Reached.the-type Laws'6.the-copy 𝓤 H A W; lawful = Laws'8.lawful Reached.the-type
-    Laws'6.the-laws 𝓤 H A W; makes = Laws'8.makes Reached.the-type Laws'6.the-plain 𝓤 H A; in-mem = Local.mem-whole 𝓤 H A W (Declared.row Reached.the-type);
+ps·3 = (Value.pVal record { ty = Declared.row Reached.the-type; one = Path'.refl; val = Laws'8.val Reached.the-type Laws'7.the-laws; tells = Laws'8.tells
+    Reached.the-type Laws'7.the-laws; still = Laws'8.still Reached.the-type Laws'7.the-copy Exit.yes; row = Rows.whole (Declared.row Reached.the-type); rd = λ
+    x. x; mk = λ x. x } λ M 𝓤 H A W. record { copies = Laws'8.copy Reached.the-type Laws'7.the-copy 𝓤 H A W; lawful = Laws'8.lawful Reached.the-type
+    Laws'7.the-laws 𝓤 H A W; makes = Laws'8.makes Reached.the-type Laws'7.the-plain 𝓤 H A; in-mem = Local.mem-whole 𝓤 H A W (Declared.row Reached.the-type);
     of-mem = Local.whole-mem 𝓤 H A W (Declared.row Reached.the-type) }) ∷ []
 abbrev pub r·3 : Kinds.RK 0
 r·3 = Num.rNum Syntax.w64
 abbrev pub ps·4 : List (Kinds.PK 0)
-ps·4 = (Value.pVal record { ty = Declared.row Reached.the-type; one = Path'.refl; val = Laws'8.val Reached.the-type Laws'6.the-laws; tells = Laws'8.tells
-    Reached.the-type Laws'6.the-laws; still = Laws'8.still Reached.the-type Laws'6.the-copy Exit.yes; row = Rows.whole (Declared.row Reached.the-type); rd = λ
-    x. x; mk = λ x. x } λ M 𝓤 H A W. record { copies = Laws'8.copy Reached.the-type Laws'6.the-copy 𝓤 H A W; lawful = Laws'8.lawful Reached.the-type
-    Laws'6.the-laws 𝓤 H A W; makes = Laws'8.makes Reached.the-type Laws'6.the-plain 𝓤 H A; in-mem = Local.mem-whole 𝓤 H A W (Declared.row Reached.the-type);
+ps·4 = (Value.pVal record { ty = Declared.row Reached.the-type; one = Path'.refl; val = Laws'8.val Reached.the-type Laws'7.the-laws; tells = Laws'8.tells
+    Reached.the-type Laws'7.the-laws; still = Laws'8.still Reached.the-type Laws'7.the-copy Exit.yes; row = Rows.whole (Declared.row Reached.the-type); rd = λ
+    x. x; mk = λ x. x } λ M 𝓤 H A W. record { copies = Laws'8.copy Reached.the-type Laws'7.the-copy 𝓤 H A W; lawful = Laws'8.lawful Reached.the-type
+    Laws'7.the-laws 𝓤 H A W; makes = Laws'8.makes Reached.the-type Laws'7.the-plain 𝓤 H A; in-mem = Local.mem-whole 𝓤 H A W (Declared.row Reached.the-type);
     of-mem = Local.whole-mem 𝓤 H A W (Declared.row Reached.the-type) }) ∷ []
 abbrev pub r·4 : Kinds.RK 0
-r·4 = Value.rVal record { ty = Declared.row Cursor.the-type; one = Path'.refl; val = Laws'8.val Cursor.the-type Laws'4.the-laws; tells = Laws'8.tells
-    Cursor.the-type Laws'4.the-laws; still = Laws'8.still Cursor.the-type Laws'4.the-copy Exit.yes; row = Rows.whole (Declared.row Cursor.the-type); rd = λ x.
-    x; mk = λ x. x } λ M 𝓤 H A W. record { copies = Laws'8.copy Cursor.the-type Laws'4.the-copy 𝓤 H A W; lawful = Laws'8.lawful Cursor.the-type
-    Laws'4.the-laws 𝓤 H A W; makes = Laws'8.makes Cursor.the-type Laws'4.the-plain 𝓤 H A; in-mem = Local.mem-whole 𝓤 H A W (Declared.row Cursor.the-type);
-    of-mem = Local.whole-mem 𝓤 H A W (Declared.row Cursor.the-type) }
+r·4 = Value.rVal record { ty = Declared.row Cursor.the-type; one = Path'.refl; val = Laws'8.val Cursor.the-type Laws.the-laws; tells = Laws'8.tells
+    Cursor.the-type Laws.the-laws; still = Laws'8.still Cursor.the-type Laws.the-copy Exit.yes; row = Rows.whole (Declared.row Cursor.the-type); rd = λ x. x;
+    mk = λ x. x } λ M 𝓤 H A W. record { copies = Laws'8.copy Cursor.the-type Laws.the-copy 𝓤 H A W; lawful = Laws'8.lawful Cursor.the-type Laws.the-laws 𝓤 H A
+    W; makes = Laws'8.makes Cursor.the-type Laws.the-plain 𝓤 H A; in-mem = Local.mem-whole 𝓤 H A W (Declared.row Cursor.the-type); of-mem = Local.whole-mem 𝓤
+    H A W (Declared.row Cursor.the-type) }
 abbrev pub hs : List Syntax.Home
 hs = Syntax.valueLocal ∷ Syntax.valueLocal ∷ Syntax.valueLocal ∷ Syntax.valueLocal ∷ Syntax.valueLocal ∷ Syntax.valueLocal ∷ Syntax.valueLocal ∷
     Syntax.valueLocal ∷ Syntax.valueLocal ∷ Syntax.valueLocal ∷ Syntax.valueLocal ∷ Syntax.valueLocal ∷ Syntax.valueLocal ∷ Syntax.valueLocal ∷
     Syntax.valueLocal ∷ Syntax.valueLocal ∷ Syntax.valueLocal ∷ Syntax.valueLocal ∷ Syntax.valueLocal ∷ []
 abbrev b0 : Syntax.Body
-b0 = Syntax.call "reader::first_cursor" [] (Syntax.place 6 [])
+b0 = Syntax.call "cursors::first_cursor" [] (Syntax.place 6 [])
 abbrev b1 : Syntax.Body
 b1 = Syntax.assign (Syntax.place 7 []) (Syntax.rvOpd (Syntax.copy (Syntax.place 5 [])))
 abbrev b2 : Syntax.Body
@@ -519,7 +520,7 @@ module _ (claims· : Claims) where
   abbrev s14 : Typed.Asks (cx t10 t1) (cx t11 t1)
   s14 = Reborrow.k-back-mref (cx t10 t1) 13 4 2 (Array.Array (Array.Array (Referent.rtF (Referent.fInt Syntax.w32)) 4) 32) y21 y13 [] (λ x. x) λ x. x
   abbrev s16 : Typed.Mo (cx t11 t1) → Typed.Mo (cx t12 t1)
-  s16 = Scalar.n-use (cx t11 t1) (Scalar.oFld 8 ((Syntax.field 4) ∷ []) Syntax.tyBool 80 (Reads.fieldV Reached.the-type Laws'6.the-laws 4)) 9 (Rows.sc-here
+  s16 = Scalar.n-use (cx t11 t1) (Scalar.oFld 8 ((Syntax.field 4) ∷ []) Syntax.tyBool 80 (Reads.fieldV Reached.the-type Laws'7.the-laws 4)) 9 (Rows.sc-here
       Row.sBool) (Row.sBool .of)
   abbrev s17 : Typed.Mo (cx t12 t1) → Typed.Mo (cx t13 t1)
   s17 = Scalar.n-use (cx t12 t1) (Scalar.oAt 9 Syntax.tyBool (Row.valS Row.sBool)) 14 (Rows.sc-here Row.sBool) (Row.sBool .of)
@@ -610,7 +611,7 @@ module _ (claims· : Claims) where
     module _ (M : Type 1) where
       abbrev pub Closed : Type 2
       Closed = (𝓤 : URA.URA M) (H : Wp.Heap 𝓤) (A : Atoms.Atoms 𝓤) (W : Kit.Given 𝓤 H A) (𝓣 : Wp.Tables 𝓤 H) (known0 : Plain.Known 𝓤 H A W 𝓣 0 ps·0 r·0
-          (claims· .0) (claims· .1) "reader::first_cursor") (known1 : Plain.Known 𝓤 H A W 𝓣 3 ps·1 r·1 (claims· .2) (claims· .3) "reader::read_on") (known2 :
+          (claims· .0) (claims· .1) "cursors::first_cursor") (known1 : Plain.Known 𝓤 H A W 𝓣 3 ps·1 r·1 (claims· .2) (claims· .3) "reader::read_on") (known2 :
           Plain.Known 𝓤 H A W 𝓣 2 ps·2 r·2 (claims· .4) (claims· .5) "finder::word_at") (known3 : Plain.Known 𝓤 H A W 𝓣 0 ps·3 r·3 (claims· .6) (claims· .7)
           "finder::covered_of") (known4 : Plain.Known 𝓤 H A W 𝓣 0 ps·4 r·4 (claims· .8) (claims· .9) "finder::cursor_of") → Statement.Triple 𝓤 (Wp.WpFn 𝓤 H (𝓣
           .C) (𝓣 .Λ) (Function.fnOf 3 ps r xs m hs body)) (Function.plainOf 𝓤 H A 3 ps r Pre· Post·)
@@ -761,7 +762,7 @@ module _ (claims· : Claims) where
       Φ = at68
       module _ {M : Type 1} (𝓤 : URA.URA M) (H : Wp.Heap 𝓤) (A : Atoms.Atoms 𝓤) (W : Kit.Given 𝓤 H A) (𝓣 : Wp.Tables 𝓤 H) where
         abbrev Knowns : Type 1
-        Knowns = Plain.Known 𝓤 H A W 𝓣 0 ps·0 r·0 (claims· .0) (claims· .1) "reader::first_cursor" × Plain.Known 𝓤 H A W 𝓣 3 ps·1 r·1 (claims· .2) (claims·
+        Knowns = Plain.Known 𝓤 H A W 𝓣 0 ps·0 r·0 (claims· .0) (claims· .1) "cursors::first_cursor" × Plain.Known 𝓤 H A W 𝓣 3 ps·1 r·1 (claims· .2) (claims·
             .3) "reader::read_on" × Plain.Known 𝓤 H A W 𝓣 2 ps·2 r·2 (claims· .4) (claims· .5) "finder::word_at" × Plain.Known 𝓤 H A W 𝓣 0 ps·3 r·3 (claims·
             .6) (claims· .7) "finder::covered_of" × Plain.Known 𝓤 H A W 𝓣 0 ps·4 r·4 (claims· .8) (claims· .9) "finder::cursor_of"
       module _ (κs : Lifetimes.Lfts 3) (qs : Lifetimes.Shares 3) where
@@ -878,14 +879,14 @@ module _ (claims· : Claims) where
               l0) 8 y8 (Local.room-whole 𝓤 H A W (Declared.row Reached.the-type) y8 Path'.refl)) d5
           d7 : Typed.Typed 𝓤 H A 𝓣 E (gx t12 t1 l0) b10 Δ4 at7
           d7 = Typed.s-seq 𝓤 H A W 𝓣 E (gx t12 t1 l0) (gx t14 t1 l0) b8 b9 Δ4 (Typed.pass (cx t12 t1) (cx t14 t1) s19) at6 (Make.t-struct-make 𝓤 H A W E 𝓣
-              (Apart.apartT Sought.the-type) Laws'3.the-laws Laws'3.the-plain (gx t12 t1 l0) 0 ((Scalar.oAt 8 y8 (Laws'8.val Reached.the-type
-              Laws'6.the-laws)) ∷ (Scalar.oInt Syntax.w64 0) ∷ []) (λ m. (m .1 .1 .1 .1 .1 .1 .1 .1 .0, (0, tt))) (Reads'.room-gone 𝓤 H A y17)
-              ((Reads.reads-struct 𝓤 H A W Reached.the-type Laws'6.the-laws, Path'.refl), (tt, tt)) Path'.refl (λ u. Path'.refl) λ m. Make.is-wt (Apart.apartT
-              Sought.the-type) Laws'3.the-laws (Make.struct-wt Reached.the-type Laws'6.the-laws (Make.struct-wt Run.the-type Laws'7.the-laws (Make.struct-wt
-              Ref.the-type Laws''.the-laws (Make.u32-wt, (Make.u32-wt, tt)), (Make.struct-wt Pair.the-type Laws'5.the-laws (Make.bool-wt, (Make.struct-wt
-              Ref.the-type Laws''.the-laws (Make.u32-wt, (Make.u32-wt, tt)), (Make.struct-wt Ref.the-type Laws''.the-laws (Make.u32-wt, (Make.u32-wt, tt)),
-              tt))), (Make.u64-wt, (Make.u64-wt, (Make.u32-wt, (Whole.enum-wt Context.the-type Laws'.the-laws (tt, (tt, (tt, (tt, (tt, (tt, (tt, tt))))))),
-              (Make.bool-wt, tt))))))), (Make.u64-wt, (Make.u64-wt, (Make.u64-wt, (Make.bool-wt, (Make.bool-wt, (Whole.enum-wt Cause.the-type Laws.the-laws
+              (Apart.apartT Sought.the-type) Laws'6.the-laws Laws'6.the-plain (gx t12 t1 l0) 0 ((Scalar.oAt 8 y8 (Laws'8.val Reached.the-type
+              Laws'7.the-laws)) ∷ (Scalar.oInt Syntax.w64 0) ∷ []) (λ m. (m .1 .1 .1 .1 .1 .1 .1 .1 .0, (0, tt))) (Reads'.room-gone 𝓤 H A y17)
+              ((Reads.reads-struct 𝓤 H A W Reached.the-type Laws'7.the-laws, Path'.refl), (tt, tt)) Path'.refl (λ u. Path'.refl) λ m. Make.is-wt (Apart.apartT
+              Sought.the-type) Laws'6.the-laws (Make.struct-wt Reached.the-type Laws'7.the-laws (Make.struct-wt Run.the-type Laws''.the-laws (Make.struct-wt
+              Ref.the-type Laws'5.the-laws (Make.u32-wt, (Make.u32-wt, tt)), (Make.struct-wt Pair.the-type Laws'.the-laws (Make.bool-wt, (Make.struct-wt
+              Ref.the-type Laws'5.the-laws (Make.u32-wt, (Make.u32-wt, tt)), (Make.struct-wt Ref.the-type Laws'5.the-laws (Make.u32-wt, (Make.u32-wt, tt)),
+              tt))), (Make.u64-wt, (Make.u64-wt, (Make.u32-wt, (Whole.enum-wt Context.the-type Laws'4.the-laws (tt, (tt, (tt, (tt, (tt, (tt, (tt, tt))))))),
+              (Make.bool-wt, tt))))))), (Make.u64-wt, (Make.u64-wt, (Make.u64-wt, (Make.bool-wt, (Make.bool-wt, (Whole.enum-wt Cause.the-type Laws'3.the-laws
               (tt, (tt, (tt, (tt, (tt, (tt, (tt, (tt, (tt, (tt, (tt, (tt, (tt, tt))))))))))))), (Make.u64-wt, tt)))))))), (Make.u64-wt, tt)) (m .1 .1 .1 .1 .1
               .1 .1 .1 .0, (0, tt))) d6
           d8 : Typed.Typed 𝓤 H A 𝓣 E (gx t13 t1 l0) b10 Δ4 at8
@@ -924,15 +925,15 @@ module _ (claims· : Claims) where
               l0) 8 y8 (Local.room-whole 𝓤 H A W (Declared.row Reached.the-type) y8 Path'.refl)) d18
           d20 : Typed.Typed 𝓤 H A 𝓣 E (gx t28 t1 l0) b21 Δ5 at20
           d20 = Typed.s-seq 𝓤 H A W 𝓣 E (gx t28 t1 l0) (gx t32 t1 l0) b19 b20 Δ5 (Typed.pass (cx t28 t1) (cx t32 t1) s45) at19 (Make.t-struct-make 𝓤 H A W E 𝓣
-              (Apart.apartT Sought.the-type) Laws'3.the-laws Laws'3.the-plain (gx t28 t1 l0) 0 ((Scalar.oAt 8 y8 (Laws'8.val Reached.the-type
-              Laws'6.the-laws)) ∷ (Scalar.oAt 10 y3 (Row.valS (Row.sInt Syntax.w64))) ∷ []) (λ m. (m .1 .1 .1 .1 .1 .1 .1 .1 .0, (m .1 .1 .1 .1 .1 .1 .1 .1 .1
-              .1 .0, tt))) (Reads'.room-gone 𝓤 H A y17) ((Reads.reads-struct 𝓤 H A W Reached.the-type Laws'6.the-laws, Path'.refl), ((Scalar.reads-sc 𝓤 H A W
-              (Row.sInt Syntax.w64), Path'.refl), tt)) Path'.refl (λ u. Path'.refl) λ m. Make.is-wt (Apart.apartT Sought.the-type) Laws'3.the-laws
-              (Make.struct-wt Reached.the-type Laws'6.the-laws (Make.struct-wt Run.the-type Laws'7.the-laws (Make.struct-wt Ref.the-type Laws''.the-laws
-              (Make.u32-wt, (Make.u32-wt, tt)), (Make.struct-wt Pair.the-type Laws'5.the-laws (Make.bool-wt, (Make.struct-wt Ref.the-type Laws''.the-laws
-              (Make.u32-wt, (Make.u32-wt, tt)), (Make.struct-wt Ref.the-type Laws''.the-laws (Make.u32-wt, (Make.u32-wt, tt)), tt))), (Make.u64-wt,
-              (Make.u64-wt, (Make.u32-wt, (Whole.enum-wt Context.the-type Laws'.the-laws (tt, (tt, (tt, (tt, (tt, (tt, (tt, tt))))))), (Make.bool-wt,
-              tt))))))), (Make.u64-wt, (Make.u64-wt, (Make.u64-wt, (Make.bool-wt, (Make.bool-wt, (Whole.enum-wt Cause.the-type Laws.the-laws (tt, (tt, (tt,
+              (Apart.apartT Sought.the-type) Laws'6.the-laws Laws'6.the-plain (gx t28 t1 l0) 0 ((Scalar.oAt 8 y8 (Laws'8.val Reached.the-type
+              Laws'7.the-laws)) ∷ (Scalar.oAt 10 y3 (Row.valS (Row.sInt Syntax.w64))) ∷ []) (λ m. (m .1 .1 .1 .1 .1 .1 .1 .1 .0, (m .1 .1 .1 .1 .1 .1 .1 .1 .1
+              .1 .0, tt))) (Reads'.room-gone 𝓤 H A y17) ((Reads.reads-struct 𝓤 H A W Reached.the-type Laws'7.the-laws, Path'.refl), ((Scalar.reads-sc 𝓤 H A W
+              (Row.sInt Syntax.w64), Path'.refl), tt)) Path'.refl (λ u. Path'.refl) λ m. Make.is-wt (Apart.apartT Sought.the-type) Laws'6.the-laws
+              (Make.struct-wt Reached.the-type Laws'7.the-laws (Make.struct-wt Run.the-type Laws''.the-laws (Make.struct-wt Ref.the-type Laws'5.the-laws
+              (Make.u32-wt, (Make.u32-wt, tt)), (Make.struct-wt Pair.the-type Laws'.the-laws (Make.bool-wt, (Make.struct-wt Ref.the-type Laws'5.the-laws
+              (Make.u32-wt, (Make.u32-wt, tt)), (Make.struct-wt Ref.the-type Laws'5.the-laws (Make.u32-wt, (Make.u32-wt, tt)), tt))), (Make.u64-wt,
+              (Make.u64-wt, (Make.u32-wt, (Whole.enum-wt Context.the-type Laws'4.the-laws (tt, (tt, (tt, (tt, (tt, (tt, (tt, tt))))))), (Make.bool-wt,
+              tt))))))), (Make.u64-wt, (Make.u64-wt, (Make.u64-wt, (Make.bool-wt, (Make.bool-wt, (Whole.enum-wt Cause.the-type Laws'3.the-laws (tt, (tt, (tt,
               (tt, (tt, (tt, (tt, (tt, (tt, (tt, (tt, (tt, (tt, tt))))))))))))), (Make.u64-wt, tt)))))))), (Make.u64-wt, tt)) (m .1 .1 .1 .1 .1 .1 .1 .1 .0,
               (m .1 .1 .1 .1 .1 .1 .1 .1 .1 .1 .0, tt))) d19
           d21 : Typed.Typed 𝓤 H A 𝓣 E (gx t30 t1 l0) b21 Δ5 at21
@@ -967,7 +968,7 @@ module _ (claims· : Claims) where
           d29 = Typed.s-seq 𝓤 H A W 𝓣 E (gx t31 t1 l0) (gx t39 t1 l0) b24 b25 Δ3 (Typed.both s55) at28 (Plain.t-call-plain 𝓤 H A W 𝓣 0 ps·4 r·4 (claims· .8)
               (claims· .9) "finder::cursor_of" (known .4) E (λ pos β. β) (gx t31 t1 l0) (record { pos = 8; st = []; d = 0; at = λ x. x }, tt) 6 []
               (Call.sub-id 𝓤 H A W ((gx t31 t1 l0) .slots)) ((Yields.yields-copy 𝓤 H A W (λ ρ. Unit) (Declared.row Reached.the-type) Path'.refl
-              (Copies.cStruct Reached.the-type Laws'6.the-laws Laws'6.the-copy .copy 𝓤 H A W) (Rows.whole (Declared.row Reached.the-type)) (λ x. x) (λ x. x)
+              (Copies.cStruct Reached.the-type Laws'7.the-laws Laws'7.the-copy .copy 𝓤 H A W) (Rows.whole (Declared.row Reached.the-type)) (λ x. x) (λ x. x)
               (λ ρ told. Local.mem-whole 𝓤 H A W (Declared.row Reached.the-type) ρ) λ ρ told. Local.whole-mem 𝓤 H A W (Declared.row Reached.the-type) ρ,
               Path'.refl), tt) (Reads'.room-gone 𝓤 H A y6) tt Path'.refl) d28
           d30 : Typed.Typed 𝓤 H A 𝓣 E (gx t30 t29 l0) b27 Δ3 at30
@@ -982,7 +983,7 @@ module _ (claims· : Claims) where
           d32 = Typed.s-seq 𝓤 H A W 𝓣 E (gx t28 t1 l0) (gx t28 t29 l0) b17 b28 Δ3 (Typed.both s41) at31 (Plain.t-call-plain 𝓤 H A W 𝓣 0 ps·3 r·3 (claims· .6)
               (claims· .7) "finder::covered_of" (known .3) E (λ pos β. β) (gx t28 t1 l0) (record { pos = 8; st = []; d = 0; at = λ x. x }, tt) 18 []
               (Call.sub-id 𝓤 H A W ((gx t28 t1 l0) .slots)) ((Yields.yields-copy 𝓤 H A W (λ ρ. Unit) (Declared.row Reached.the-type) Path'.refl
-              (Copies.cStruct Reached.the-type Laws'6.the-laws Laws'6.the-copy .copy 𝓤 H A W) (Rows.whole (Declared.row Reached.the-type)) (λ x. x) (λ x. x)
+              (Copies.cStruct Reached.the-type Laws'7.the-laws Laws'7.the-copy .copy 𝓤 H A W) (Rows.whole (Declared.row Reached.the-type)) (λ x. x) (λ x. x)
               (λ ρ told. Local.mem-whole 𝓤 H A W (Declared.row Reached.the-type) ρ) λ ρ told. Local.whole-mem 𝓤 H A W (Declared.row Reached.the-type) ρ,
               Path'.refl), tt) (Reads'.room-gone 𝓤 H A y3) tt Path'.refl) d31
           d33 : Typed.Typed 𝓤 H A 𝓣 E (gx t28 t1 l18) b29 Δ3 at33
@@ -1018,7 +1019,7 @@ module _ (claims· : Claims) where
               NodeRecordT.row y14 5, Path'.refl, (ShrRef.spares-sref 𝓤 H A W (Array.Array (Array.Array (Referent.rtF (Referent.fInt Syntax.w32)) 4) 32) y16 6,
               Reads'.reads-sref 𝓤 H A W (Array.Array (Array.Array (Referent.rtF (Referent.fInt Syntax.w32)) 4) 32) y16 6, Path'.refl, ((Scalar.reads-sc 𝓤 H A
               W (Row.sInt Syntax.w32), Path'.refl), ((Yields.yields-copy 𝓤 H A W (λ ρ. Unit) (Declared.row Reached.the-type) Path'.refl (Copies.cStruct
-              Reached.the-type Laws'6.the-laws Laws'6.the-copy .copy 𝓤 H A W) (Rows.whole (Declared.row Reached.the-type)) (λ x. x) (λ x. x) (λ ρ told.
+              Reached.the-type Laws'7.the-laws Laws'7.the-copy .copy 𝓤 H A W) (Rows.whole (Declared.row Reached.the-type)) (λ x. x) (λ x. x) (λ ρ told.
               Local.mem-whole 𝓤 H A W (Declared.row Reached.the-type) ρ) λ ρ told. Local.whole-mem 𝓤 H A W (Declared.row Reached.the-type) ρ, Path'.refl),
               ((Scalar.reads-sc 𝓤 H A W (Row.sInt Syntax.w64), Path'.refl), tt))))) (Reads'.room-gone 𝓤 H A y3) (tt, (tt, tt)) Path'.refl) d40
           d42 : Typed.Typed 𝓤 H A 𝓣 E (gx g21 t22 l12) b31 Δ3 at42
@@ -1050,8 +1051,8 @@ module _ (claims· : Claims) where
               Path'.refl) λ u. tt) d47
           d49 : Typed.Typed 𝓤 H A 𝓣 E (gx t11 t1 l0) b36 Δ3 at49
           d49 = Typed.s-seq 𝓤 H A W 𝓣 E (gx t11 t1 l0) (gx t12 t1 l0) b6 b35 Δ3 (Typed.pass (cx t11 t1) (cx t12 t1) s16) at48 (Scalar.t-use 𝓤 H A W E 𝓣 (gx
-              t11 t1 l0) (Scalar.oFld 8 ((Syntax.field 4) ∷ []) Syntax.tyBool 80 (Reads.fieldV Reached.the-type Laws'6.the-laws 4)) 9 (Rows.sc-here Row.sBool)
-              Syntax.tyBool (Row.valS Row.sBool) (Row.sBool .of) (Reads.reads-field 𝓤 H A W Reached.the-type Laws'6.the-laws 4 Syntax.tyBool 80 Path'.refl,
+              t11 t1 l0) (Scalar.oFld 8 ((Syntax.field 4) ∷ []) Syntax.tyBool 80 (Reads.fieldV Reached.the-type Laws'7.the-laws 4)) 9 (Rows.sc-here Row.sBool)
+              Syntax.tyBool (Row.valS Row.sBool) (Row.sBool .of) (Reads.reads-field 𝓤 H A W Reached.the-type Laws'7.the-laws 4 Syntax.tyBool 80 Path'.refl,
               Path'.refl) (Reads'.room-gone 𝓤 H A Syntax.tyBool) (Scalar.holds-sc 𝓤 H A W Row.sBool) Path'.refl (λ u. Path'.refl) λ u. tt) d48
           d50 : Typed.Typed 𝓤 H A 𝓣 E (gx t11 t1 l9) b36 Δ3 at50
           d50 = Typed.g-pre 𝓤 H A W 𝓣 E (gx t11 t1 l9) (gx t11 t1 l0) b36 Δ3 (λ Ψ. Ψ) at49 (Lifetime.g-forget 𝓤 H A W E (gx t11 t1 l9) 4 Row.dead Path'.refl)
@@ -1084,10 +1085,10 @@ module _ (claims· : Claims) where
               Syntax.w8)) y19 0, Path'.refl, (Reads'.as-is 𝓤 H A (Mut.mslice NodeRecordT.row y9 3), Mut.reads-mslice 𝓤 H A W NodeRecordT.row y9 3, Path'.refl,
               (Reads'.as-is 𝓤 H A (Rows.mref (Array.Array (Array.Array (Referent.rtF (Referent.fInt Syntax.w32)) 4) 32) y13 4), Reads'.reads-mref 𝓤 H A W
               (Array.Array (Array.Array (Referent.rtF (Referent.fInt Syntax.w32)) 4) 32) y13 4, Path'.refl, ((Yields.yields-copy 𝓤 H A W (λ ρ. Unit)
-              (Declared.row Cursor.the-type) Path'.refl (Copies.cStruct Cursor.the-type Laws'4.the-laws Laws'4.the-copy .copy 𝓤 H A W) (Rows.whole
-              (Declared.row Cursor.the-type)) (λ x. x) (λ x. x) (λ ρ told. Local.mem-whole 𝓤 H A W (Declared.row Cursor.the-type) ρ) λ ρ told. Local.whole-mem
-              𝓤 H A W (Declared.row Cursor.the-type) ρ, Path'.refl), ((Scalar.reads-sc 𝓤 H A W (Row.sInt Syntax.w64), Path'.refl), tt)))))) (Reads'.room-gone
-              𝓤 H A y8) (tt, (tt, (tt, tt))) Path'.refl) d56
+              (Declared.row Cursor.the-type) Path'.refl (Copies.cStruct Cursor.the-type Laws.the-laws Laws.the-copy .copy 𝓤 H A W) (Rows.whole (Declared.row
+              Cursor.the-type)) (λ x. x) (λ x. x) (λ ρ told. Local.mem-whole 𝓤 H A W (Declared.row Cursor.the-type) ρ) λ ρ told. Local.whole-mem 𝓤 H A W
+              (Declared.row Cursor.the-type) ρ, Path'.refl), ((Scalar.reads-sc 𝓤 H A W (Row.sInt Syntax.w64), Path'.refl), tt)))))) (Reads'.room-gone 𝓤 H A
+              y8) (tt, (tt, (tt, tt))) Path'.refl) d56
           d58 : Typed.Typed 𝓤 H A 𝓣 E (gx g6 t1 l3) b38 Δ3 at58
           d58 = Typed.s-seq 𝓤 H A W 𝓣 E (gx g6 t1 l3) (gx g7 t1 l4) b4 b37 Δ3 (Typed.give s7) at57 (Reborrow.t-mref-relend 𝓤 H A W E 𝓣 (gx g6 t1 l3) 4 13 2 4
               (Array.Array (Array.Array (Referent.rtF (Referent.fInt Syntax.w32)) 4) 32) y12 y21 y13 K1 (λ x. x) (Reads'.as-is 𝓤 H A (Rows.mref (Array.Array
@@ -1125,7 +1126,7 @@ module _ (claims· : Claims) where
               Syntax.w64)) Path'.refl (λ u. Path'.refl) λ u. tt) d65
           d67 : Typed.Typed 𝓤 H A 𝓣 E (gx t0 t1 l0) b46 Δ0 at67
           d67 = Typed.s-seq 𝓤 H A W 𝓣 E (gx t0 t1 l0) (gx t3 t1 l0) b0 b45 Δ0 (Typed.both s1) at66 (Plain.t-call-plain 𝓤 H A W 𝓣 0 ps·0 r·0 (claims· .0)
-              (claims· .1) "reader::first_cursor" (known .0) E (λ pos β. β) (gx t0 t1 l0) tt 6 [] (Call.sub-id 𝓤 H A W ((gx t0 t1 l0) .slots)) tt
+              (claims· .1) "cursors::first_cursor" (known .0) E (λ pos β. β) (gx t0 t1 l0) tt 6 [] (Call.sub-id 𝓤 H A W ((gx t0 t1 l0) .slots)) tt
               (Reads'.room-gone 𝓤 H A y6) tt Path'.refl) d66
           d68 : Typed.Typed 𝓤 H A 𝓣 E (gx t0 t1 l0) b46 Δ0 at68
           d68 = Typed.g-pre 𝓤 H A W 𝓣 E (gx t0 t1 l0) (gx t0 t1 l0) b46 Δ0 (Typed.give s0) at67 (Know.g-shs-known 𝓤 H A W (Referent.fInt Syntax.w8) E (gx t0
@@ -1633,9 +1634,10 @@ module _ (claims· : Claims) where
           asked = λ a good pre bs. laid record { κs = κs; args = record { n = a .0; s = a .1 .0; t = a .1 .1 .0; o = a .1 .1 .1 .0; w = a .1 .1 .1 .1 .0 };
               good = good; fits = record { n = record { fits = good .0 .1 }; w = record { fits = good .1 .1 .1 .1 .0 .1 } }; pre = pre }
         module _ {M : Type 1} (𝓤 : URA.URA M) (H : Wp.Heap 𝓤) (A : Atoms.Atoms 𝓤) (W : Kit.Given 𝓤 H A) (𝓣 : Wp.Tables 𝓤 H) (known0 : Plain.Known 𝓤 H A W 𝓣 0
-            ps·0 r·0 (claims· .0) (claims· .1) "reader::first_cursor") (known1 : Plain.Known 𝓤 H A W 𝓣 3 ps·1 r·1 (claims· .2) (claims· .3) "reader::read_on")
-            (known2 : Plain.Known 𝓤 H A W 𝓣 2 ps·2 r·2 (claims· .4) (claims· .5) "finder::word_at") (known3 : Plain.Known 𝓤 H A W 𝓣 0 ps·3 r·3 (claims· .6)
-            (claims· .7) "finder::covered_of") (known4 : Plain.Known 𝓤 H A W 𝓣 0 ps·4 r·4 (claims· .8) (claims· .9) "finder::cursor_of") where
+            ps·0 r·0 (claims· .0) (claims· .1) "cursors::first_cursor") (known1 : Plain.Known 𝓤 H A W 𝓣 3 ps·1 r·1 (claims· .2) (claims· .3)
+            "reader::read_on") (known2 : Plain.Known 𝓤 H A W 𝓣 2 ps·2 r·2 (claims· .4) (claims· .5) "finder::word_at") (known3 : Plain.Known 𝓤 H A W 𝓣 0 ps·3
+            r·3 (claims· .6) (claims· .7) "finder::covered_of") (known4 : Plain.Known 𝓤 H A W 𝓣 0 ps·4 r·4 (claims· .8) (claims· .9) "finder::cursor_of")
+            where
           pub spec : Statement.Triple 𝓤 (Wp.WpFn 𝓤 H (𝓣 .C) (𝓣 .Λ) (Function.fnOf 3 ps r xs m hs body)) (Function.plainOf 𝓤 H A 3 ps r Pre· Post·)
           spec = Plain.t-fn-plain 𝓤 H A W 𝓣 3 ps r xs m hs body (λ κs qs bs. Φ) (λ κs qs bs bd. typed κs qs 𝓤 H A W 𝓣 (known0, known1, known2, known3, known4)
               bs bd) Pre· Post· asked

@@ -1,11 +1,11 @@
 -- Generated: the needs of seek at its contract, and how its theorem closes.
--- From 67c274d1b2303cbb, as e2d7323b338c6211.
+-- From 90a438c920363d05, as 900ad3ba66da16a2.
 use borrow.Fn.Run
 use borrow.Fn.Written
 use contract.Running.{givenOf, tablesOf}
-use Rattle.reader.proofs.first_cursor.Reads as first-cursor-reads
-use Rattle.reader.proofs.first_cursor.Met as first-cursor-met
-use Rattle.reader.proofs.first_cursor.Symbol as first-cursor-symbol
+use Rattle.cursors.proofs.first_cursor.Reads as first-cursor-reads
+use Rattle.cursors.proofs.first_cursor.Met as first-cursor-met
+use Rattle.cursors.proofs.first_cursor.Symbol as first-cursor-symbol
 use Rattle.reader.proofs.Lifted.read_on as read-on-reads
 use Rattle.reader.proofs.read_on.Met as read-on-met
 use Rattle.reader.proofs.read_on.Symbol as read-on-symbol
@@ -78,7 +78,7 @@ module _ {M : Type 1} where
   close closed 𝓤 H 𝓜 𝓖 𝓡 =
       Written.close 3 self.ps self.r self.Ghost self.requires self.ensures self.pre-read self.Pinned self.Owned self.post-read record { M = M; 𝓤 = 𝓤; H = H; 𝓜 = 𝓜; 𝓖 = 𝓖; 𝓡 = 𝓡 } code.env Key.name code.function (code.unfolded 𝓤 H 𝓜 𝓡)
       (λ κs a g. tt) (λ κs. self.owns κs record { M = M; 𝓤 = 𝓤; H = H; 𝓜 = 𝓜; 𝓖 = 𝓖; 𝓡 = 𝓡 }) (self.passes record { M = M; 𝓤 = 𝓤; H = H; 𝓜 = 𝓜; 𝓖 = 𝓖; 𝓡 = 𝓡 }) λ g. closed 𝓤 H (𝓖 .A) (givenOf 𝓤 H 𝓜 𝓖) (Run.Over 𝓤 H 𝓜 𝓖 𝓡 code.env)
-      (first-cursor-reads.known record { M = M; 𝓤 = 𝓤; H = H; 𝓜 = 𝓜; 𝓖 = 𝓖; 𝓡 = 𝓡 } code.env first-cursor-symbol.name first-cursor-symbol.routine code.calls-reader·first-cursor (first-cursor-met.met 𝓤 H 𝓜 𝓖 𝓡))
+      (first-cursor-reads.known record { M = M; 𝓤 = 𝓤; H = H; 𝓜 = 𝓜; 𝓖 = 𝓖; 𝓡 = 𝓡 } code.env first-cursor-symbol.name first-cursor-symbol.routine code.calls-cursors·first-cursor (first-cursor-met.met 𝓤 H 𝓜 𝓖 𝓡))
       (read-on-reads.known record { M = M; 𝓤 = 𝓤; H = H; 𝓜 = 𝓜; 𝓖 = 𝓖; 𝓡 = 𝓡 } code.env read-on-symbol.name read-on-symbol.routine code.calls-reader·read-on (read-on-met.met 𝓤 H 𝓜 𝓖 𝓡))
       (word-at-reads.known record { M = M; 𝓤 = 𝓤; H = H; 𝓜 = 𝓜; 𝓖 = 𝓖; 𝓡 = 𝓡 } code.env word-at-symbol.name word-at-symbol.routine code.calls-finder·word-at (word-at-met.met 𝓤 H 𝓜 𝓖 𝓡))
       (covered-of-reads.known record { M = M; 𝓤 = 𝓤; H = H; 𝓜 = 𝓜; 𝓖 = 𝓖; 𝓡 = 𝓡 } code.env covered-of-symbol.name covered-of-symbol.routine code.calls-finder·covered-of (covered-of-met.met 𝓤 H 𝓜 𝓖 𝓡))

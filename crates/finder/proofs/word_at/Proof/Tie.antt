@@ -1,5 +1,5 @@
 -- Generated: the needs of word_at at its contract, and how its theorem closes.
--- From 67c274d1b2303cbb, as 9fa8624274985eff.
+-- From 90a438c920363d05, as 9fa8624274985eff.
 use borrow.Fn.Run
 use borrow.Fn.Written
 use contract.Running.{givenOf, tablesOf}

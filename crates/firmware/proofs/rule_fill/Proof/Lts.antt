@@ -1,10 +1,10 @@
 -- Generated: the derivation of a body.
--- From 0c52cd1f2588af46, as c4e5f306202c1b75.
+-- From 563b33430e11fb72, as 90891f7d7c993af9.
 use Prim.Native.Nat
+use Rattle.answers.proofs.Filling
+use Rattle.answers.proofs.Filling.Laws
 use Rattle.c_answers.proofs.RuleFilled
-use Rattle.c_answers.proofs.RuleFilled.Laws
-use Rattle.filler.proofs.Filling
-use Rattle.filler.proofs.Filling.Laws as Laws'
+use Rattle.c_answers.proofs.RuleFilled.Laws as Laws'
 use Rattle.node_records.proofs.Tables.NodeRecord as NodeRecordT
 use borrow.Author.Called
 use borrow.Fn.Any
@@ -67,11 +67,11 @@ y1 = Syntax.tyInt Syntax.w32
 abbrev y2 : Syntax.Ty
 y2 = Syntax.tyInt Syntax.w64
 abbrev y3 : Syntax.Ty
-y3 = Syntax.tyStruct (99 ∷ 104 ∷ 101 ∷ 99 ∷ 107 ∷ 101 ∷ 114 ∷ 58 ∷ 58 ∷ 82 ∷ 101 ∷ 102 ∷ 117 ∷ 115 ∷ 97 ∷ 108 ∷ []) (Syntax.tcons y0 (Syntax.tcons y1
+y3 = Syntax.tyStruct (97 ∷ 110 ∷ 115 ∷ 119 ∷ 101 ∷ 114 ∷ 115 ∷ 58 ∷ 58 ∷ 82 ∷ 101 ∷ 102 ∷ 117 ∷ 115 ∷ 97 ∷ 108 ∷ []) (Syntax.tcons y0 (Syntax.tcons y1
     (Syntax.tcons y2 Syntax.tnil)))
 abbrev y4 : Syntax.Ty
-y4 = Syntax.tyEnum (102 ∷ 105 ∷ 108 ∷ 108 ∷ 101 ∷ 114 ∷ 58 ∷ 58 ∷ 70 ∷ 105 ∷ 108 ∷ 108 ∷ 105 ∷ 110 ∷ 103 ∷ []) (Syntax.ttcons (Syntax.tcons y3 Syntax.tnil)
-    (Syntax.ttcons (Syntax.tcons y2 Syntax.tnil) Syntax.ttnil))
+y4 = Syntax.tyEnum (97 ∷ 110 ∷ 115 ∷ 119 ∷ 101 ∷ 114 ∷ 115 ∷ 58 ∷ 58 ∷ 70 ∷ 105 ∷ 108 ∷ 108 ∷ 105 ∷ 110 ∷ 103 ∷ []) (Syntax.ttcons (Syntax.tcons y3
+    Syntax.tnil) (Syntax.ttcons (Syntax.tcons y2 Syntax.tnil) Syntax.ttnil))
 abbrev y5 : Syntax.Ty
 y5 = Syntax.tyInt Syntax.w8
 abbrev y6 : Syntax.Ty
@@ -135,11 +135,11 @@ abbrev pub ps : List (Kinds.PK 3)
 ps = (Num.pNum Syntax.w32) ∷ (ShrSlice.pShrS (Referent.rtF (Referent.fInt Syntax.w8)) 0 tt) ∷ (MutSlice.pMutS (Referent.rtF (Referent.fInt Syntax.w8)) 1 tt) ∷
     (MutSlice.pMutS NodeRecordT.row 2 tt) ∷ []
 abbrev pub r : Kinds.RK 3
-r = Value.rVal record { ty = Declared'.row RuleFilled.the-type; one = Path'.refl; val = Laws'3.val RuleFilled.the-type Laws.the-laws; tells = Laws'3.tells
-    RuleFilled.the-type Laws.the-laws; still = Laws'3.still RuleFilled.the-type Laws.the-copy Exit.yes; row = Rows.whole (Declared'.row RuleFilled.the-type);
-    rd = λ x. x; mk = λ x. x } λ M 𝓤 H A W. record { copies = Laws'3.copy RuleFilled.the-type Laws.the-copy 𝓤 H A W; lawful = Laws'3.lawful
-    RuleFilled.the-type Laws.the-laws 𝓤 H A W; makes = Laws'3.makes RuleFilled.the-type Laws.the-plain 𝓤 H A; in-mem = Local.mem-whole 𝓤 H A W (Declared'.row
-    RuleFilled.the-type); of-mem = Local.whole-mem 𝓤 H A W (Declared'.row RuleFilled.the-type) }
+r = Value.rVal record { ty = Declared'.row RuleFilled.the-type; one = Path'.refl; val = Laws'3.val RuleFilled.the-type Laws'.the-laws; tells = Laws'3.tells
+    RuleFilled.the-type Laws'.the-laws; still = Laws'3.still RuleFilled.the-type Laws'.the-copy Exit.yes; row = Rows.whole (Declared'.row
+    RuleFilled.the-type); rd = λ x. x; mk = λ x. x } λ M 𝓤 H A W. record { copies = Laws'3.copy RuleFilled.the-type Laws'.the-copy 𝓤 H A W; lawful =
+    Laws'3.lawful RuleFilled.the-type Laws'.the-laws 𝓤 H A W; makes = Laws'3.makes RuleFilled.the-type Laws'.the-plain 𝓤 H A; in-mem = Local.mem-whole 𝓤 H A W
+    (Declared'.row RuleFilled.the-type); of-mem = Local.whole-mem 𝓤 H A W (Declared'.row RuleFilled.the-type) }
 abbrev pub xs : List Syntax.Ty
 xs = y4 ∷ y6 ∷ y7 ∷ y8 ∷ y9 ∷ []
 abbrev pub m : Nat.ℕ
@@ -148,23 +148,23 @@ abbrev pub ps·0 : List (Kinds.PK 3)
 ps·0 = (Num.pNum Syntax.w32) ∷ (ShrSlice.pShrS (Referent.rtF (Referent.fInt Syntax.w8)) 0 tt) ∷ (MutSlice.pMutS (Referent.rtF (Referent.fInt Syntax.w8)) 1 tt)
     ∷ (MutSlice.pMutS NodeRecordT.row 2 tt) ∷ []
 abbrev pub r·0 : Kinds.RK 3
-r·0 = Value.rVal record { ty = Declared.row Filling.the-type; one = Path'.refl; val = Laws''.val Filling.the-type Laws'.the-laws; tells = Laws''.tells
-    Filling.the-type Laws'.the-laws; still = Laws''.still Filling.the-type Laws'.the-copy Exit.yes; row = Rows.whole (Declared.row Filling.the-type); rd = λ
-    x. x; mk = λ x. x } λ M 𝓤 H A W. record { copies = Laws''.copy Filling.the-type Laws'.the-copy 𝓤 H A W; lawful = Laws''.lawful Filling.the-type
-    Laws'.the-laws 𝓤 H A W tt; makes = Laws''.makes Filling.the-type Laws'.the-plain 𝓤 H A; in-mem = Local.mem-whole 𝓤 H A W (Declared.row Filling.the-type);
-    of-mem = Local.whole-mem 𝓤 H A W (Declared.row Filling.the-type) }
+r·0 = Value.rVal record { ty = Declared.row Filling.the-type; one = Path'.refl; val = Laws''.val Filling.the-type Laws.the-laws; tells = Laws''.tells
+    Filling.the-type Laws.the-laws; still = Laws''.still Filling.the-type Laws.the-copy Exit.yes; row = Rows.whole (Declared.row Filling.the-type); rd = λ x.
+    x; mk = λ x. x } λ M 𝓤 H A W. record { copies = Laws''.copy Filling.the-type Laws.the-copy 𝓤 H A W; lawful = Laws''.lawful Filling.the-type Laws.the-laws
+    𝓤 H A W tt; makes = Laws''.makes Filling.the-type Laws.the-plain 𝓤 H A; in-mem = Local.mem-whole 𝓤 H A W (Declared.row Filling.the-type); of-mem =
+    Local.whole-mem 𝓤 H A W (Declared.row Filling.the-type) }
 abbrev pub ps·1 : List (Kinds.PK 0)
-ps·1 = (Value.pVal record { ty = Declared.row Filling.the-type; one = Path'.refl; val = Laws''.val Filling.the-type Laws'.the-laws; tells = Laws''.tells
-    Filling.the-type Laws'.the-laws; still = Laws''.still Filling.the-type Laws'.the-copy Exit.yes; row = Rows.whole (Declared.row Filling.the-type); rd = λ
-    x. x; mk = λ x. x } λ M 𝓤 H A W. record { copies = Laws''.copy Filling.the-type Laws'.the-copy 𝓤 H A W; lawful = Laws''.lawful Filling.the-type
-    Laws'.the-laws 𝓤 H A W tt; makes = Laws''.makes Filling.the-type Laws'.the-plain 𝓤 H A; in-mem = Local.mem-whole 𝓤 H A W (Declared.row Filling.the-type);
-    of-mem = Local.whole-mem 𝓤 H A W (Declared.row Filling.the-type) }) ∷ []
+ps·1 = (Value.pVal record { ty = Declared.row Filling.the-type; one = Path'.refl; val = Laws''.val Filling.the-type Laws.the-laws; tells = Laws''.tells
+    Filling.the-type Laws.the-laws; still = Laws''.still Filling.the-type Laws.the-copy Exit.yes; row = Rows.whole (Declared.row Filling.the-type); rd = λ x.
+    x; mk = λ x. x } λ M 𝓤 H A W. record { copies = Laws''.copy Filling.the-type Laws.the-copy 𝓤 H A W; lawful = Laws''.lawful Filling.the-type Laws.the-laws
+    𝓤 H A W tt; makes = Laws''.makes Filling.the-type Laws.the-plain 𝓤 H A; in-mem = Local.mem-whole 𝓤 H A W (Declared.row Filling.the-type); of-mem =
+    Local.whole-mem 𝓤 H A W (Declared.row Filling.the-type) }) ∷ []
 abbrev pub r·1 : Kinds.RK 0
-r·1 = Value.rVal record { ty = Declared'.row RuleFilled.the-type; one = Path'.refl; val = Laws'3.val RuleFilled.the-type Laws.the-laws; tells = Laws'3.tells
-    RuleFilled.the-type Laws.the-laws; still = Laws'3.still RuleFilled.the-type Laws.the-copy Exit.yes; row = Rows.whole (Declared'.row RuleFilled.the-type);
-    rd = λ x. x; mk = λ x. x } λ M 𝓤 H A W. record { copies = Laws'3.copy RuleFilled.the-type Laws.the-copy 𝓤 H A W; lawful = Laws'3.lawful
-    RuleFilled.the-type Laws.the-laws 𝓤 H A W; makes = Laws'3.makes RuleFilled.the-type Laws.the-plain 𝓤 H A; in-mem = Local.mem-whole 𝓤 H A W (Declared'.row
-    RuleFilled.the-type); of-mem = Local.whole-mem 𝓤 H A W (Declared'.row RuleFilled.the-type) }
+r·1 = Value.rVal record { ty = Declared'.row RuleFilled.the-type; one = Path'.refl; val = Laws'3.val RuleFilled.the-type Laws'.the-laws; tells = Laws'3.tells
+    RuleFilled.the-type Laws'.the-laws; still = Laws'3.still RuleFilled.the-type Laws'.the-copy Exit.yes; row = Rows.whole (Declared'.row
+    RuleFilled.the-type); rd = λ x. x; mk = λ x. x } λ M 𝓤 H A W. record { copies = Laws'3.copy RuleFilled.the-type Laws'.the-copy 𝓤 H A W; lawful =
+    Laws'3.lawful RuleFilled.the-type Laws'.the-laws 𝓤 H A W; makes = Laws'3.makes RuleFilled.the-type Laws'.the-plain 𝓤 H A; in-mem = Local.mem-whole 𝓤 H A W
+    (Declared'.row RuleFilled.the-type); of-mem = Local.whole-mem 𝓤 H A W (Declared'.row RuleFilled.the-type) }
 abbrev pub hs : List Syntax.Home
 hs = Syntax.valueLocal ∷ Syntax.valueLocal ∷ Syntax.valueLocal ∷ Syntax.valueLocal ∷ Syntax.valueLocal ∷ Syntax.valueLocal ∷ Syntax.valueLocal ∷
     Syntax.valueLocal ∷ Syntax.valueLocal ∷ Syntax.valueLocal ∷ []
@@ -439,8 +439,8 @@ module _ (claims· : Claims) where
           d3 : Typed.Typed 𝓤 H A 𝓣 E G17 b7 Δ0 at3
           d3 = Typed.s-seq 𝓤 H A W 𝓣 E G17 G18 b5 b6 Δ0 (Typed.both s16) at2 (Plain.t-call-plain 𝓤 H A W 𝓣 0 ps·1 r·1 (claims· .2) (claims· .3)
               "c_answers::filled_numbers" (known .1) E (λ pos β. β) G17 (record { pos = 5; st = []; d = 0; at = λ x. x }, tt) 0 [] (Call.sub-id 𝓤 H A W (G17
-              .slots)) ((Yields.yields-copy 𝓤 H A W (λ ρ. Unit) (Declared.row Filling.the-type) Path'.refl (Copies.cEnum Filling.the-type Laws'.the-laws
-              Laws'.the-copy .copy 𝓤 H A W) (Rows.whole (Declared.row Filling.the-type)) (λ x. x) (λ x. x) (λ ρ told. Local.mem-whole 𝓤 H A W (Declared.row
+              .slots)) ((Yields.yields-copy 𝓤 H A W (λ ρ. Unit) (Declared.row Filling.the-type) Path'.refl (Copies.cEnum Filling.the-type Laws.the-laws
+              Laws.the-copy .copy 𝓤 H A W) (Rows.whole (Declared.row Filling.the-type)) (λ x. x) (λ x. x) (λ ρ told. Local.mem-whole 𝓤 H A W (Declared.row
               Filling.the-type) ρ) λ ρ told. Local.whole-mem 𝓤 H A W (Declared.row Filling.the-type) ρ, Path'.refl), tt) (Reads.room-gone 𝓤 H A y10) tt
               Path'.refl) d2
           d4 : Typed.Typed 𝓤 H A 𝓣 E G16 b7 Δ0 at4

@@ -1,5 +1,5 @@
 -- Generated: the needs of rule_fill at its contract, and how its theorem closes.
--- From 0c52cd1f2588af46, as ca9dd90acd24ca2e.
+-- From 563b33430e11fb72, as ca9dd90acd24ca2e.
 use borrow.Fn.Run
 use borrow.Fn.Written
 use contract.Running.{givenOf, tablesOf}

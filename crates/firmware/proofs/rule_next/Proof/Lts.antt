@@ -1,10 +1,10 @@
 -- Generated: the derivation of a body.
--- From 0c52cd1f2588af46, as 105798ada128eb72.
+-- From 563b33430e11fb72, as b3e894c570143545.
 use Prim.Native.Nat
+use Rattle.answers.proofs.Finding
+use Rattle.answers.proofs.Finding.Laws
 use Rattle.c_answers.proofs.RuleFound
-use Rattle.c_answers.proofs.RuleFound.Laws
-use Rattle.finder.proofs.Finding
-use Rattle.finder.proofs.Finding.Laws as Laws'
+use Rattle.c_answers.proofs.RuleFound.Laws as Laws'
 use Rattle.node_records.proofs.Tables.NodeRecord as NodeRecordT
 use borrow.Author.Called
 use borrow.Fn.Any
@@ -67,14 +67,14 @@ y1 = Syntax.tyInt Syntax.w32
 abbrev y2 : Syntax.Ty
 y2 = Syntax.tyInt Syntax.w64
 abbrev y3 : Syntax.Ty
-y3 = Syntax.tyStruct (99 ∷ 104 ∷ 101 ∷ 99 ∷ 107 ∷ 101 ∷ 114 ∷ 58 ∷ 58 ∷ 82 ∷ 101 ∷ 102 ∷ 117 ∷ 115 ∷ 97 ∷ 108 ∷ []) (Syntax.tcons y0 (Syntax.tcons y1
+y3 = Syntax.tyStruct (97 ∷ 110 ∷ 115 ∷ 119 ∷ 101 ∷ 114 ∷ 115 ∷ 58 ∷ 58 ∷ 82 ∷ 101 ∷ 102 ∷ 117 ∷ 115 ∷ 97 ∷ 108 ∷ []) (Syntax.tcons y0 (Syntax.tcons y1
     (Syntax.tcons y2 Syntax.tnil)))
 abbrev y4 : Syntax.Ty
-y4 = Syntax.tyEnum (102 ∷ 105 ∷ 110 ∷ 100 ∷ 101 ∷ 114 ∷ 58 ∷ 58 ∷ 78 ∷ 101 ∷ 120 ∷ 116 ∷ 87 ∷ 111 ∷ 114 ∷ 100 ∷ []) (Syntax.ttcons (Syntax.tcons y2
+y4 = Syntax.tyEnum (97 ∷ 110 ∷ 115 ∷ 119 ∷ 101 ∷ 114 ∷ 115 ∷ 58 ∷ 58 ∷ 78 ∷ 101 ∷ 120 ∷ 116 ∷ 87 ∷ 111 ∷ 114 ∷ 100 ∷ []) (Syntax.ttcons (Syntax.tcons y2
     Syntax.tnil) (Syntax.ttcons Syntax.tnil (Syntax.ttcons Syntax.tnil Syntax.ttnil)))
 abbrev y5 : Syntax.Ty
-y5 = Syntax.tyEnum (102 ∷ 105 ∷ 110 ∷ 100 ∷ 101 ∷ 114 ∷ 58 ∷ 58 ∷ 70 ∷ 105 ∷ 110 ∷ 100 ∷ 105 ∷ 110 ∷ 103 ∷ []) (Syntax.ttcons (Syntax.tcons y3 Syntax.tnil)
-    (Syntax.ttcons (Syntax.tcons y4 Syntax.tnil) Syntax.ttnil))
+y5 = Syntax.tyEnum (97 ∷ 110 ∷ 115 ∷ 119 ∷ 101 ∷ 114 ∷ 115 ∷ 58 ∷ 58 ∷ 70 ∷ 105 ∷ 110 ∷ 100 ∷ 105 ∷ 110 ∷ 103 ∷ []) (Syntax.ttcons (Syntax.tcons y3
+    Syntax.tnil) (Syntax.ttcons (Syntax.tcons y4 Syntax.tnil) Syntax.ttnil))
 abbrev y6 : Syntax.Ty
 y6 = Syntax.tyRef Syntax.erased Syntax.mut NodeRecordT.behind
 abbrev y7 : Syntax.Ty
@@ -122,11 +122,11 @@ abbrev pub ps : List (Kinds.PK 2)
 ps = (Num.pNum Syntax.w32) ∷ (ShrSlice.pShrS (Referent.rtF (Referent.fInt Syntax.w8)) 0 tt) ∷ (Num.pNum Syntax.w64) ∷ (MutSlice.pMutS NodeRecordT.row 1 tt) ∷
     []
 abbrev pub r : Kinds.RK 2
-r = Value.rVal record { ty = Declared'.row RuleFound.the-type; one = Path'.refl; val = Laws'3.val RuleFound.the-type Laws.the-laws; tells = Laws'3.tells
-    RuleFound.the-type Laws.the-laws; still = Laws'3.still RuleFound.the-type Laws.the-copy Exit.yes; row = Rows.whole (Declared'.row RuleFound.the-type); rd
-    = λ x. x; mk = λ x. x } λ M 𝓤 H A W. record { copies = Laws'3.copy RuleFound.the-type Laws.the-copy 𝓤 H A W; lawful = Laws'3.lawful RuleFound.the-type
-    Laws.the-laws 𝓤 H A W; makes = Laws'3.makes RuleFound.the-type Laws.the-plain 𝓤 H A; in-mem = Local.mem-whole 𝓤 H A W (Declared'.row RuleFound.the-type);
-    of-mem = Local.whole-mem 𝓤 H A W (Declared'.row RuleFound.the-type) }
+r = Value.rVal record { ty = Declared'.row RuleFound.the-type; one = Path'.refl; val = Laws'3.val RuleFound.the-type Laws'.the-laws; tells = Laws'3.tells
+    RuleFound.the-type Laws'.the-laws; still = Laws'3.still RuleFound.the-type Laws'.the-copy Exit.yes; row = Rows.whole (Declared'.row RuleFound.the-type);
+    rd = λ x. x; mk = λ x. x } λ M 𝓤 H A W. record { copies = Laws'3.copy RuleFound.the-type Laws'.the-copy 𝓤 H A W; lawful = Laws'3.lawful RuleFound.the-type
+    Laws'.the-laws 𝓤 H A W; makes = Laws'3.makes RuleFound.the-type Laws'.the-plain 𝓤 H A; in-mem = Local.mem-whole 𝓤 H A W (Declared'.row
+    RuleFound.the-type); of-mem = Local.whole-mem 𝓤 H A W (Declared'.row RuleFound.the-type) }
 abbrev pub xs : List Syntax.Ty
 xs = y5 ∷ y6 ∷ y7 ∷ []
 abbrev pub m : Nat.ℕ
@@ -135,23 +135,23 @@ abbrev pub ps·0 : List (Kinds.PK 2)
 ps·0 = (Num.pNum Syntax.w32) ∷ (ShrSlice.pShrS (Referent.rtF (Referent.fInt Syntax.w8)) 0 tt) ∷ (Num.pNum Syntax.w64) ∷ (MutSlice.pMutS NodeRecordT.row 1 tt)
     ∷ []
 abbrev pub r·0 : Kinds.RK 2
-r·0 = Value.rVal record { ty = Declared.row Finding.the-type; one = Path'.refl; val = Laws''.val Finding.the-type Laws'.the-laws; tells = Laws''.tells
-    Finding.the-type Laws'.the-laws; still = Laws''.still Finding.the-type Laws'.the-copy Exit.yes; row = Rows.whole (Declared.row Finding.the-type); rd = λ
-    x. x; mk = λ x. x } λ M 𝓤 H A W. record { copies = Laws''.copy Finding.the-type Laws'.the-copy 𝓤 H A W; lawful = Laws''.lawful Finding.the-type
-    Laws'.the-laws 𝓤 H A W tt; makes = Laws''.makes Finding.the-type Laws'.the-plain 𝓤 H A; in-mem = Local.mem-whole 𝓤 H A W (Declared.row Finding.the-type);
-    of-mem = Local.whole-mem 𝓤 H A W (Declared.row Finding.the-type) }
+r·0 = Value.rVal record { ty = Declared.row Finding.the-type; one = Path'.refl; val = Laws''.val Finding.the-type Laws.the-laws; tells = Laws''.tells
+    Finding.the-type Laws.the-laws; still = Laws''.still Finding.the-type Laws.the-copy Exit.yes; row = Rows.whole (Declared.row Finding.the-type); rd = λ x.
+    x; mk = λ x. x } λ M 𝓤 H A W. record { copies = Laws''.copy Finding.the-type Laws.the-copy 𝓤 H A W; lawful = Laws''.lawful Finding.the-type Laws.the-laws
+    𝓤 H A W tt; makes = Laws''.makes Finding.the-type Laws.the-plain 𝓤 H A; in-mem = Local.mem-whole 𝓤 H A W (Declared.row Finding.the-type); of-mem =
+    Local.whole-mem 𝓤 H A W (Declared.row Finding.the-type) }
 abbrev pub ps·1 : List (Kinds.PK 0)
-ps·1 = (Value.pVal record { ty = Declared.row Finding.the-type; one = Path'.refl; val = Laws''.val Finding.the-type Laws'.the-laws; tells = Laws''.tells
-    Finding.the-type Laws'.the-laws; still = Laws''.still Finding.the-type Laws'.the-copy Exit.yes; row = Rows.whole (Declared.row Finding.the-type); rd = λ
-    x. x; mk = λ x. x } λ M 𝓤 H A W. record { copies = Laws''.copy Finding.the-type Laws'.the-copy 𝓤 H A W; lawful = Laws''.lawful Finding.the-type
-    Laws'.the-laws 𝓤 H A W tt; makes = Laws''.makes Finding.the-type Laws'.the-plain 𝓤 H A; in-mem = Local.mem-whole 𝓤 H A W (Declared.row Finding.the-type);
-    of-mem = Local.whole-mem 𝓤 H A W (Declared.row Finding.the-type) }) ∷ []
+ps·1 = (Value.pVal record { ty = Declared.row Finding.the-type; one = Path'.refl; val = Laws''.val Finding.the-type Laws.the-laws; tells = Laws''.tells
+    Finding.the-type Laws.the-laws; still = Laws''.still Finding.the-type Laws.the-copy Exit.yes; row = Rows.whole (Declared.row Finding.the-type); rd = λ x.
+    x; mk = λ x. x } λ M 𝓤 H A W. record { copies = Laws''.copy Finding.the-type Laws.the-copy 𝓤 H A W; lawful = Laws''.lawful Finding.the-type Laws.the-laws
+    𝓤 H A W tt; makes = Laws''.makes Finding.the-type Laws.the-plain 𝓤 H A; in-mem = Local.mem-whole 𝓤 H A W (Declared.row Finding.the-type); of-mem =
+    Local.whole-mem 𝓤 H A W (Declared.row Finding.the-type) }) ∷ []
 abbrev pub r·1 : Kinds.RK 0
-r·1 = Value.rVal record { ty = Declared'.row RuleFound.the-type; one = Path'.refl; val = Laws'3.val RuleFound.the-type Laws.the-laws; tells = Laws'3.tells
-    RuleFound.the-type Laws.the-laws; still = Laws'3.still RuleFound.the-type Laws.the-copy Exit.yes; row = Rows.whole (Declared'.row RuleFound.the-type); rd
-    = λ x. x; mk = λ x. x } λ M 𝓤 H A W. record { copies = Laws'3.copy RuleFound.the-type Laws.the-copy 𝓤 H A W; lawful = Laws'3.lawful RuleFound.the-type
-    Laws.the-laws 𝓤 H A W; makes = Laws'3.makes RuleFound.the-type Laws.the-plain 𝓤 H A; in-mem = Local.mem-whole 𝓤 H A W (Declared'.row RuleFound.the-type);
-    of-mem = Local.whole-mem 𝓤 H A W (Declared'.row RuleFound.the-type) }
+r·1 = Value.rVal record { ty = Declared'.row RuleFound.the-type; one = Path'.refl; val = Laws'3.val RuleFound.the-type Laws'.the-laws; tells = Laws'3.tells
+    RuleFound.the-type Laws'.the-laws; still = Laws'3.still RuleFound.the-type Laws'.the-copy Exit.yes; row = Rows.whole (Declared'.row RuleFound.the-type);
+    rd = λ x. x; mk = λ x. x } λ M 𝓤 H A W. record { copies = Laws'3.copy RuleFound.the-type Laws'.the-copy 𝓤 H A W; lawful = Laws'3.lawful RuleFound.the-type
+    Laws'.the-laws 𝓤 H A W; makes = Laws'3.makes RuleFound.the-type Laws'.the-plain 𝓤 H A; in-mem = Local.mem-whole 𝓤 H A W (Declared'.row
+    RuleFound.the-type); of-mem = Local.whole-mem 𝓤 H A W (Declared'.row RuleFound.the-type) }
 abbrev pub hs : List Syntax.Home
 hs = Syntax.valueLocal ∷ Syntax.valueLocal ∷ Syntax.valueLocal ∷ Syntax.valueLocal ∷ Syntax.valueLocal ∷ Syntax.valueLocal ∷ Syntax.valueLocal ∷
     Syntax.valueLocal ∷ []
@@ -352,8 +352,8 @@ module _ (claims· : Claims) where
           d4 : Typed.Typed 𝓤 H A 𝓣 E G9 b5 Δ0 at4
           d4 = Typed.s-seq 𝓤 H A W 𝓣 E G9 G10 b3 b4 Δ0 (Typed.both s8) at3 (Plain.t-call-plain 𝓤 H A W 𝓣 0 ps·1 r·1 (claims· .2) (claims· .3)
               "c_answers::found_numbers" (known .1) E (λ pos β. β) G9 (record { pos = 5; st = []; d = 0; at = λ x. x }, tt) 0 [] (Call.sub-id 𝓤 H A W (G9
-              .slots)) ((Yields.yields-copy 𝓤 H A W (λ ρ. Unit) (Declared.row Finding.the-type) Path'.refl (Copies.cEnum Finding.the-type Laws'.the-laws
-              Laws'.the-copy .copy 𝓤 H A W) (Rows.whole (Declared.row Finding.the-type)) (λ x. x) (λ x. x) (λ ρ told. Local.mem-whole 𝓤 H A W (Declared.row
+              .slots)) ((Yields.yields-copy 𝓤 H A W (λ ρ. Unit) (Declared.row Finding.the-type) Path'.refl (Copies.cEnum Finding.the-type Laws.the-laws
+              Laws.the-copy .copy 𝓤 H A W) (Rows.whole (Declared.row Finding.the-type)) (λ x. x) (λ x. x) (λ ρ told. Local.mem-whole 𝓤 H A W (Declared.row
               Finding.the-type) ρ) λ ρ told. Local.whole-mem 𝓤 H A W (Declared.row Finding.the-type) ρ, Path'.refl), tt) (Reads.room-gone 𝓤 H A y8) tt
               Path'.refl) d3
           d5 : Typed.Typed 𝓤 H A 𝓣 E G8 b5 Δ0 at5

@@ -1,5 +1,5 @@
 -- Generated: the derivation of a body.
--- From e4aa2fca922e7372, as 76294037d6738c39.
+-- From f8e79c18ec1e894a, as a293b72c86a81765.
 use Prim.Native.Nat
 use Rattle.meeting.proofs.Writing
 use Rattle.meeting.proofs.Writing.Laws
@@ -108,7 +108,7 @@ y14 = Syntax.tyEnum (101 ∷ 108 ∷ 101 ∷ 109 ∷ 101 ∷ 110 ∷ 116 ∷ 115
 abbrev y15 : Syntax.Ty
 y15 = Syntax.tyInt Syntax.w32
 abbrev y16 : Syntax.Ty
-y16 = Syntax.tyStruct (99 ∷ 104 ∷ 101 ∷ 99 ∷ 107 ∷ 101 ∷ 114 ∷ 58 ∷ 58 ∷ 82 ∷ 101 ∷ 102 ∷ 117 ∷ 115 ∷ 97 ∷ 108 ∷ []) (Syntax.tcons y14 (Syntax.tcons y15
+y16 = Syntax.tyStruct (97 ∷ 110 ∷ 115 ∷ 119 ∷ 101 ∷ 114 ∷ 115 ∷ 58 ∷ 58 ∷ 82 ∷ 101 ∷ 102 ∷ 117 ∷ 115 ∷ 97 ∷ 108 ∷ []) (Syntax.tcons y14 (Syntax.tcons y15
     (Syntax.tcons y4 Syntax.tnil)))
 abbrev y17 : Syntax.Ty
 y17 = Syntax.tyEnum (109 ∷ 101 ∷ 101 ∷ 116 ∷ 105 ∷ 110 ∷ 103 ∷ 58 ∷ 58 ∷ 69 ∷ 110 ∷ 100 ∷ 105 ∷ 110 ∷ 103 ∷ []) (Syntax.ttcons Syntax.tnil (Syntax.ttcons

@@ -1,5 +1,5 @@
 -- Generated: the derivation of a body.
--- From cbbf837f6d54603c, as 7320ea13d23ea94c.
+-- From 3f3eb5e44809b88c, as dd3e6eb2149d740a.
 use Prim.Native.Nat
 use Rattle.meeting.proofs.Half
 use Rattle.meeting.proofs.Half.Laws
@@ -401,7 +401,7 @@ b20 = Syntax.assign (Syntax.place 24 []) (Syntax.addrOf (Syntax.place 7 ((Syntax
 abbrev b21 : Syntax.Body
 b21 = Syntax.assign (Syntax.place 25 []) (Syntax.aggregate ((Syntax.copy (Syntax.place 24 [])) ∷ (Syntax.copy (Syntax.place 7 ((Syntax.field 1) ∷ []))) ∷ []))
 abbrev b22 : Syntax.Body
-b22 = Syntax.call "writer_records::either" ((Syntax.copy (Syntax.place 4 [])) ∷ (Syntax.int Syntax.w32 1) ∷ (Syntax.int Syntax.w32 0) ∷ []) (Syntax.place 26
+b22 = Syntax.call "writer_numbers::either" ((Syntax.copy (Syntax.place 4 [])) ∷ (Syntax.int Syntax.w32 1) ∷ (Syntax.int Syntax.w32 0) ∷ []) (Syntax.place 26
     [])
 abbrev b23 : Syntax.Body
 b23 = Syntax.call "unique_table::store" ((Syntax.copy (Syntax.place 25 [])) ∷ (Syntax.copy (Syntax.place 11 [])) ∷ (Syntax.copy (Syntax.place 12 [])) ∷
@@ -431,7 +431,7 @@ b32 = Syntax.call "meeting::send_node" ((Syntax.copy (Syntax.place 3 [])) ∷ (S
 abbrev b33 : Syntax.Body
 b33 = Syntax.assign (Syntax.place 17 []) (Syntax.op2 (Syntax.lt Syntax.unsigned) (Syntax.copy (Syntax.place 11 [])) (Syntax.copy (Syntax.place 1 [])))
 abbrev b34 : Syntax.Body
-b34 = Syntax.call "writer_records::either" ((Syntax.copy (Syntax.place 17 [])) ∷ (Syntax.copy (Syntax.place 1 [])) ∷ (Syntax.copy (Syntax.place 11 [])) ∷ [])
+b34 = Syntax.call "writer_numbers::either" ((Syntax.copy (Syntax.place 17 [])) ∷ (Syntax.copy (Syntax.place 1 [])) ∷ (Syntax.copy (Syntax.place 11 [])) ∷ [])
     (Syntax.place 26 [])
 abbrev b35 : Syntax.Body
 b35 = Syntax.call "meeting::sent_as" ((Syntax.copy (Syntax.place 15 [])) ∷ (Syntax.copy (Syntax.place 26 [])) ∷ (Syntax.copy (Syntax.place 13 [])) ∷
@@ -921,7 +921,7 @@ module _ (claims· : Claims) where
     module _ (M : Type 1) where
       abbrev pub Closed : Type 2
       Closed = (𝓤 : URA.URA M) (H : Wp.Heap 𝓤) (A : Atoms.Atoms 𝓤) (W : Kit.Given 𝓤 H A) (𝓣 : Wp.Tables 𝓤 H) (known0 : Plain.Known 𝓤 H A W 𝓣 3 ps·0 r·0
-          (claims· .0) (claims· .1) "meeting::write_temporary") (known1 : Plain.Known 𝓤 H A W 𝓣 0 ps·1 r·1 (claims· .2) (claims· .3) "writer_records::either")
+          (claims· .0) (claims· .1) "meeting::write_temporary") (known1 : Plain.Known 𝓤 H A W 𝓣 0 ps·1 r·1 (claims· .2) (claims· .3) "writer_numbers::either")
           (known2 : Plain.Known 𝓤 H A W 𝓣 1 ps·2 r·2 (claims· .4) (claims· .5) "unique_table::store") (known3 : Plain.Known 𝓤 H A W 𝓣 1 ps·3 r·3 (claims· .6)
           (claims· .7) "unique_table::stamp_of") (known4 : Plain.Known 𝓤 H A W 𝓣 0 ps·4 r·4 (claims· .8) (claims· .9) "meeting::numbered") (known5 :
           Plain.Known 𝓤 H A W 𝓣 2 ps·5 r·5 (claims· .10) (claims· .11) "meeting::send_node") (known6 : Plain.Known 𝓤 H A W 𝓣 0 ps·6 r·6 (claims· .12) (claims·
@@ -1117,7 +1117,7 @@ module _ (claims· : Claims) where
       module _ {M : Type 1} (𝓤 : URA.URA M) (H : Wp.Heap 𝓤) (A : Atoms.Atoms 𝓤) (W : Kit.Given 𝓤 H A) (𝓣 : Wp.Tables 𝓤 H) where
         abbrev Knowns : Type 1
         Knowns = Plain.Known 𝓤 H A W 𝓣 3 ps·0 r·0 (claims· .0) (claims· .1) "meeting::write_temporary" × Plain.Known 𝓤 H A W 𝓣 0 ps·1 r·1 (claims· .2)
-            (claims· .3) "writer_records::either" × Plain.Known 𝓤 H A W 𝓣 1 ps·2 r·2 (claims· .4) (claims· .5) "unique_table::store" × Plain.Known 𝓤 H A W 𝓣 1
+            (claims· .3) "writer_numbers::either" × Plain.Known 𝓤 H A W 𝓣 1 ps·2 r·2 (claims· .4) (claims· .5) "unique_table::store" × Plain.Known 𝓤 H A W 𝓣 1
             ps·3 r·3 (claims· .6) (claims· .7) "unique_table::stamp_of" × Plain.Known 𝓤 H A W 𝓣 0 ps·4 r·4 (claims· .8) (claims· .9) "meeting::numbered" ×
             Plain.Known 𝓤 H A W 𝓣 2 ps·5 r·5 (claims· .10) (claims· .11) "meeting::send_node" × Plain.Known 𝓤 H A W 𝓣 0 ps·6 r·6 (claims· .12) (claims· .13)
             "meeting::sent_as"
@@ -1606,7 +1606,7 @@ module _ (claims· : Claims) where
               Row.sBool)) d44
           d46 : Typed.Typed 𝓤 H A 𝓣 E G76 b38 Δ0 at46
           d46 = Typed.s-seq 𝓤 H A W 𝓣 E G76 G77 b34 b37 Δ0 (Typed.both s74) at45 (Plain.t-call-plain 𝓤 H A W 𝓣 0 ps·1 r·1 (claims· .2) (claims· .3)
-              "writer_records::either" (known .1) E (λ pos β. β) G76 (Bool.bAt 17 λ x. x, (Num.vAt 1 λ x. x, (Num.vAt 11 λ x. x, tt))) 26 [] (Call.sub-id 𝓤 H
+              "writer_numbers::either" (known .1) E (λ pos β. β) G76 (Bool.bAt 17 λ x. x, (Num.vAt 1 λ x. x, (Num.vAt 11 λ x. x, tt))) 26 [] (Call.sub-id 𝓤 H
               A W (G76 .slots)) ((Scalar.reads-sc 𝓤 H A W Row.sBool, Path'.refl), ((Scalar.reads-sc 𝓤 H A W (Row.sInt Syntax.w32), Path'.refl),
               ((Scalar.reads-sc 𝓤 H A W (Row.sInt Syntax.w32), Path'.refl), tt))) (Reads'.room-gone 𝓤 H A y0) tt Path'.refl) d45
           d47 : Typed.Typed 𝓤 H A 𝓣 E G75 b39 Δ0 at47
@@ -1753,7 +1753,7 @@ module _ (claims· : Claims) where
               .Ghost) (Ends.struct .make) (λ v g. Path'.refl) ρ v tt b) d80
           d82 : Typed.Typed 𝓤 H A 𝓣 E G40 b50 Δ0 at82
           d82 = Typed.s-seq 𝓤 H A W 𝓣 E G40 G41 b22 b49 Δ0 (Typed.both s38) at81 (Plain.t-call-plain 𝓤 H A W 𝓣 0 ps·1 r·1 (claims· .2) (claims· .3)
-              "writer_records::either" (known .1) E (λ pos β. β) G40 (Bool.bAt 4 λ x. x, (Num.vLit 1, (Num.vLit 0, tt))) 26 [] (Call.sub-id 𝓤 H A W (G40
+              "writer_numbers::either" (known .1) E (λ pos β. β) G40 (Bool.bAt 4 λ x. x, (Num.vLit 1, (Num.vLit 0, tt))) 26 [] (Call.sub-id 𝓤 H A W (G40
               .slots)) ((Scalar.reads-sc 𝓤 H A W Row.sBool, Path'.refl), (tt, (tt, tt))) (Reads'.room-gone 𝓤 H A y0) tt Path'.refl) d81
           d83 : Typed.Typed 𝓤 H A 𝓣 E G39 b51 Δ0 at83
           d83 = Typed.s-seq 𝓤 H A W 𝓣 E G39 G40 b21 b50 Δ0 (Typed.ask s37) at82 (Relend.t-sl-aggregate 𝓤 H A W E WriterRecordT.row 𝓣 (Relend.asMut
@@ -2399,7 +2399,7 @@ module _ (claims· : Claims) where
               .1 .1 .0 .1 } }; pre = pre }
         module _ {M : Type 1} (𝓤 : URA.URA M) (H : Wp.Heap 𝓤) (A : Atoms.Atoms 𝓤) (W : Kit.Given 𝓤 H A) (𝓣 : Wp.Tables 𝓤 H) (known0 : Plain.Known 𝓤 H A W 𝓣 3
             ps·0 r·0 (claims· .0) (claims· .1) "meeting::write_temporary") (known1 : Plain.Known 𝓤 H A W 𝓣 0 ps·1 r·1 (claims· .2) (claims· .3)
-            "writer_records::either") (known2 : Plain.Known 𝓤 H A W 𝓣 1 ps·2 r·2 (claims· .4) (claims· .5) "unique_table::store") (known3 : Plain.Known 𝓤 H A
+            "writer_numbers::either") (known2 : Plain.Known 𝓤 H A W 𝓣 1 ps·2 r·2 (claims· .4) (claims· .5) "unique_table::store") (known3 : Plain.Known 𝓤 H A
             W 𝓣 1 ps·3 r·3 (claims· .6) (claims· .7) "unique_table::stamp_of") (known4 : Plain.Known 𝓤 H A W 𝓣 0 ps·4 r·4 (claims· .8) (claims· .9)
             "meeting::numbered") (known5 : Plain.Known 𝓤 H A W 𝓣 2 ps·5 r·5 (claims· .10) (claims· .11) "meeting::send_node") (known6 : Plain.Known 𝓤 H A W 𝓣
             0 ps·6 r·6 (claims· .12) (claims· .13) "meeting::sent_as") where

@@ -1,14 +1,14 @@
 -- Generated: the needs of give at its contract, and how its theorem closes.
--- From cbbf837f6d54603c, as eccf619adec05880.
+-- From 3f3eb5e44809b88c, as 9df0b50d27c46221.
 use borrow.Fn.Run
 use borrow.Fn.Written
 use contract.Running.{givenOf, tablesOf}
 use Rattle.meeting.proofs.Lifted.write_temporary as write-temporary-reads
 use Rattle.meeting.proofs.write_temporary.Met as write-temporary-met
 use Rattle.meeting.proofs.write_temporary.Symbol as write-temporary-symbol
-use Rattle.writer_records.proofs.either.Reads as either-reads
-use Rattle.writer_records.proofs.either.Met as either-met
-use Rattle.writer_records.proofs.either.Symbol as either-symbol
+use Rattle.writer_numbers.proofs.either.Reads as either-reads
+use Rattle.writer_numbers.proofs.either.Met as either-met
+use Rattle.writer_numbers.proofs.either.Symbol as either-symbol
 use Rattle.unique_table.proofs.Lifted.store as store-reads
 use Rattle.unique_table.proofs.store.Met as store-met
 use Rattle.unique_table.proofs.store.Symbol as store-symbol
@@ -91,7 +91,7 @@ module _ {M : Type 1} where
       Written.close 3 self.ps self.r self.Ghost self.requires self.ensures self.pre-read self.Pinned self.Owned self.post-read record { M = M; 𝓤 = 𝓤; H = H; 𝓜 = 𝓜; 𝓖 = 𝓖; 𝓡 = 𝓡 } code.env Key.name code.function (code.unfolded 𝓤 H 𝓜 𝓡)
       (λ κs a g. tt) (λ κs. self.owns κs record { M = M; 𝓤 = 𝓤; H = H; 𝓜 = 𝓜; 𝓖 = 𝓖; 𝓡 = 𝓡 }) (self.passes record { M = M; 𝓤 = 𝓤; H = H; 𝓜 = 𝓜; 𝓖 = 𝓖; 𝓡 = 𝓡 }) λ g. closed 𝓤 H (𝓖 .A) (givenOf 𝓤 H 𝓜 𝓖) (Run.Over 𝓤 H 𝓜 𝓖 𝓡 code.env)
       (write-temporary-reads.known record { M = M; 𝓤 = 𝓤; H = H; 𝓜 = 𝓜; 𝓖 = 𝓖; 𝓡 = 𝓡 } code.env write-temporary-symbol.name write-temporary-symbol.routine code.calls-meeting·write-temporary (write-temporary-met.met 𝓤 H 𝓜 𝓖 𝓡))
-      (either-reads.known record { M = M; 𝓤 = 𝓤; H = H; 𝓜 = 𝓜; 𝓖 = 𝓖; 𝓡 = 𝓡 } code.env either-symbol.name either-symbol.routine code.calls-writer-records·either (either-met.met 𝓤 H 𝓜 𝓖 𝓡))
+      (either-reads.known record { M = M; 𝓤 = 𝓤; H = H; 𝓜 = 𝓜; 𝓖 = 𝓖; 𝓡 = 𝓡 } code.env either-symbol.name either-symbol.routine code.calls-writer-numbers·either (either-met.met 𝓤 H 𝓜 𝓖 𝓡))
       (store-reads.known record { M = M; 𝓤 = 𝓤; H = H; 𝓜 = 𝓜; 𝓖 = 𝓖; 𝓡 = 𝓡 } code.env store-symbol.name store-symbol.routine code.calls-unique-table·store (store-met.met 𝓤 H 𝓜 𝓖 𝓡))
       (stamp-of-reads.known record { M = M; 𝓤 = 𝓤; H = H; 𝓜 = 𝓜; 𝓖 = 𝓖; 𝓡 = 𝓡 } code.env stamp-of-symbol.name stamp-of-symbol.routine code.calls-unique-table·stamp-of (stamp-of-met.met 𝓤 H 𝓜 𝓖 𝓡))
       (numbered-reads.known record { M = M; 𝓤 = 𝓤; H = H; 𝓜 = 𝓜; 𝓖 = 𝓖; 𝓡 = 𝓡 } code.env numbered-symbol.name numbered-symbol.routine code.calls-meeting·numbered (numbered-met.met 𝓤 H 𝓜 𝓖 𝓡))

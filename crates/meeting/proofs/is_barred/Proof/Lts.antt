@@ -1,5 +1,5 @@
 -- Generated: the derivation of a body.
--- From cbbf837f6d54603c, as 814fb6290b9cad17.
+-- From 3f3eb5e44809b88c, as 814fb6290b9cad17.
 use Prim.Native.Nat
 use Rattle.meeting.proofs.Half
 use Rattle.meeting.proofs.Half.Laws

@@ -1,5 +1,5 @@
 -- Generated: the derivation of a body.
--- From cbbf837f6d54603c, as 7d8897025b87575e.
+-- From 3f3eb5e44809b88c, as 7d8897025b87575e.
 use Prim.Native.Nat
 use Rattle.meeting.proofs.Half
 use Rattle.meeting.proofs.Half.Laws

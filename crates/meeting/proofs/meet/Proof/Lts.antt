@@ -1,5 +1,5 @@
 -- Generated: the derivation of a body.
--- From cbbf837f6d54603c, as 96d69a5d4536d80e.
+-- From 3f3eb5e44809b88c, as 099c5937042cde87.
 use Prim.Native.Nat
 use Rattle.meeting.proofs.Half
 use Rattle.meeting.proofs.Half.Laws
@@ -453,7 +453,7 @@ abbrev b10 : Syntax.Body
 b10 = Syntax.call "meeting::alike_number" ((Syntax.copy (Syntax.place 16 [])) ∷ (Syntax.copy (Syntax.place 4 [])) ∷ (Syntax.copy (Syntax.place 5 [])) ∷
     (Syntax.copy (Syntax.place 6 [])) ∷ []) (Syntax.place 14 [])
 abbrev b11 : Syntax.Body
-b11 = Syntax.call "writer_records::one_more" ((Syntax.copy (Syntax.place 5 ((Syntax.field 2) ∷ []))) ∷ []) (Syntax.place 18 [])
+b11 = Syntax.call "writer_numbers::one_more" ((Syntax.copy (Syntax.place 5 ((Syntax.field 2) ∷ []))) ∷ []) (Syntax.place 18 [])
 abbrev b12 : Syntax.Body
 b12 = Syntax.call "meeting::numbered" ((Syntax.copy (Syntax.place 5 ((Syntax.field 0) ∷ []))) ∷ (Syntax.copy (Syntax.place 5 ((Syntax.field 1) ∷ []))) ∷
     (Syntax.copy (Syntax.place 18 [])) ∷ (Syntax.copy (Syntax.place 5 ((Syntax.field 4) ∷ []))) ∷ (Syntax.copy (Syntax.place 5 ((Syntax.field 5) ∷ []))) ∷ [])
@@ -561,7 +561,7 @@ b60 = Syntax.assign (Syntax.place 37 []) (Syntax.addrOf (Syntax.place 7 ((Syntax
 abbrev b61 : Syntax.Body
 b61 = Syntax.assign (Syntax.place 38 []) (Syntax.aggregate ((Syntax.copy (Syntax.place 37 [])) ∷ (Syntax.copy (Syntax.place 7 ((Syntax.field 1) ∷ []))) ∷ []))
 abbrev b62 : Syntax.Body
-b62 = Syntax.call "writer_records::either" ((Syntax.copy (Syntax.place 4 [])) ∷ (Syntax.int Syntax.w32 1) ∷ (Syntax.int Syntax.w32 0) ∷ []) (Syntax.place 39
+b62 = Syntax.call "writer_numbers::either" ((Syntax.copy (Syntax.place 4 [])) ∷ (Syntax.int Syntax.w32 1) ∷ (Syntax.int Syntax.w32 0) ∷ []) (Syntax.place 39
     [])
 abbrev b63 : Syntax.Body
 b63 = Syntax.call "unique_table::find" ((Syntax.copy (Syntax.place 38 [])) ∷ (Syntax.copy (Syntax.place 10 ((Syntax.field 1) ∷ []))) ∷ (Syntax.copy
@@ -1354,10 +1354,10 @@ module _ (claims· : Claims) where
       Closed = (𝓤 : URA.URA M) (H : Wp.Heap 𝓤) (A : Atoms.Atoms 𝓤) (W : Kit.Given 𝓤 H A) (𝓣 : Wp.Tables 𝓤 H) (known0 : Plain.Known 𝓤 H A W 𝓣 0 ps·0 r·0
           (claims· .0) (claims· .1) "meeting::alike_constant") (known1 : Plain.Known 𝓤 H A W 𝓣 0 ps·1 r·1 (claims· .2) (claims· .3) "meeting::constant")
           (known2 : Plain.Known 𝓤 H A W 𝓣 0 ps·2 r·2 (claims· .4) (claims· .5) "meeting::kept") (known3 : Plain.Known 𝓤 H A W 𝓣 1 ps·3 r·3 (claims· .6)
-          (claims· .7) "meeting::alike_number") (known4 : Plain.Known 𝓤 H A W 𝓣 0 ps·4 r·4 (claims· .8) (claims· .9) "writer_records::one_more") (known5 :
+          (claims· .7) "meeting::alike_number") (known4 : Plain.Known 𝓤 H A W 𝓣 0 ps·4 r·4 (claims· .8) (claims· .9) "writer_numbers::one_more") (known5 :
           Plain.Known 𝓤 H A W 𝓣 0 ps·5 r·5 (claims· .10) (claims· .11) "meeting::numbered") (known6 : Plain.Known 𝓤 H A W 𝓣 1 ps·6 r·6 (claims· .12) (claims·
           .13) "meeting::is_barred") (known7 : Plain.Known 𝓤 H A W 𝓣 3 ps·7 r·7 (claims· .14) (claims· .15) "meeting::write_temporary") (known8 : Plain.Known
-          𝓤 H A W 𝓣 0 ps·8 r·8 (claims· .16) (claims· .17) "writer_records::either") (known9 : Plain.Known 𝓤 H A W 𝓣 1 ps·9 r·9 (claims· .18) (claims· .19)
+          𝓤 H A W 𝓣 0 ps·8 r·8 (claims· .16) (claims· .17) "writer_numbers::either") (known9 : Plain.Known 𝓤 H A W 𝓣 1 ps·9 r·9 (claims· .18) (claims· .19)
           "unique_table::find") (known10 : Plain.Known 𝓤 H A W 𝓣 3 ps·10 r·10 (claims· .20) (claims· .21) "meeting::known") → Statement.Triple 𝓤 (Wp.WpFn 𝓤 H
           (𝓣 .C) (𝓣 .Λ) (Function.fnOf 3 ps r xs m hs body)) (Function.plainOf 𝓤 H A 3 ps r Pre· Post·)
     module _ where
@@ -1705,10 +1705,10 @@ module _ (claims· : Claims) where
         abbrev Knowns : Type 1
         Knowns = Plain.Known 𝓤 H A W 𝓣 0 ps·0 r·0 (claims· .0) (claims· .1) "meeting::alike_constant" × Plain.Known 𝓤 H A W 𝓣 0 ps·1 r·1 (claims· .2) (claims·
             .3) "meeting::constant" × Plain.Known 𝓤 H A W 𝓣 0 ps·2 r·2 (claims· .4) (claims· .5) "meeting::kept" × Plain.Known 𝓤 H A W 𝓣 1 ps·3 r·3 (claims·
-            .6) (claims· .7) "meeting::alike_number" × Plain.Known 𝓤 H A W 𝓣 0 ps·4 r·4 (claims· .8) (claims· .9) "writer_records::one_more" × Plain.Known 𝓤 H
+            .6) (claims· .7) "meeting::alike_number" × Plain.Known 𝓤 H A W 𝓣 0 ps·4 r·4 (claims· .8) (claims· .9) "writer_numbers::one_more" × Plain.Known 𝓤 H
             A W 𝓣 0 ps·5 r·5 (claims· .10) (claims· .11) "meeting::numbered" × Plain.Known 𝓤 H A W 𝓣 1 ps·6 r·6 (claims· .12) (claims· .13)
             "meeting::is_barred" × Plain.Known 𝓤 H A W 𝓣 3 ps·7 r·7 (claims· .14) (claims· .15) "meeting::write_temporary" × Plain.Known 𝓤 H A W 𝓣 0 ps·8 r·8
-            (claims· .16) (claims· .17) "writer_records::either" × Plain.Known 𝓤 H A W 𝓣 1 ps·9 r·9 (claims· .18) (claims· .19) "unique_table::find" ×
+            (claims· .16) (claims· .17) "writer_numbers::either" × Plain.Known 𝓤 H A W 𝓣 1 ps·9 r·9 (claims· .18) (claims· .19) "unique_table::find" ×
             Plain.Known 𝓤 H A W 𝓣 3 ps·10 r·10 (claims· .20) (claims· .21) "meeting::known"
       module _ (κs : Lifetimes.Lfts 3) (qs : Lifetimes.Shares 3) where
         abbrev K0 : Row.Life
@@ -2353,7 +2353,7 @@ module _ (claims· : Claims) where
               Syntax.tyBool 14 Path'.refl, Path'.refl), tt))))) (Reads'.room-gone 𝓤 H A y1) tt Path'.refl) d24
           d26 : Typed.Typed 𝓤 H A 𝓣 E G28 b17 Δ2 at26
           d26 = Typed.s-seq 𝓤 H A W 𝓣 E G28 G29 b11 b16 Δ2 (Typed.both s25) at25 (Plain.t-call-plain 𝓤 H A W 𝓣 0 ps·4 r·4 (claims· .8) (claims· .9)
-              "writer_records::one_more" (known .4) E (λ pos β. β) G28 (Num.vFld 5 ((Syntax.field 2) ∷ []) 8 λ x. Half.struct .as-values x .1 .1 .0, tt) 18 []
+              "writer_numbers::one_more" (known .4) E (λ pos β. β) G28 (Num.vFld 5 ((Syntax.field 2) ∷ []) 8 λ x. Half.struct .as-values x .1 .1 .0, tt) 18 []
               (Call.sub-id 𝓤 H A W (G28 .slots)) ((Reads.reads-field 𝓤 H A W Half.the-type Laws.the-laws 2 y0 8 Path'.refl, Path'.refl), tt) (Reads'.room-gone
               𝓤 H A y0) tt Path'.refl) d25
           d27 : Typed.Typed 𝓤 H A 𝓣 E G27 b17 Δ2 at27
@@ -2781,7 +2781,7 @@ module _ (claims· : Claims) where
               Path'.refl) d144
           d146 : Typed.Typed 𝓤 H A 𝓣 E G121 b80 Δ0 at146
           d146 = Typed.s-seq 𝓤 H A W 𝓣 E G121 G122 b62 b79 Δ0 (Typed.both s116) at145 (Plain.t-call-plain 𝓤 H A W 𝓣 0 ps·8 r·8 (claims· .16) (claims· .17)
-              "writer_records::either" (known .8) E (λ pos β. β) G121 (Bool.bAt 4 λ x. x, (Num.vLit 1, (Num.vLit 0, tt))) 39 [] (Call.sub-id 𝓤 H A W (G121
+              "writer_numbers::either" (known .8) E (λ pos β. β) G121 (Bool.bAt 4 λ x. x, (Num.vLit 1, (Num.vLit 0, tt))) 39 [] (Call.sub-id 𝓤 H A W (G121
               .slots)) ((Scalar.reads-sc 𝓤 H A W Row.sBool, Path'.refl), (tt, (tt, tt))) (Reads'.room-gone 𝓤 H A y0) tt Path'.refl) d145
           d147 : Typed.Typed 𝓤 H A 𝓣 E G120 b81 Δ0 at147
           d147 = Typed.s-seq 𝓤 H A W 𝓣 E G120 G121 b61 b80 Δ0 (Typed.ask s115) at146 (Relend.t-sl-aggregate 𝓤 H A W E WriterRecordT.row 𝓣 (Relend.asShr
@@ -3969,9 +3969,9 @@ module _ (claims· : Claims) where
             ps·0 r·0 (claims· .0) (claims· .1) "meeting::alike_constant") (known1 : Plain.Known 𝓤 H A W 𝓣 0 ps·1 r·1 (claims· .2) (claims· .3)
             "meeting::constant") (known2 : Plain.Known 𝓤 H A W 𝓣 0 ps·2 r·2 (claims· .4) (claims· .5) "meeting::kept") (known3 : Plain.Known 𝓤 H A W 𝓣 1 ps·3
             r·3 (claims· .6) (claims· .7) "meeting::alike_number") (known4 : Plain.Known 𝓤 H A W 𝓣 0 ps·4 r·4 (claims· .8) (claims· .9)
-            "writer_records::one_more") (known5 : Plain.Known 𝓤 H A W 𝓣 0 ps·5 r·5 (claims· .10) (claims· .11) "meeting::numbered") (known6 : Plain.Known 𝓤 H
+            "writer_numbers::one_more") (known5 : Plain.Known 𝓤 H A W 𝓣 0 ps·5 r·5 (claims· .10) (claims· .11) "meeting::numbered") (known6 : Plain.Known 𝓤 H
             A W 𝓣 1 ps·6 r·6 (claims· .12) (claims· .13) "meeting::is_barred") (known7 : Plain.Known 𝓤 H A W 𝓣 3 ps·7 r·7 (claims· .14) (claims· .15)
-            "meeting::write_temporary") (known8 : Plain.Known 𝓤 H A W 𝓣 0 ps·8 r·8 (claims· .16) (claims· .17) "writer_records::either") (known9 : Plain.Known
+            "meeting::write_temporary") (known8 : Plain.Known 𝓤 H A W 𝓣 0 ps·8 r·8 (claims· .16) (claims· .17) "writer_numbers::either") (known9 : Plain.Known
             𝓤 H A W 𝓣 1 ps·9 r·9 (claims· .18) (claims· .19) "unique_table::find") (known10 : Plain.Known 𝓤 H A W 𝓣 3 ps·10 r·10 (claims· .20) (claims· .21)
             "meeting::known") where
           pub spec : Statement.Triple 𝓤 (Wp.WpFn 𝓤 H (𝓣 .C) (𝓣 .Λ) (Function.fnOf 3 ps r xs m hs body)) (Function.plainOf 𝓤 H A 3 ps r Pre· Post·)

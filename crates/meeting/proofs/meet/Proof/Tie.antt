@@ -1,5 +1,5 @@
 -- Generated: the needs of meet at its contract, and how its theorem closes.
--- From cbbf837f6d54603c, as dd7ac5e3c882aca1.
+-- From 3f3eb5e44809b88c, as 28705a96a3e25bd6.
 use borrow.Fn.Run
 use borrow.Fn.Written
 use contract.Running.{givenOf, tablesOf}
@@ -15,9 +15,9 @@ use Rattle.meeting.proofs.kept.Symbol as kept-symbol
 use Rattle.meeting.proofs.Lifted.alike_number as alike-number-reads
 use Rattle.meeting.proofs.alike_number.Met as alike-number-met
 use Rattle.meeting.proofs.alike_number.Symbol as alike-number-symbol
-use Rattle.writer_records.proofs.one_more.Reads as one-more-reads
-use Rattle.writer_records.proofs.one_more.Met as one-more-met
-use Rattle.writer_records.proofs.one_more.Symbol as one-more-symbol
+use Rattle.writer_numbers.proofs.one_more.Reads as one-more-reads
+use Rattle.writer_numbers.proofs.one_more.Met as one-more-met
+use Rattle.writer_numbers.proofs.one_more.Symbol as one-more-symbol
 use Rattle.meeting.proofs.numbered.Reads as numbered-reads
 use Rattle.meeting.proofs.numbered.Met as numbered-met
 use Rattle.meeting.proofs.numbered.Symbol as numbered-symbol
@@ -27,9 +27,9 @@ use Rattle.meeting.proofs.is_barred.Symbol as is-barred-symbol
 use Rattle.meeting.proofs.Lifted.write_temporary as write-temporary-reads
 use Rattle.meeting.proofs.write_temporary.Met as write-temporary-met
 use Rattle.meeting.proofs.write_temporary.Symbol as write-temporary-symbol
-use Rattle.writer_records.proofs.either.Reads as either-reads
-use Rattle.writer_records.proofs.either.Met as either-met
-use Rattle.writer_records.proofs.either.Symbol as either-symbol
+use Rattle.writer_numbers.proofs.either.Reads as either-reads
+use Rattle.writer_numbers.proofs.either.Met as either-met
+use Rattle.writer_numbers.proofs.either.Symbol as either-symbol
 use Rattle.unique_table.proofs.Lifted.find as find-reads
 use Rattle.unique_table.proofs.find.Met as find-met
 use Rattle.unique_table.proofs.find.Symbol as find-symbol
@@ -145,10 +145,10 @@ module _ {M : Type 1} where
       (constant-reads.known record { M = M; 𝓤 = 𝓤; H = H; 𝓜 = 𝓜; 𝓖 = 𝓖; 𝓡 = 𝓡 } code.env constant-symbol.name constant-symbol.routine code.calls-meeting·constant (constant-met.met 𝓤 H 𝓜 𝓖 𝓡))
       (kept-reads.known record { M = M; 𝓤 = 𝓤; H = H; 𝓜 = 𝓜; 𝓖 = 𝓖; 𝓡 = 𝓡 } code.env kept-symbol.name kept-symbol.routine code.calls-meeting·kept (kept-met.met 𝓤 H 𝓜 𝓖 𝓡))
       (alike-number-reads.known record { M = M; 𝓤 = 𝓤; H = H; 𝓜 = 𝓜; 𝓖 = 𝓖; 𝓡 = 𝓡 } code.env alike-number-symbol.name alike-number-symbol.routine code.calls-meeting·alike-number (alike-number-met.met 𝓤 H 𝓜 𝓖 𝓡))
-      (one-more-reads.known record { M = M; 𝓤 = 𝓤; H = H; 𝓜 = 𝓜; 𝓖 = 𝓖; 𝓡 = 𝓡 } code.env one-more-symbol.name one-more-symbol.routine code.calls-writer-records·one-more (one-more-met.met 𝓤 H 𝓜 𝓖 𝓡))
+      (one-more-reads.known record { M = M; 𝓤 = 𝓤; H = H; 𝓜 = 𝓜; 𝓖 = 𝓖; 𝓡 = 𝓡 } code.env one-more-symbol.name one-more-symbol.routine code.calls-writer-numbers·one-more (one-more-met.met 𝓤 H 𝓜 𝓖 𝓡))
       (numbered-reads.known record { M = M; 𝓤 = 𝓤; H = H; 𝓜 = 𝓜; 𝓖 = 𝓖; 𝓡 = 𝓡 } code.env numbered-symbol.name numbered-symbol.routine code.calls-meeting·numbered (numbered-met.met 𝓤 H 𝓜 𝓖 𝓡))
       (is-barred-reads.known record { M = M; 𝓤 = 𝓤; H = H; 𝓜 = 𝓜; 𝓖 = 𝓖; 𝓡 = 𝓡 } code.env is-barred-symbol.name is-barred-symbol.routine code.calls-meeting·is-barred (is-barred-met.met 𝓤 H 𝓜 𝓖 𝓡))
       (write-temporary-reads.known record { M = M; 𝓤 = 𝓤; H = H; 𝓜 = 𝓜; 𝓖 = 𝓖; 𝓡 = 𝓡 } code.env write-temporary-symbol.name write-temporary-symbol.routine code.calls-meeting·write-temporary (write-temporary-met.met 𝓤 H 𝓜 𝓖 𝓡))
-      (either-reads.known record { M = M; 𝓤 = 𝓤; H = H; 𝓜 = 𝓜; 𝓖 = 𝓖; 𝓡 = 𝓡 } code.env either-symbol.name either-symbol.routine code.calls-writer-records·either (either-met.met 𝓤 H 𝓜 𝓖 𝓡))
+      (either-reads.known record { M = M; 𝓤 = 𝓤; H = H; 𝓜 = 𝓜; 𝓖 = 𝓖; 𝓡 = 𝓡 } code.env either-symbol.name either-symbol.routine code.calls-writer-numbers·either (either-met.met 𝓤 H 𝓜 𝓖 𝓡))
       (find-reads.known record { M = M; 𝓤 = 𝓤; H = H; 𝓜 = 𝓜; 𝓖 = 𝓖; 𝓡 = 𝓡 } code.env find-symbol.name find-symbol.routine code.calls-unique-table·find (find-met.met 𝓤 H 𝓜 𝓖 𝓡))
       (known-reads.known record { M = M; 𝓤 = 𝓤; H = H; 𝓜 = 𝓜; 𝓖 = 𝓖; 𝓡 = 𝓡 } code.env known-symbol.name known-symbol.routine code.calls-meeting·known (known-met.met 𝓤 H 𝓜 𝓖 𝓡))

@@ -1,5 +1,5 @@
 -- Generated: the derivation of a body.
--- From cbbf837f6d54603c, as 8e7768318ea77e88.
+-- From 3f3eb5e44809b88c, as 8e7768318ea77e88.
 use Prim.Native.Nat
 use Rattle.meeting.proofs.Half
 use Rattle.meeting.proofs.Half.Laws

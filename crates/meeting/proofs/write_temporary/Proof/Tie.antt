@@ -1,5 +1,5 @@
 -- Generated: the needs of write_temporary at its contract, and how its theorem closes.
--- From cbbf837f6d54603c, as f94ae7f93d131c80.
+-- From 3f3eb5e44809b88c, as f94ae7f93d131c80.
 use borrow.Fn.Run
 use borrow.Fn.Written
 use contract.Running.{givenOf, tablesOf}

@@ -1,23 +1,23 @@
 -- Generated: the derivation of a body.
--- From 0209d886595e68de, as e563fb26b7688b27.
+-- From 69fbee6aad42fdc1, as ed9e844c2564d8d8.
 use Prim.Native.Nat
 use Rattle.blocks.proofs.Block
 use Rattle.blocks.proofs.Block.Laws
+use Rattle.cursors.proofs.Cursor
+use Rattle.cursors.proofs.Cursor.Laws as Laws'
+use Rattle.cursors.proofs.Pair
+use Rattle.cursors.proofs.Pair.Laws as Laws''
+use Rattle.cursors.proofs.Run
+use Rattle.cursors.proofs.Run.Laws as Laws'3
 use Rattle.elements.proofs.Context
-use Rattle.elements.proofs.Context.Laws as Laws'
+use Rattle.elements.proofs.Context.Laws as Laws'4
 use Rattle.elements.proofs.Ref
-use Rattle.elements.proofs.Ref.Laws as Laws''
+use Rattle.elements.proofs.Ref.Laws as Laws'5
 use Rattle.node_records.proofs.Tables.NodeRecord as NodeRecordT
 use Rattle.operands.proofs.Begun
-use Rattle.operands.proofs.Begun.Laws as Laws'3
+use Rattle.operands.proofs.Begun.Laws as Laws'6
 use Rattle.operands.proofs.Operand
-use Rattle.operands.proofs.Operand.Laws as Laws'4
-use Rattle.reader.proofs.Cursor
-use Rattle.reader.proofs.Cursor.Laws as Laws'5
-use Rattle.reader.proofs.Pair
-use Rattle.reader.proofs.Pair.Laws as Laws'6
-use Rattle.reader.proofs.Run
-use Rattle.reader.proofs.Run.Laws as Laws'7
+use Rattle.operands.proofs.Operand.Laws as Laws'7
 use borrow.Author.Called
 use borrow.Enum.Whole
 use borrow.Fn.Any
@@ -81,8 +81,8 @@ y0 = Syntax.tyInt Syntax.w32
 abbrev y1 : Syntax.Ty
 y1 = Syntax.tyStruct (101 ∷ 108 ∷ 101 ∷ 109 ∷ 101 ∷ 110 ∷ 116 ∷ 115 ∷ 58 ∷ 58 ∷ 82 ∷ 101 ∷ 102 ∷ []) (Syntax.tcons y0 (Syntax.tcons y0 Syntax.tnil))
 abbrev y2 : Syntax.Ty
-y2 = Syntax.tyStruct (114 ∷ 101 ∷ 97 ∷ 100 ∷ 101 ∷ 114 ∷ 58 ∷ 58 ∷ 80 ∷ 97 ∷ 105 ∷ 114 ∷ []) (Syntax.tcons Syntax.tyBool (Syntax.tcons y1 (Syntax.tcons y1
-    Syntax.tnil)))
+y2 = Syntax.tyStruct (99 ∷ 117 ∷ 114 ∷ 115 ∷ 111 ∷ 114 ∷ 115 ∷ 58 ∷ 58 ∷ 80 ∷ 97 ∷ 105 ∷ 114 ∷ []) (Syntax.tcons Syntax.tyBool (Syntax.tcons y1 (Syntax.tcons
+    y1 Syntax.tnil)))
 abbrev y3 : Syntax.Ty
 y3 = Syntax.tyInt Syntax.w64
 abbrev y4 : Syntax.Ty
@@ -90,10 +90,11 @@ y4 = Syntax.tyEnum (101 ∷ 108 ∷ 101 ∷ 109 ∷ 101 ∷ 110 ∷ 116 ∷ 115 
     (Syntax.ttcons Syntax.tnil (Syntax.ttcons Syntax.tnil (Syntax.ttcons Syntax.tnil (Syntax.ttcons Syntax.tnil (Syntax.ttcons Syntax.tnil (Syntax.ttcons
     Syntax.tnil Syntax.ttnil)))))))
 abbrev y5 : Syntax.Ty
-y5 = Syntax.tyStruct (114 ∷ 101 ∷ 97 ∷ 100 ∷ 101 ∷ 114 ∷ 58 ∷ 58 ∷ 82 ∷ 117 ∷ 110 ∷ []) (Syntax.tcons y1 (Syntax.tcons y2 (Syntax.tcons y3 (Syntax.tcons y3
-    (Syntax.tcons y0 (Syntax.tcons y4 (Syntax.tcons Syntax.tyBool Syntax.tnil)))))))
+y5 = Syntax.tyStruct (99 ∷ 117 ∷ 114 ∷ 115 ∷ 111 ∷ 114 ∷ 115 ∷ 58 ∷ 58 ∷ 82 ∷ 117 ∷ 110 ∷ []) (Syntax.tcons y1 (Syntax.tcons y2 (Syntax.tcons y3 (Syntax.tcons
+    y3 (Syntax.tcons y0 (Syntax.tcons y4 (Syntax.tcons Syntax.tyBool Syntax.tnil)))))))
 abbrev y6 : Syntax.Ty
-y6 = Syntax.tyStruct (114 ∷ 101 ∷ 97 ∷ 100 ∷ 101 ∷ 114 ∷ 58 ∷ 58 ∷ 67 ∷ 117 ∷ 114 ∷ 115 ∷ 111 ∷ 114 ∷ []) (Syntax.tcons y5 (Syntax.tcons y3 Syntax.tnil))
+y6 = Syntax.tyStruct (99 ∷ 117 ∷ 114 ∷ 115 ∷ 111 ∷ 114 ∷ 115 ∷ 58 ∷ 58 ∷ 67 ∷ 117 ∷ 114 ∷ 115 ∷ 111 ∷ 114 ∷ []) (Syntax.tcons y5 (Syntax.tcons y3
+    Syntax.tnil))
 abbrev y7 : Syntax.Ty
 y7 = Syntax.tyStruct (98 ∷ 108 ∷ 111 ∷ 99 ∷ 107 ∷ 115 ∷ 58 ∷ 58 ∷ 66 ∷ 108 ∷ 111 ∷ 99 ∷ 107 ∷ []) (Syntax.tcons y6 (Syntax.tcons y3 (Syntax.tcons y3
     (Syntax.tcons y0 (Syntax.tcons Syntax.tyBool (Syntax.tcons Syntax.tyBool Syntax.tnil))))))
@@ -175,10 +176,10 @@ abbrev pub ps : List (Kinds.PK 3)
 ps = (Num.pNum Syntax.w32) ∷ (ShrSlice.pShrS (Referent.rtF (Referent.fInt Syntax.w8)) 0 tt) ∷ (MutSlice.pMutS NodeRecordT.row 1 tt) ∷ (Kinds.pMut (Array.Array
     (Array.Array (Referent.rtF (Referent.fInt Syntax.w32)) 4) 32) 2 tt) ∷ []
 abbrev pub r : Kinds.RK 3
-r = Value.rVal record { ty = Declared.row Begun.the-type; one = Path'.refl; val = Laws'8.val Begun.the-type Laws'3.the-laws; tells = Laws'8.tells
-    Begun.the-type Laws'3.the-laws; still = Laws'8.still Begun.the-type Laws'3.the-copy Exit.yes; row = Rows.whole (Declared.row Begun.the-type); rd = λ x. x;
-    mk = λ x. x } λ M 𝓤 H A W. record { copies = Laws'8.copy Begun.the-type Laws'3.the-copy 𝓤 H A W; lawful = Laws'8.lawful Begun.the-type Laws'3.the-laws 𝓤 H
-    A W; makes = Laws'8.makes Begun.the-type Laws'3.the-plain 𝓤 H A; in-mem = Local.mem-whole 𝓤 H A W (Declared.row Begun.the-type); of-mem = Local.whole-mem
+r = Value.rVal record { ty = Declared.row Begun.the-type; one = Path'.refl; val = Laws'8.val Begun.the-type Laws'6.the-laws; tells = Laws'8.tells
+    Begun.the-type Laws'6.the-laws; still = Laws'8.still Begun.the-type Laws'6.the-copy Exit.yes; row = Rows.whole (Declared.row Begun.the-type); rd = λ x. x;
+    mk = λ x. x } λ M 𝓤 H A W. record { copies = Laws'8.copy Begun.the-type Laws'6.the-copy 𝓤 H A W; lawful = Laws'8.lawful Begun.the-type Laws'6.the-laws 𝓤 H
+    A W; makes = Laws'8.makes Begun.the-type Laws'6.the-plain 𝓤 H A; in-mem = Local.mem-whole 𝓤 H A W (Declared.row Begun.the-type); of-mem = Local.whole-mem
     𝓤 H A W (Declared.row Begun.the-type) }
 abbrev pub xs : List Syntax.Ty
 xs = y7 ∷ y8 ∷ y9 ∷ y10 ∷ y13 ∷ y6 ∷ y8 ∷ []
@@ -187,19 +188,19 @@ m = 2
 abbrev pub ps·0 : List (Kinds.PK 0)
 ps·0 = []
 abbrev pub r·0 : Kinds.RK 0
-r·0 = Value.rVal record { ty = Declared.row Cursor.the-type; one = Path'.refl; val = Laws'8.val Cursor.the-type Laws'5.the-laws; tells = Laws'8.tells
-    Cursor.the-type Laws'5.the-laws; still = Laws'8.still Cursor.the-type Laws'5.the-copy Exit.yes; row = Rows.whole (Declared.row Cursor.the-type); rd = λ x.
-    x; mk = λ x. x } λ M 𝓤 H A W. record { copies = Laws'8.copy Cursor.the-type Laws'5.the-copy 𝓤 H A W; lawful = Laws'8.lawful Cursor.the-type
-    Laws'5.the-laws 𝓤 H A W; makes = Laws'8.makes Cursor.the-type Laws'5.the-plain 𝓤 H A; in-mem = Local.mem-whole 𝓤 H A W (Declared.row Cursor.the-type);
-    of-mem = Local.whole-mem 𝓤 H A W (Declared.row Cursor.the-type) }
+r·0 = Value.rVal record { ty = Declared.row Cursor.the-type; one = Path'.refl; val = Laws'8.val Cursor.the-type Laws'.the-laws; tells = Laws'8.tells
+    Cursor.the-type Laws'.the-laws; still = Laws'8.still Cursor.the-type Laws'.the-copy Exit.yes; row = Rows.whole (Declared.row Cursor.the-type); rd = λ x.
+    x; mk = λ x. x } λ M 𝓤 H A W. record { copies = Laws'8.copy Cursor.the-type Laws'.the-copy 𝓤 H A W; lawful = Laws'8.lawful Cursor.the-type Laws'.the-laws
+    𝓤 H A W; makes = Laws'8.makes Cursor.the-type Laws'.the-plain 𝓤 H A; in-mem = Local.mem-whole 𝓤 H A W (Declared.row Cursor.the-type); of-mem =
+    Local.whole-mem 𝓤 H A W (Declared.row Cursor.the-type) }
 abbrev pub ps·1 : List (Kinds.PK 3)
 ps·1 = (Num.pNum Syntax.w32) ∷ (ShrSlice.pShrS (Referent.rtF (Referent.fInt Syntax.w8)) 0 tt) ∷ (MutSlice.pMutS NodeRecordT.row 1 tt) ∷ (Kinds.pMut
     (Array.Array (Array.Array (Referent.rtF (Referent.fInt Syntax.w32)) 4) 32) 2 tt) ∷ (Value.pVal record { ty = Declared.row Cursor.the-type; one =
-    Path'.refl; val = Laws'8.val Cursor.the-type Laws'5.the-laws; tells = Laws'8.tells Cursor.the-type Laws'5.the-laws; still = Laws'8.still Cursor.the-type
-    Laws'5.the-copy Exit.yes; row = Rows.whole (Declared.row Cursor.the-type); rd = λ x. x; mk = λ x. x } λ M 𝓤 H A W. record { copies = Laws'8.copy
-    Cursor.the-type Laws'5.the-copy 𝓤 H A W; lawful = Laws'8.lawful Cursor.the-type Laws'5.the-laws 𝓤 H A W; makes = Laws'8.makes Cursor.the-type
-    Laws'5.the-plain 𝓤 H A; in-mem = Local.mem-whole 𝓤 H A W (Declared.row Cursor.the-type); of-mem = Local.whole-mem 𝓤 H A W (Declared.row Cursor.the-type)
-    }) ∷ []
+    Path'.refl; val = Laws'8.val Cursor.the-type Laws'.the-laws; tells = Laws'8.tells Cursor.the-type Laws'.the-laws; still = Laws'8.still Cursor.the-type
+    Laws'.the-copy Exit.yes; row = Rows.whole (Declared.row Cursor.the-type); rd = λ x. x; mk = λ x. x } λ M 𝓤 H A W. record { copies = Laws'8.copy
+    Cursor.the-type Laws'.the-copy 𝓤 H A W; lawful = Laws'8.lawful Cursor.the-type Laws'.the-laws 𝓤 H A W; makes = Laws'8.makes Cursor.the-type
+    Laws'.the-plain 𝓤 H A; in-mem = Local.mem-whole 𝓤 H A W (Declared.row Cursor.the-type); of-mem = Local.whole-mem 𝓤 H A W (Declared.row Cursor.the-type) })
+    ∷ []
 abbrev pub r·1 : Kinds.RK 3
 r·1 = Value.rVal record { ty = Declared.row Block.the-type; one = Path'.refl; val = Laws'8.val Block.the-type Laws.the-laws; tells = Laws'8.tells
     Block.the-type Laws.the-laws; still = Laws'8.still Block.the-type Laws.the-copy Exit.yes; row = Rows.whole (Declared.row Block.the-type); rd = λ x. x; mk
@@ -207,20 +208,20 @@ r·1 = Value.rVal record { ty = Declared.row Block.the-type; one = Path'.refl; v
     makes = Laws'8.makes Block.the-type Laws.the-plain 𝓤 H A; in-mem = Local.mem-whole 𝓤 H A W (Declared.row Block.the-type); of-mem = Local.whole-mem 𝓤 H A W
     (Declared.row Block.the-type) }
 abbrev pub ps·2 : List (Kinds.PK 0)
-ps·2 = (Num.pNum Syntax.w32) ∷ (Value.pVal record { ty = Declared.row Operand.the-type; one = Path'.refl; val = Laws'8.val Operand.the-type Laws'4.the-laws;
-    tells = Laws'8.tells Operand.the-type Laws'4.the-laws; still = Laws'8.still Operand.the-type Laws'4.the-copy Exit.yes; row = Rows.whole (Declared.row
-    Operand.the-type); rd = λ x. x; mk = λ x. x } λ M 𝓤 H A W. record { copies = Laws'8.copy Operand.the-type Laws'4.the-copy 𝓤 H A W; lawful = Laws'8.lawful
-    Operand.the-type Laws'4.the-laws 𝓤 H A W; makes = Laws'8.makes Operand.the-type Laws'4.the-plain 𝓤 H A; in-mem = Local.mem-whole 𝓤 H A W (Declared.row
+ps·2 = (Num.pNum Syntax.w32) ∷ (Value.pVal record { ty = Declared.row Operand.the-type; one = Path'.refl; val = Laws'8.val Operand.the-type Laws'7.the-laws;
+    tells = Laws'8.tells Operand.the-type Laws'7.the-laws; still = Laws'8.still Operand.the-type Laws'7.the-copy Exit.yes; row = Rows.whole (Declared.row
+    Operand.the-type); rd = λ x. x; mk = λ x. x } λ M 𝓤 H A W. record { copies = Laws'8.copy Operand.the-type Laws'7.the-copy 𝓤 H A W; lawful = Laws'8.lawful
+    Operand.the-type Laws'7.the-laws 𝓤 H A W; makes = Laws'8.makes Operand.the-type Laws'7.the-plain 𝓤 H A; in-mem = Local.mem-whole 𝓤 H A W (Declared.row
     Operand.the-type); of-mem = Local.whole-mem 𝓤 H A W (Declared.row Operand.the-type) }) ∷ (Value.pVal record { ty = Declared.row Block.the-type; one =
     Path'.refl; val = Laws'8.val Block.the-type Laws.the-laws; tells = Laws'8.tells Block.the-type Laws.the-laws; still = Laws'8.still Block.the-type
     Laws.the-copy Exit.yes; row = Rows.whole (Declared.row Block.the-type); rd = λ x. x; mk = λ x. x } λ M 𝓤 H A W. record { copies = Laws'8.copy
     Block.the-type Laws.the-copy 𝓤 H A W; lawful = Laws'8.lawful Block.the-type Laws.the-laws 𝓤 H A W; makes = Laws'8.makes Block.the-type Laws.the-plain 𝓤 H
     A; in-mem = Local.mem-whole 𝓤 H A W (Declared.row Block.the-type); of-mem = Local.whole-mem 𝓤 H A W (Declared.row Block.the-type) }) ∷ []
 abbrev pub r·2 : Kinds.RK 0
-r·2 = Value.rVal record { ty = Declared.row Operand.the-type; one = Path'.refl; val = Laws'8.val Operand.the-type Laws'4.the-laws; tells = Laws'8.tells
-    Operand.the-type Laws'4.the-laws; still = Laws'8.still Operand.the-type Laws'4.the-copy Exit.yes; row = Rows.whole (Declared.row Operand.the-type); rd = λ
-    x. x; mk = λ x. x } λ M 𝓤 H A W. record { copies = Laws'8.copy Operand.the-type Laws'4.the-copy 𝓤 H A W; lawful = Laws'8.lawful Operand.the-type
-    Laws'4.the-laws 𝓤 H A W; makes = Laws'8.makes Operand.the-type Laws'4.the-plain 𝓤 H A; in-mem = Local.mem-whole 𝓤 H A W (Declared.row Operand.the-type);
+r·2 = Value.rVal record { ty = Declared.row Operand.the-type; one = Path'.refl; val = Laws'8.val Operand.the-type Laws'7.the-laws; tells = Laws'8.tells
+    Operand.the-type Laws'7.the-laws; still = Laws'8.still Operand.the-type Laws'7.the-copy Exit.yes; row = Rows.whole (Declared.row Operand.the-type); rd = λ
+    x. x; mk = λ x. x } λ M 𝓤 H A W. record { copies = Laws'8.copy Operand.the-type Laws'7.the-copy 𝓤 H A W; lawful = Laws'8.lawful Operand.the-type
+    Laws'7.the-laws 𝓤 H A W; makes = Laws'8.makes Operand.the-type Laws'7.the-plain 𝓤 H A; in-mem = Local.mem-whole 𝓤 H A W (Declared.row Operand.the-type);
     of-mem = Local.whole-mem 𝓤 H A W (Declared.row Operand.the-type) }
 abbrev pub hs : List Syntax.Home
 hs = Syntax.valueLocal ∷ Syntax.valueLocal ∷ Syntax.valueLocal ∷ Syntax.valueLocal ∷ Syntax.valueLocal ∷ Syntax.valueLocal ∷ Syntax.valueLocal ∷
@@ -232,7 +233,7 @@ b1 = Syntax.assign (Syntax.place 8 []) (Syntax.aggregate ((Syntax.copy (Syntax.p
 abbrev b2 : Syntax.Body
 b2 = Syntax.assign (Syntax.place 9 []) (Syntax.addrOf (Syntax.place 4 ((Syntax.deref y12) ∷ [])))
 abbrev b3 : Syntax.Body
-b3 = Syntax.call "reader::first_cursor" [] (Syntax.place 10 [])
+b3 = Syntax.call "cursors::first_cursor" [] (Syntax.place 10 [])
 abbrev b4 : Syntax.Body
 b4 = Syntax.call "blocks::next_block" ((Syntax.copy (Syntax.place 1 [])) ∷ (Syntax.copy (Syntax.place 2 [])) ∷ (Syntax.copy (Syntax.place 8 [])) ∷
     (Syntax.copy (Syntax.place 9 [])) ∷ (Syntax.copy (Syntax.place 10 [])) ∷ []) (Syntax.place 5 [])
@@ -388,9 +389,9 @@ module _ (claims· : Claims) where
     module _ (M : Type 1) where
       abbrev pub Closed : Type 2
       Closed = (𝓤 : URA.URA M) (H : Wp.Heap 𝓤) (A : Atoms.Atoms 𝓤) (W : Kit.Given 𝓤 H A) (𝓣 : Wp.Tables 𝓤 H) (known0 : Plain.Known 𝓤 H A W 𝓣 0 ps·0 r·0
-          (claims· .0) (claims· .1) "reader::first_cursor") (known1 : Plain.Known 𝓤 H A W 𝓣 3 ps·1 r·1 (claims· .2) (claims· .3) "blocks::next_block") (known2
-          : Plain.Known 𝓤 H A W 𝓣 0 ps·2 r·2 (claims· .4) (claims· .5) "operands::settle") → Statement.Triple 𝓤 (Wp.WpFn 𝓤 H (𝓣 .C) (𝓣 .Λ) (Function.fnOf 3 ps
-          r xs m hs body)) (Function.plainOf 𝓤 H A 3 ps r Pre· Post·)
+          (claims· .0) (claims· .1) "cursors::first_cursor") (known1 : Plain.Known 𝓤 H A W 𝓣 3 ps·1 r·1 (claims· .2) (claims· .3) "blocks::next_block")
+          (known2 : Plain.Known 𝓤 H A W 𝓣 0 ps·2 r·2 (claims· .4) (claims· .5) "operands::settle") → Statement.Triple 𝓤 (Wp.WpFn 𝓤 H (𝓣 .C) (𝓣 .Λ)
+          (Function.fnOf 3 ps r xs m hs body)) (Function.plainOf 𝓤 H A 3 ps r Pre· Post·)
     module _ where
       abbrev at0 : Typed.TF T25 O0
       at0 = Typed.atRet O0
@@ -446,7 +447,7 @@ module _ (claims· : Claims) where
       Φ = at24
       module _ {M : Type 1} (𝓤 : URA.URA M) (H : Wp.Heap 𝓤) (A : Atoms.Atoms 𝓤) (W : Kit.Given 𝓤 H A) (𝓣 : Wp.Tables 𝓤 H) where
         abbrev Knowns : Type 1
-        Knowns = Plain.Known 𝓤 H A W 𝓣 0 ps·0 r·0 (claims· .0) (claims· .1) "reader::first_cursor" × Plain.Known 𝓤 H A W 𝓣 3 ps·1 r·1 (claims· .2) (claims·
+        Knowns = Plain.Known 𝓤 H A W 𝓣 0 ps·0 r·0 (claims· .0) (claims· .1) "cursors::first_cursor" × Plain.Known 𝓤 H A W 𝓣 3 ps·1 r·1 (claims· .2) (claims·
             .3) "blocks::next_block" × Plain.Known 𝓤 H A W 𝓣 0 ps·2 r·2 (claims· .4) (claims· .5) "operands::settle"
       module _ (κs : Lifetimes.Lfts 3) (qs : Lifetimes.Shares 3) where
         abbrev K0 : Row.Life
@@ -568,15 +569,15 @@ module _ (claims· : Claims) where
               Block.the-type) y7 Path'.refl)) d3
           d5 : Typed.Typed 𝓤 H A 𝓣 E G20 b9 Δ0 at5
           d5 = Typed.s-seq 𝓤 H A W 𝓣 E G20 G21 b7 b8 Δ0 (Typed.pass T20 T21 s19) at4 (Make.t-struct-make 𝓤 H A W E 𝓣 (Apart.apartT Begun.the-type)
-              Laws'3.the-laws Laws'3.the-plain G20 0 ((Scalar.oAt 11 y8 (Laws'8.val Operand.the-type Laws'4.the-laws)) ∷ (Scalar.oAt 5 y7 (Laws'8.val
+              Laws'6.the-laws Laws'6.the-plain G20 0 ((Scalar.oAt 11 y8 (Laws'8.val Operand.the-type Laws'7.the-laws)) ∷ (Scalar.oAt 5 y7 (Laws'8.val
               Block.the-type Laws.the-laws)) ∷ []) (λ m. (m .1 .1 .1 .1 .1 .1 .1 .1 .1 .1 .1 .0, (m .1 .1 .1 .1 .1 .0, tt))) (Reads'.room-gone 𝓤 H A y14)
-              ((Reads.reads-struct 𝓤 H A W Operand.the-type Laws'4.the-laws, Path'.refl), ((Reads.reads-struct 𝓤 H A W Block.the-type Laws.the-laws,
-              Path'.refl), tt)) Path'.refl (λ u. Path'.refl) λ m. Make.is-wt (Apart.apartT Begun.the-type) Laws'3.the-laws (Make.struct-wt Operand.the-type
-              Laws'4.the-laws (Make.bool-wt, (Make.u32-wt, (Make.bool-wt, tt))), (Make.struct-wt Block.the-type Laws.the-laws (Make.struct-wt Cursor.the-type
-              Laws'5.the-laws (Make.struct-wt Run.the-type Laws'7.the-laws (Make.struct-wt Ref.the-type Laws''.the-laws (Make.u32-wt, (Make.u32-wt, tt)),
-              (Make.struct-wt Pair.the-type Laws'6.the-laws (Make.bool-wt, (Make.struct-wt Ref.the-type Laws''.the-laws (Make.u32-wt, (Make.u32-wt, tt)),
-              (Make.struct-wt Ref.the-type Laws''.the-laws (Make.u32-wt, (Make.u32-wt, tt)), tt))), (Make.u64-wt, (Make.u64-wt, (Make.u32-wt, (Whole.enum-wt
-              Context.the-type Laws'.the-laws (tt, (tt, (tt, (tt, (tt, (tt, (tt, tt))))))), (Make.bool-wt, tt))))))), (Make.u64-wt, tt)), (Make.u64-wt,
+              ((Reads.reads-struct 𝓤 H A W Operand.the-type Laws'7.the-laws, Path'.refl), ((Reads.reads-struct 𝓤 H A W Block.the-type Laws.the-laws,
+              Path'.refl), tt)) Path'.refl (λ u. Path'.refl) λ m. Make.is-wt (Apart.apartT Begun.the-type) Laws'6.the-laws (Make.struct-wt Operand.the-type
+              Laws'7.the-laws (Make.bool-wt, (Make.u32-wt, (Make.bool-wt, tt))), (Make.struct-wt Block.the-type Laws.the-laws (Make.struct-wt Cursor.the-type
+              Laws'.the-laws (Make.struct-wt Run.the-type Laws'3.the-laws (Make.struct-wt Ref.the-type Laws'5.the-laws (Make.u32-wt, (Make.u32-wt, tt)),
+              (Make.struct-wt Pair.the-type Laws''.the-laws (Make.bool-wt, (Make.struct-wt Ref.the-type Laws'5.the-laws (Make.u32-wt, (Make.u32-wt, tt)),
+              (Make.struct-wt Ref.the-type Laws'5.the-laws (Make.u32-wt, (Make.u32-wt, tt)), tt))), (Make.u64-wt, (Make.u64-wt, (Make.u32-wt, (Whole.enum-wt
+              Context.the-type Laws'4.the-laws (tt, (tt, (tt, (tt, (tt, (tt, (tt, tt))))))), (Make.bool-wt, tt))))))), (Make.u64-wt, tt)), (Make.u64-wt,
               (Make.u64-wt, (Make.u32-wt, (Make.bool-wt, (Make.bool-wt, tt)))))), tt)) (m .1 .1 .1 .1 .1 .1 .1 .1 .1 .1 .1 .0, (m .1 .1 .1 .1 .1 .0, tt))) d4
           d6 : Typed.Typed 𝓤 H A 𝓣 E G19 b9 Δ0 at6
           d6 = Typed.g-pre 𝓤 H A W 𝓣 E G19 G20 b9 Δ0 (Typed.pass T19 T20 s18) at5 (Scalar.g-room 𝓤 H A W E G19 6 y8 (Local.room-whole 𝓤 H A W (Declared.row
@@ -585,7 +586,7 @@ module _ (claims· : Claims) where
           d7 = Typed.s-seq 𝓤 H A W 𝓣 E G18 G19 b6 b9 Δ0 (Typed.both s17) at6 (Plain.t-call-plain 𝓤 H A W 𝓣 0 ps·2 r·2 (claims· .4) (claims· .5)
               "operands::settle" (known .2) E (λ pos β. β) G18 (Num.vLit 0, (record { pos = 6; st = []; d = 0; at = λ x. x }, (record { pos = 5; st = []; d =
               0; at = λ x. x }, tt))) 11 [] (Call.sub-id 𝓤 H A W (G18 .slots)) (tt, ((Yields.yields-copy 𝓤 H A W (λ ρ. Unit) (Declared.row Operand.the-type)
-              Path'.refl (Copies.cStruct Operand.the-type Laws'4.the-laws Laws'4.the-copy .copy 𝓤 H A W) (Rows.whole (Declared.row Operand.the-type)) (λ x. x)
+              Path'.refl (Copies.cStruct Operand.the-type Laws'7.the-laws Laws'7.the-copy .copy 𝓤 H A W) (Rows.whole (Declared.row Operand.the-type)) (λ x. x)
               (λ x. x) (λ ρ told. Local.mem-whole 𝓤 H A W (Declared.row Operand.the-type) ρ) λ ρ told. Local.whole-mem 𝓤 H A W (Declared.row Operand.the-type)
               ρ, Path'.refl), ((Yields.yields-copy 𝓤 H A W (λ ρ. Unit) (Declared.row Block.the-type) Path'.refl (Copies.cStruct Block.the-type Laws.the-laws
               Laws.the-copy .copy 𝓤 H A W) (Rows.whole (Declared.row Block.the-type)) (λ x. x) (λ x. x) (λ ρ told. Local.mem-whole 𝓤 H A W (Declared.row
@@ -597,9 +598,9 @@ module _ (claims· : Claims) where
               (Operand.struct .Ghost) (Operand.struct .make) (λ v g. Path'.refl) ρ v tt b) d7
           d9 : Typed.Typed 𝓤 H A 𝓣 E G16 b11 Δ0 at9
           d9 = Typed.s-seq 𝓤 H A W 𝓣 E G16 G17 b5 b10 Δ0 (Typed.pass T15 T17 s15) at8 (Make.t-struct-make 𝓤 H A W E 𝓣 (Apart.apartT Operand.the-type)
-              Laws'4.the-laws Laws'4.the-plain G16 6 ((Scalar.oBool Bool.true) ∷ (Scalar.oInt Syntax.w32 0) ∷ (Scalar.oBool Bool.false) ∷ []) (λ m.
+              Laws'7.the-laws Laws'7.the-plain G16 6 ((Scalar.oBool Bool.true) ∷ (Scalar.oInt Syntax.w32 0) ∷ (Scalar.oBool Bool.false) ∷ []) (λ m.
               (Bool.true, (0, (Bool.false, tt)))) (Reads'.room-gone 𝓤 H A y8) (tt, (tt, (tt, tt))) Path'.refl (λ u. Path'.refl) λ m. Make.is-wt (Apart.apartT
-              Operand.the-type) Laws'4.the-laws (Make.bool-wt, (Make.u32-wt, (Make.bool-wt, tt))) (Bool.true, (0, (Bool.false, tt)))) d8
+              Operand.the-type) Laws'7.the-laws (Make.bool-wt, (Make.u32-wt, (Make.bool-wt, tt))) (Bool.true, (0, (Bool.false, tt)))) d8
           d10 : Typed.Typed 𝓤 H A 𝓣 E G15 b11 Δ0 at10
           d10 = Typed.g-pre 𝓤 H A W 𝓣 E G15 G16 b11 Δ0 (λ Ψ. Ψ) at9 (Lifetime.g-forget 𝓤 H A W E G15 4 Row.dead Path'.refl) d9
           d11 : Typed.Typed 𝓤 H A 𝓣 E G14 b11 Δ0 at11
@@ -629,12 +630,13 @@ module _ (claims· : Claims) where
               (Mut.mslice NodeRecordT.row y9 3), Mut.reads-mslice 𝓤 H A W NodeRecordT.row y9 3, Path'.refl, (Reads'.as-is 𝓤 H A (Rows.mref (Array.Array
               (Array.Array (Referent.rtF (Referent.fInt Syntax.w32)) 4) 32) y13 4), Reads'.reads-mref 𝓤 H A W (Array.Array (Array.Array (Referent.rtF
               (Referent.fInt Syntax.w32)) 4) 32) y13 4, Path'.refl, ((Yields.yields-copy 𝓤 H A W (λ ρ. Unit) (Declared.row Cursor.the-type) Path'.refl
-              (Copies.cStruct Cursor.the-type Laws'5.the-laws Laws'5.the-copy .copy 𝓤 H A W) (Rows.whole (Declared.row Cursor.the-type)) (λ x. x) (λ x. x) (λ
-              ρ told. Local.mem-whole 𝓤 H A W (Declared.row Cursor.the-type) ρ) λ ρ told. Local.whole-mem 𝓤 H A W (Declared.row Cursor.the-type) ρ,
-              Path'.refl), tt))))) (Reads'.room-gone 𝓤 H A y7) (tt, (tt, (tt, tt))) Path'.refl) d16
+              (Copies.cStruct Cursor.the-type Laws'.the-laws Laws'.the-copy .copy 𝓤 H A W) (Rows.whole (Declared.row Cursor.the-type)) (λ x. x) (λ x. x) (λ ρ
+              told. Local.mem-whole 𝓤 H A W (Declared.row Cursor.the-type) ρ) λ ρ told. Local.whole-mem 𝓤 H A W (Declared.row Cursor.the-type) ρ, Path'.refl),
+              tt))))) (Reads'.room-gone 𝓤 H A y7) (tt, (tt, (tt, tt))) Path'.refl) d16
           d18 : Typed.Typed 𝓤 H A 𝓣 E G7 b13 Δ0 at18
           d18 = Typed.s-seq 𝓤 H A W 𝓣 E G7 G8 b3 b12 Δ0 (Typed.both s6) at17 (Plain.t-call-plain 𝓤 H A W 𝓣 0 ps·0 r·0 (claims· .0) (claims· .1)
-              "reader::first_cursor" (known .0) E (λ pos β. β) G7 tt 10 [] (Call.sub-id 𝓤 H A W (G7 .slots)) tt (Reads'.room-gone 𝓤 H A y6) tt Path'.refl) d17
+              "cursors::first_cursor" (known .0) E (λ pos β. β) G7 tt 10 [] (Call.sub-id 𝓤 H A W (G7 .slots)) tt (Reads'.room-gone 𝓤 H A y6) tt Path'.refl)
+              d17
           d19 : Typed.Typed 𝓤 H A 𝓣 E G6 b14 Δ0 at19
           d19 = Typed.s-seq 𝓤 H A W 𝓣 E G6 G7 b2 b13 Δ0 (Typed.give s5) at18 (Reborrow.t-mref-relend 𝓤 H A W E 𝓣 G6 4 9 2 4 (Array.Array (Array.Array
               (Referent.rtF (Referent.fInt Syntax.w32)) 4) 32) y12 y18 y13 K1 (λ x. x) (Reads'.as-is 𝓤 H A (Rows.mref (Array.Array (Array.Array (Referent.rtF
@@ -819,7 +821,7 @@ module _ (claims· : Claims) where
           asked = λ a good pre bs. laid record { κs = κs; args = record { n = a .0; s = a .1 .0; t = a .1 .1 .0; o = a .1 .1 .1 .0 }; good = good; fits =
               record { n = record { fits = good .0 .1 } }; pre = pre }
         module _ {M : Type 1} (𝓤 : URA.URA M) (H : Wp.Heap 𝓤) (A : Atoms.Atoms 𝓤) (W : Kit.Given 𝓤 H A) (𝓣 : Wp.Tables 𝓤 H) (known0 : Plain.Known 𝓤 H A W 𝓣 0
-            ps·0 r·0 (claims· .0) (claims· .1) "reader::first_cursor") (known1 : Plain.Known 𝓤 H A W 𝓣 3 ps·1 r·1 (claims· .2) (claims· .3)
+            ps·0 r·0 (claims· .0) (claims· .1) "cursors::first_cursor") (known1 : Plain.Known 𝓤 H A W 𝓣 3 ps·1 r·1 (claims· .2) (claims· .3)
             "blocks::next_block") (known2 : Plain.Known 𝓤 H A W 𝓣 0 ps·2 r·2 (claims· .4) (claims· .5) "operands::settle") where
           pub spec : Statement.Triple 𝓤 (Wp.WpFn 𝓤 H (𝓣 .C) (𝓣 .Λ) (Function.fnOf 3 ps r xs m hs body)) (Function.plainOf 𝓤 H A 3 ps r Pre· Post·)
           spec = Plain.t-fn-plain 𝓤 H A W 𝓣 3 ps r xs m hs body (λ κs qs bs. Φ) (λ κs qs bs bd. typed κs qs 𝓤 H A W 𝓣 (known0, known1, known2) bs bd) Pre·

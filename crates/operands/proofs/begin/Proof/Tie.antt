@@ -1,11 +1,11 @@
 -- Generated: the needs of begin at its contract, and how its theorem closes.
--- From 0209d886595e68de, as 9bb74a9d1e915609.
+-- From 69fbee6aad42fdc1, as 8d2e4e2671df3641.
 use borrow.Fn.Run
 use borrow.Fn.Written
 use contract.Running.{givenOf, tablesOf}
-use Rattle.reader.proofs.first_cursor.Reads as first-cursor-reads
-use Rattle.reader.proofs.first_cursor.Met as first-cursor-met
-use Rattle.reader.proofs.first_cursor.Symbol as first-cursor-symbol
+use Rattle.cursors.proofs.first_cursor.Reads as first-cursor-reads
+use Rattle.cursors.proofs.first_cursor.Met as first-cursor-met
+use Rattle.cursors.proofs.first_cursor.Symbol as first-cursor-symbol
 use Rattle.blocks.proofs.Lifted.next_block as next-block-reads
 use Rattle.blocks.proofs.next_block.Met as next-block-met
 use Rattle.blocks.proofs.next_block.Symbol as next-block-symbol
@@ -45,6 +45,6 @@ module _ {M : Type 1} where
   close closed 𝓤 H 𝓜 𝓖 𝓡 =
       Written.close 3 self.ps self.r self.Ghost self.requires self.ensures self.pre-read self.Pinned self.Owned self.post-read record { M = M; 𝓤 = 𝓤; H = H; 𝓜 = 𝓜; 𝓖 = 𝓖; 𝓡 = 𝓡 } code.env Key.name code.function (code.unfolded 𝓤 H 𝓜 𝓡)
       (λ κs a g. tt) (λ κs. self.owns κs record { M = M; 𝓤 = 𝓤; H = H; 𝓜 = 𝓜; 𝓖 = 𝓖; 𝓡 = 𝓡 }) (self.passes record { M = M; 𝓤 = 𝓤; H = H; 𝓜 = 𝓜; 𝓖 = 𝓖; 𝓡 = 𝓡 }) λ g. closed 𝓤 H (𝓖 .A) (givenOf 𝓤 H 𝓜 𝓖) (Run.Over 𝓤 H 𝓜 𝓖 𝓡 code.env)
-      (first-cursor-reads.known record { M = M; 𝓤 = 𝓤; H = H; 𝓜 = 𝓜; 𝓖 = 𝓖; 𝓡 = 𝓡 } code.env first-cursor-symbol.name first-cursor-symbol.routine code.calls-reader·first-cursor (first-cursor-met.met 𝓤 H 𝓜 𝓖 𝓡))
+      (first-cursor-reads.known record { M = M; 𝓤 = 𝓤; H = H; 𝓜 = 𝓜; 𝓖 = 𝓖; 𝓡 = 𝓡 } code.env first-cursor-symbol.name first-cursor-symbol.routine code.calls-cursors·first-cursor (first-cursor-met.met 𝓤 H 𝓜 𝓖 𝓡))
       (next-block-reads.known record { M = M; 𝓤 = 𝓤; H = H; 𝓜 = 𝓜; 𝓖 = 𝓖; 𝓡 = 𝓡 } code.env next-block-symbol.name next-block-symbol.routine code.calls-blocks·next-block (next-block-met.met 𝓤 H 𝓜 𝓖 𝓡))
       (settle-reads.known record { M = M; 𝓤 = 𝓤; H = H; 𝓜 = 𝓜; 𝓖 = 𝓖; 𝓡 = 𝓡 } code.env settle-symbol.name settle-symbol.routine code.calls-operands·settle (settle-met.met 𝓤 H 𝓜 𝓖 𝓡))

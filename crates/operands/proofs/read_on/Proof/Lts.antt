@@ -1,13 +1,13 @@
 -- Generated: the derivation of a body.
--- From 0209d886595e68de, as ae7dfdcee9f71c12.
+-- From 69fbee6aad42fdc1, as 822d638237e1abcc.
 use Prim.Native.Nat
 use Rattle.blocks.proofs.Block
 use Rattle.blocks.proofs.Block.Laws
+use Rattle.cursors.proofs.Cursor
+use Rattle.cursors.proofs.Cursor.Laws as Laws'
 use Rattle.node_records.proofs.Tables.NodeRecord as NodeRecordT
 use Rattle.operands.proofs.Operand
-use Rattle.operands.proofs.Operand.Laws as Laws'
-use Rattle.reader.proofs.Cursor
-use Rattle.reader.proofs.Cursor.Laws as Laws''
+use Rattle.operands.proofs.Operand.Laws as Laws''
 use borrow.Author.Called
 use borrow.Fn.Any
 use borrow.Fn.Call
@@ -75,8 +75,8 @@ y0 = Syntax.tyInt Syntax.w32
 abbrev y1 : Syntax.Ty
 y1 = Syntax.tyStruct (101 ∷ 108 ∷ 101 ∷ 109 ∷ 101 ∷ 110 ∷ 116 ∷ 115 ∷ 58 ∷ 58 ∷ 82 ∷ 101 ∷ 102 ∷ []) (Syntax.tcons y0 (Syntax.tcons y0 Syntax.tnil))
 abbrev y2 : Syntax.Ty
-y2 = Syntax.tyStruct (114 ∷ 101 ∷ 97 ∷ 100 ∷ 101 ∷ 114 ∷ 58 ∷ 58 ∷ 80 ∷ 97 ∷ 105 ∷ 114 ∷ []) (Syntax.tcons Syntax.tyBool (Syntax.tcons y1 (Syntax.tcons y1
-    Syntax.tnil)))
+y2 = Syntax.tyStruct (99 ∷ 117 ∷ 114 ∷ 115 ∷ 111 ∷ 114 ∷ 115 ∷ 58 ∷ 58 ∷ 80 ∷ 97 ∷ 105 ∷ 114 ∷ []) (Syntax.tcons Syntax.tyBool (Syntax.tcons y1 (Syntax.tcons
+    y1 Syntax.tnil)))
 abbrev y3 : Syntax.Ty
 y3 = Syntax.tyInt Syntax.w64
 abbrev y4 : Syntax.Ty
@@ -84,10 +84,11 @@ y4 = Syntax.tyEnum (101 ∷ 108 ∷ 101 ∷ 109 ∷ 101 ∷ 110 ∷ 116 ∷ 115 
     (Syntax.ttcons Syntax.tnil (Syntax.ttcons Syntax.tnil (Syntax.ttcons Syntax.tnil (Syntax.ttcons Syntax.tnil (Syntax.ttcons Syntax.tnil (Syntax.ttcons
     Syntax.tnil Syntax.ttnil)))))))
 abbrev y5 : Syntax.Ty
-y5 = Syntax.tyStruct (114 ∷ 101 ∷ 97 ∷ 100 ∷ 101 ∷ 114 ∷ 58 ∷ 58 ∷ 82 ∷ 117 ∷ 110 ∷ []) (Syntax.tcons y1 (Syntax.tcons y2 (Syntax.tcons y3 (Syntax.tcons y3
-    (Syntax.tcons y0 (Syntax.tcons y4 (Syntax.tcons Syntax.tyBool Syntax.tnil)))))))
+y5 = Syntax.tyStruct (99 ∷ 117 ∷ 114 ∷ 115 ∷ 111 ∷ 114 ∷ 115 ∷ 58 ∷ 58 ∷ 82 ∷ 117 ∷ 110 ∷ []) (Syntax.tcons y1 (Syntax.tcons y2 (Syntax.tcons y3 (Syntax.tcons
+    y3 (Syntax.tcons y0 (Syntax.tcons y4 (Syntax.tcons Syntax.tyBool Syntax.tnil)))))))
 abbrev y6 : Syntax.Ty
-y6 = Syntax.tyStruct (114 ∷ 101 ∷ 97 ∷ 100 ∷ 101 ∷ 114 ∷ 58 ∷ 58 ∷ 67 ∷ 117 ∷ 114 ∷ 115 ∷ 111 ∷ 114 ∷ []) (Syntax.tcons y5 (Syntax.tcons y3 Syntax.tnil))
+y6 = Syntax.tyStruct (99 ∷ 117 ∷ 114 ∷ 115 ∷ 111 ∷ 114 ∷ 115 ∷ 58 ∷ 58 ∷ 67 ∷ 117 ∷ 114 ∷ 115 ∷ 111 ∷ 114 ∷ []) (Syntax.tcons y5 (Syntax.tcons y3
+    Syntax.tnil))
 abbrev y7 : Syntax.Ty
 y7 = Syntax.tyRef Syntax.erased Syntax.mut NodeRecordT.behind
 abbrev y8 : Syntax.Ty
@@ -167,9 +168,9 @@ e12b = (12, Rows.mleft (Array.Array (Array.Array (Referent.rtF (Referent.fInt Sy
 abbrev pub ps : List (Kinds.PK 3)
 ps = (Num.pNum Syntax.w32) ∷ (ShrSlice.pShrS (Referent.rtF (Referent.fInt Syntax.w8)) 0 tt) ∷ (MutSlice.pMutS NodeRecordT.row 1 tt) ∷ (Kinds.pMut (Array.Array
     (Array.Array (Referent.rtF (Referent.fInt Syntax.w32)) 4) 32) 2 tt) ∷ (Value.pVal record { ty = Declared.row Operand.the-type; one = Path'.refl; val =
-    Laws'3.val Operand.the-type Laws'.the-laws; tells = Laws'3.tells Operand.the-type Laws'.the-laws; still = Laws'3.still Operand.the-type Laws'.the-copy
+    Laws'3.val Operand.the-type Laws''.the-laws; tells = Laws'3.tells Operand.the-type Laws''.the-laws; still = Laws'3.still Operand.the-type Laws''.the-copy
     Exit.yes; row = Rows.whole (Declared.row Operand.the-type); rd = λ x. x; mk = λ x. x } λ M 𝓤 H A W. record { copies = Laws'3.copy Operand.the-type
-    Laws'.the-copy 𝓤 H A W; lawful = Laws'3.lawful Operand.the-type Laws'.the-laws 𝓤 H A W; makes = Laws'3.makes Operand.the-type Laws'.the-plain 𝓤 H A;
+    Laws''.the-copy 𝓤 H A W; lawful = Laws'3.lawful Operand.the-type Laws''.the-laws 𝓤 H A W; makes = Laws'3.makes Operand.the-type Laws''.the-plain 𝓤 H A;
     in-mem = Local.mem-whole 𝓤 H A W (Declared.row Operand.the-type); of-mem = Local.whole-mem 𝓤 H A W (Declared.row Operand.the-type) }) ∷ (Value.pVal record
     { ty = Declared.row Block.the-type; one = Path'.refl; val = Laws'3.val Block.the-type Laws.the-laws; tells = Laws'3.tells Block.the-type Laws.the-laws;
     still = Laws'3.still Block.the-type Laws.the-copy Exit.yes; row = Rows.whole (Declared.row Block.the-type); rd = λ x. x; mk = λ x. x } λ M 𝓤 H A W. record
@@ -189,11 +190,11 @@ m = 2
 abbrev pub ps·0 : List (Kinds.PK 3)
 ps·0 = (Num.pNum Syntax.w32) ∷ (ShrSlice.pShrS (Referent.rtF (Referent.fInt Syntax.w8)) 0 tt) ∷ (MutSlice.pMutS NodeRecordT.row 1 tt) ∷ (Kinds.pMut
     (Array.Array (Array.Array (Referent.rtF (Referent.fInt Syntax.w32)) 4) 32) 2 tt) ∷ (Value.pVal record { ty = Declared.row Cursor.the-type; one =
-    Path'.refl; val = Laws'3.val Cursor.the-type Laws''.the-laws; tells = Laws'3.tells Cursor.the-type Laws''.the-laws; still = Laws'3.still Cursor.the-type
-    Laws''.the-copy Exit.yes; row = Rows.whole (Declared.row Cursor.the-type); rd = λ x. x; mk = λ x. x } λ M 𝓤 H A W. record { copies = Laws'3.copy
-    Cursor.the-type Laws''.the-copy 𝓤 H A W; lawful = Laws'3.lawful Cursor.the-type Laws''.the-laws 𝓤 H A W; makes = Laws'3.makes Cursor.the-type
-    Laws''.the-plain 𝓤 H A; in-mem = Local.mem-whole 𝓤 H A W (Declared.row Cursor.the-type); of-mem = Local.whole-mem 𝓤 H A W (Declared.row Cursor.the-type)
-    }) ∷ []
+    Path'.refl; val = Laws'3.val Cursor.the-type Laws'.the-laws; tells = Laws'3.tells Cursor.the-type Laws'.the-laws; still = Laws'3.still Cursor.the-type
+    Laws'.the-copy Exit.yes; row = Rows.whole (Declared.row Cursor.the-type); rd = λ x. x; mk = λ x. x } λ M 𝓤 H A W. record { copies = Laws'3.copy
+    Cursor.the-type Laws'.the-copy 𝓤 H A W; lawful = Laws'3.lawful Cursor.the-type Laws'.the-laws 𝓤 H A W; makes = Laws'3.makes Cursor.the-type
+    Laws'.the-plain 𝓤 H A; in-mem = Local.mem-whole 𝓤 H A W (Declared.row Cursor.the-type); of-mem = Local.whole-mem 𝓤 H A W (Declared.row Cursor.the-type) })
+    ∷ []
 abbrev pub r·0 : Kinds.RK 3
 r·0 = Value.rVal record { ty = Declared.row Block.the-type; one = Path'.refl; val = Laws'3.val Block.the-type Laws.the-laws; tells = Laws'3.tells
     Block.the-type Laws.the-laws; still = Laws'3.still Block.the-type Laws.the-copy Exit.yes; row = Rows.whole (Declared.row Block.the-type); rd = λ x. x; mk
@@ -340,7 +341,7 @@ module _ (claims· : Claims) where
   abbrev s0 : (bs : List Nat.ℕ) → Typed.Gives T0 T2
   s0 = λ bs. Know.k-shs-known (Referent.fInt Syntax.w8) T0 2 0 y14 Row.off 0 λ x. x
   abbrev s1 : (bs : List Nat.ℕ) → Typed.Mo T2 → Typed.Mo T3
-  s1 = λ bs. Scalar.n-use T2 (Scalar.oFld 5 ((Syntax.field 0) ∷ []) Syntax.tyBool 0 (Reads.fieldV Operand.the-type Laws'.the-laws 0)) 7 (Rows.sc-here
+  s1 = λ bs. Scalar.n-use T2 (Scalar.oFld 5 ((Syntax.field 0) ∷ []) Syntax.tyBool 0 (Reads.fieldV Operand.the-type Laws''.the-laws 0)) 7 (Rows.sc-here
       Row.sBool) (Row.sBool .of)
   abbrev s2 : (bs : List Nat.ℕ) → Typed.Mo T3 → Typed.Mo T4
   s2 = λ bs. Scalar.n-room T3 5 y17
@@ -611,9 +612,9 @@ module _ (claims· : Claims) where
               (Mut.mslice NodeRecordT.row y7 3), Mut.reads-mslice 𝓤 H A W NodeRecordT.row y7 3, Path'.refl, (Reads'.as-is 𝓤 H A (Rows.mref (Array.Array
               (Array.Array (Referent.rtF (Referent.fInt Syntax.w32)) 4) 32) y11 4), Reads'.reads-mref 𝓤 H A W (Array.Array (Array.Array (Referent.rtF
               (Referent.fInt Syntax.w32)) 4) 32) y11 4, Path'.refl, ((Yields.yields-copy 𝓤 H A W (λ ρ. Unit) (Declared.row Cursor.the-type) Path'.refl
-              (Copies.cStruct Cursor.the-type Laws''.the-laws Laws''.the-copy .copy 𝓤 H A W) (Rows.whole (Declared.row Cursor.the-type)) (λ x. x) (λ x. x) (λ
-              ρ told. Local.mem-whole 𝓤 H A W (Declared.row Cursor.the-type) ρ) λ ρ told. Local.whole-mem 𝓤 H A W (Declared.row Cursor.the-type) ρ,
-              Path'.refl), tt))))) (Reads'.room-gone 𝓤 H A y12) (tt, (tt, (tt, tt))) Path'.refl) d9
+              (Copies.cStruct Cursor.the-type Laws'.the-laws Laws'.the-copy .copy 𝓤 H A W) (Rows.whole (Declared.row Cursor.the-type)) (λ x. x) (λ x. x) (λ ρ
+              told. Local.mem-whole 𝓤 H A W (Declared.row Cursor.the-type) ρ) λ ρ told. Local.whole-mem 𝓤 H A W (Declared.row Cursor.the-type) ρ, Path'.refl),
+              tt))))) (Reads'.room-gone 𝓤 H A y12) (tt, (tt, (tt, tt))) Path'.refl) d9
           d11 : Typed.Typed 𝓤 H A 𝓣 E G13 b9 Δ1 (at11 bs)
           d11 = Typed.s-seq 𝓤 H A W 𝓣 E G13 G14 b5 b8 Δ1 (Typed.give (s11 bs)) (at10 bs) (Reborrow.t-mref-relend 𝓤 H A W E 𝓣 G13 4 12 2 4 (Array.Array
               (Array.Array (Referent.rtF (Referent.fInt Syntax.w32)) 4) 32) y10 y16 y11 K1 (λ x. x) (Reads'.as-is 𝓤 H A (Rows.mref (Array.Array (Array.Array
@@ -638,8 +639,8 @@ module _ (claims· : Claims) where
               (Declared.row Block.the-type) y12 Path'.refl)) d15
           d17 : Typed.Typed 𝓤 H A 𝓣 E G7 b12 Δ1 (at17 bs)
           d17 = Typed.s-seq 𝓤 H A W 𝓣 E G7 G8 b2 b11 Δ1 (Typed.both (s5 bs)) (at16 bs) (WayStmt.t-way-copy-out 𝓤 H A W E 𝓣 (Declared.row Cursor.the-type)
-              Path'.refl (Copies.cStruct Cursor.the-type Laws''.the-laws Laws''.the-copy .copy 𝓤 H A W) (λ ρ. Unit) G7 (Row.out 6 (G7 .locals)) (λ u. Row.drop
-              6 (G7 .locals) u) (G7 .slots) 6 (λ t. (Syntax.field 0) ∷ t) y6 y6 8 (Rows.whole (Declared.row Cursor.the-type)) (λ x. x) (λ u. At.getAt
+              Path'.refl (Copies.cStruct Cursor.the-type Laws'.the-laws Laws'.the-copy .copy 𝓤 H A W) (λ ρ. Unit) G7 (Row.out 6 (G7 .locals)) (λ u. Row.drop 6
+              (G7 .locals) u) (G7 .slots) 6 (λ t. (Syntax.field 0) ∷ t) y6 y6 8 (Rows.whole (Declared.row Cursor.the-type)) (λ x. x) (λ u. At.getAt
               (Block.the-type .parts) 0 (Block.struct .as-values (u .1 .1 .1 .1 .1 .1 .0))) (λ u. (Row.hd 0 (Row.tl (Row.tl (Row.tl (Row.tl (Row.tl (Row.tl
               bs)))))), Nat._+_ 0 0)) (λ T′. record { locals = Row.setRow 6 (6, Rows.whole (Declared.row Block.the-type)) T′; slots = G7 .slots }) (λ u T′ m′.
               Row.set 6 (6, Rows.whole (Declared.row Block.the-type)) (u .1 .1 .1 .1 .1 .1 .0) T′ m′) (λ u. Unit) (λ x. Unit) (Own.told-none 𝓤 H A (G7
@@ -696,9 +697,9 @@ module _ (claims· : Claims) where
               (Declared.row Operand.the-type) y17 Path'.refl)) d28
           d30 : Typed.Typed 𝓤 H A 𝓣 E G2 b20 Δ0 (at30 bs)
           d30 = Typed.s-seq 𝓤 H A W 𝓣 E G2 G3 b0 b19 Δ0 (Typed.pass T2 T3 (s1 bs)) (at29 bs) (Scalar.t-use 𝓤 H A W E 𝓣 G2 (Scalar.oFld 5 ((Syntax.field 0) ∷
-              []) Syntax.tyBool 0 (Reads.fieldV Operand.the-type Laws'.the-laws 0)) 7 (Rows.sc-here Row.sBool) Syntax.tyBool (Row.valS Row.sBool) (Row.sBool
-              .of) (Reads.reads-field 𝓤 H A W Operand.the-type Laws'.the-laws 0 Syntax.tyBool 0 Path'.refl, Path'.refl) (Reads'.room-gone 𝓤 H A Syntax.tyBool)
-              (Scalar.holds-sc 𝓤 H A W Row.sBool) Path'.refl (λ u. Path'.refl) λ u. tt) d29
+              []) Syntax.tyBool 0 (Reads.fieldV Operand.the-type Laws''.the-laws 0)) 7 (Rows.sc-here Row.sBool) Syntax.tyBool (Row.valS Row.sBool) (Row.sBool
+              .of) (Reads.reads-field 𝓤 H A W Operand.the-type Laws''.the-laws 0 Syntax.tyBool 0 Path'.refl, Path'.refl) (Reads'.room-gone 𝓤 H A
+              Syntax.tyBool) (Scalar.holds-sc 𝓤 H A W Row.sBool) Path'.refl (λ u. Path'.refl) λ u. tt) d29
           d31 : Typed.Typed 𝓤 H A 𝓣 E G0 b20 Δ0 (at31 bs)
           d31 = Typed.g-pre 𝓤 H A W 𝓣 E G0 G2 b20 Δ0 (Typed.give (s0 bs)) (at30 bs) (Know.g-shs-known 𝓤 H A W (Referent.fInt Syntax.w8) E G0 2 0 y14 K2 0 (λ
               x. x) record { fits = Dec'.lit< tt } (Reads'.as-is 𝓤 H A (Rows.sslice (Referent.rtF (Referent.fInt Syntax.w8)) y14 0)) Path'.refl tt) d30
@@ -711,10 +712,10 @@ module _ (claims· : Claims) where
           pub t : Kinds.Den {n = 3} κs (MutSlice.pMutS NodeRecordT.row 1 tt)
           pub o : Kinds.Den {n = 3} κs (Kinds.pMut (Array.Array (Array.Array (Referent.rtF (Referent.fInt Syntax.w32)) 4) 32) 2 tt)
           pub f : Kinds.Den {n = 3} κs (Value.pVal record { ty = Declared.row Operand.the-type; one = Path'.refl; val = Laws'3.val Operand.the-type
-              Laws'.the-laws; tells = Laws'3.tells Operand.the-type Laws'.the-laws; still = Laws'3.still Operand.the-type Laws'.the-copy Exit.yes; row =
+              Laws''.the-laws; tells = Laws'3.tells Operand.the-type Laws''.the-laws; still = Laws'3.still Operand.the-type Laws''.the-copy Exit.yes; row =
               Rows.whole (Declared.row Operand.the-type); rd = λ x. x; mk = λ x. x } λ M 𝓤 H A W. record { copies = Laws'3.copy Operand.the-type
-              Laws'.the-copy 𝓤 H A W; lawful = Laws'3.lawful Operand.the-type Laws'.the-laws 𝓤 H A W; makes = Laws'3.makes Operand.the-type Laws'.the-plain 𝓤
-              H A; in-mem = Local.mem-whole 𝓤 H A W (Declared.row Operand.the-type); of-mem = Local.whole-mem 𝓤 H A W (Declared.row Operand.the-type) })
+              Laws''.the-copy 𝓤 H A W; lawful = Laws'3.lawful Operand.the-type Laws''.the-laws 𝓤 H A W; makes = Laws'3.makes Operand.the-type Laws''.the-plain
+              𝓤 H A; in-mem = Local.mem-whole 𝓤 H A W (Declared.row Operand.the-type); of-mem = Local.whole-mem 𝓤 H A W (Declared.row Operand.the-type) })
           pub b : Kinds.Den {n = 3} κs (Value.pVal record { ty = Declared.row Block.the-type; one = Path'.refl; val = Laws'3.val Block.the-type Laws.the-laws;
               tells = Laws'3.tells Block.the-type Laws.the-laws; still = Laws'3.still Block.the-type Laws.the-copy Exit.yes; row = Rows.whole (Declared.row
               Block.the-type); rd = λ x. x; mk = λ x. x } λ M 𝓤 H A W. record { copies = Laws'3.copy Block.the-type Laws.the-copy 𝓤 H A W; lawful =

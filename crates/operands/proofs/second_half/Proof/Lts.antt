@@ -1,23 +1,23 @@
 -- Generated: the derivation of a body.
--- From 0209d886595e68de, as d45e47281c633700.
+-- From 69fbee6aad42fdc1, as 7ee13eb3b9b97cdf.
 use Prim.Native.Nat
 use Rattle.blocks.proofs.Block
 use Rattle.blocks.proofs.Block.Laws
+use Rattle.cursors.proofs.Cursor
+use Rattle.cursors.proofs.Cursor.Laws as Laws'
+use Rattle.cursors.proofs.Pair
+use Rattle.cursors.proofs.Pair.Laws as Laws''
+use Rattle.cursors.proofs.Run
+use Rattle.cursors.proofs.Run.Laws as Laws'3
 use Rattle.elements.proofs.Context
-use Rattle.elements.proofs.Context.Laws as Laws'
+use Rattle.elements.proofs.Context.Laws as Laws'4
 use Rattle.elements.proofs.Ref
-use Rattle.elements.proofs.Ref.Laws as Laws''
+use Rattle.elements.proofs.Ref.Laws as Laws'5
 use Rattle.node_records.proofs.Tables.NodeRecord as NodeRecordT
 use Rattle.operands.proofs.Begun
-use Rattle.operands.proofs.Begun.Laws as Laws'3
+use Rattle.operands.proofs.Begun.Laws as Laws'6
 use Rattle.operands.proofs.Operand
-use Rattle.operands.proofs.Operand.Laws as Laws'4
-use Rattle.reader.proofs.Cursor
-use Rattle.reader.proofs.Cursor.Laws as Laws'5
-use Rattle.reader.proofs.Pair
-use Rattle.reader.proofs.Pair.Laws as Laws'6
-use Rattle.reader.proofs.Run
-use Rattle.reader.proofs.Run.Laws as Laws'7
+use Rattle.operands.proofs.Operand.Laws as Laws'7
 use borrow.Author.Called
 use borrow.Enum.Whole
 use borrow.Fn.Any
@@ -81,8 +81,8 @@ y0 = Syntax.tyInt Syntax.w32
 abbrev y1 : Syntax.Ty
 y1 = Syntax.tyStruct (101 ∷ 108 ∷ 101 ∷ 109 ∷ 101 ∷ 110 ∷ 116 ∷ 115 ∷ 58 ∷ 58 ∷ 82 ∷ 101 ∷ 102 ∷ []) (Syntax.tcons y0 (Syntax.tcons y0 Syntax.tnil))
 abbrev y2 : Syntax.Ty
-y2 = Syntax.tyStruct (114 ∷ 101 ∷ 97 ∷ 100 ∷ 101 ∷ 114 ∷ 58 ∷ 58 ∷ 80 ∷ 97 ∷ 105 ∷ 114 ∷ []) (Syntax.tcons Syntax.tyBool (Syntax.tcons y1 (Syntax.tcons y1
-    Syntax.tnil)))
+y2 = Syntax.tyStruct (99 ∷ 117 ∷ 114 ∷ 115 ∷ 111 ∷ 114 ∷ 115 ∷ 58 ∷ 58 ∷ 80 ∷ 97 ∷ 105 ∷ 114 ∷ []) (Syntax.tcons Syntax.tyBool (Syntax.tcons y1 (Syntax.tcons
+    y1 Syntax.tnil)))
 abbrev y3 : Syntax.Ty
 y3 = Syntax.tyInt Syntax.w64
 abbrev y4 : Syntax.Ty
@@ -90,10 +90,11 @@ y4 = Syntax.tyEnum (101 ∷ 108 ∷ 101 ∷ 109 ∷ 101 ∷ 110 ∷ 116 ∷ 115 
     (Syntax.ttcons Syntax.tnil (Syntax.ttcons Syntax.tnil (Syntax.ttcons Syntax.tnil (Syntax.ttcons Syntax.tnil (Syntax.ttcons Syntax.tnil (Syntax.ttcons
     Syntax.tnil Syntax.ttnil)))))))
 abbrev y5 : Syntax.Ty
-y5 = Syntax.tyStruct (114 ∷ 101 ∷ 97 ∷ 100 ∷ 101 ∷ 114 ∷ 58 ∷ 58 ∷ 82 ∷ 117 ∷ 110 ∷ []) (Syntax.tcons y1 (Syntax.tcons y2 (Syntax.tcons y3 (Syntax.tcons y3
-    (Syntax.tcons y0 (Syntax.tcons y4 (Syntax.tcons Syntax.tyBool Syntax.tnil)))))))
+y5 = Syntax.tyStruct (99 ∷ 117 ∷ 114 ∷ 115 ∷ 111 ∷ 114 ∷ 115 ∷ 58 ∷ 58 ∷ 82 ∷ 117 ∷ 110 ∷ []) (Syntax.tcons y1 (Syntax.tcons y2 (Syntax.tcons y3 (Syntax.tcons
+    y3 (Syntax.tcons y0 (Syntax.tcons y4 (Syntax.tcons Syntax.tyBool Syntax.tnil)))))))
 abbrev y6 : Syntax.Ty
-y6 = Syntax.tyStruct (114 ∷ 101 ∷ 97 ∷ 100 ∷ 101 ∷ 114 ∷ 58 ∷ 58 ∷ 67 ∷ 117 ∷ 114 ∷ 115 ∷ 111 ∷ 114 ∷ []) (Syntax.tcons y5 (Syntax.tcons y3 Syntax.tnil))
+y6 = Syntax.tyStruct (99 ∷ 117 ∷ 114 ∷ 115 ∷ 111 ∷ 114 ∷ 115 ∷ 58 ∷ 58 ∷ 67 ∷ 117 ∷ 114 ∷ 115 ∷ 111 ∷ 114 ∷ []) (Syntax.tcons y5 (Syntax.tcons y3
+    Syntax.tnil))
 abbrev y7 : Syntax.Ty
 y7 = Syntax.tyStruct (98 ∷ 108 ∷ 111 ∷ 99 ∷ 107 ∷ 115 ∷ 58 ∷ 58 ∷ 66 ∷ 108 ∷ 111 ∷ 99 ∷ 107 ∷ []) (Syntax.tcons y6 (Syntax.tcons y3 (Syntax.tcons y3
     (Syntax.tcons y0 (Syntax.tcons Syntax.tyBool (Syntax.tcons Syntax.tyBool Syntax.tnil))))))
@@ -192,20 +193,20 @@ e0a = (0, Rows.whole (Declared.row (Apart.apartT Begun.the-type)))
 abbrev pub ps : List (Kinds.PK 3)
 ps = (Num.pNum Syntax.w32) ∷ (Num.pNum Syntax.w32) ∷ (ShrSlice.pShrS (Referent.rtF (Referent.fInt Syntax.w8)) 0 tt) ∷ (MutSlice.pMutS NodeRecordT.row 1 tt) ∷
     (Kinds.pMut (Array.Array (Array.Array (Referent.rtF (Referent.fInt Syntax.w32)) 4) 32) 2 tt) ∷ (Value.pVal record { ty = Declared.row Operand.the-type;
-    one = Path'.refl; val = Laws'8.val Operand.the-type Laws'4.the-laws; tells = Laws'8.tells Operand.the-type Laws'4.the-laws; still = Laws'8.still
-    Operand.the-type Laws'4.the-copy Exit.yes; row = Rows.whole (Declared.row Operand.the-type); rd = λ x. x; mk = λ x. x } λ M 𝓤 H A W. record { copies =
-    Laws'8.copy Operand.the-type Laws'4.the-copy 𝓤 H A W; lawful = Laws'8.lawful Operand.the-type Laws'4.the-laws 𝓤 H A W; makes = Laws'8.makes
-    Operand.the-type Laws'4.the-plain 𝓤 H A; in-mem = Local.mem-whole 𝓤 H A W (Declared.row Operand.the-type); of-mem = Local.whole-mem 𝓤 H A W (Declared.row
+    one = Path'.refl; val = Laws'8.val Operand.the-type Laws'7.the-laws; tells = Laws'8.tells Operand.the-type Laws'7.the-laws; still = Laws'8.still
+    Operand.the-type Laws'7.the-copy Exit.yes; row = Rows.whole (Declared.row Operand.the-type); rd = λ x. x; mk = λ x. x } λ M 𝓤 H A W. record { copies =
+    Laws'8.copy Operand.the-type Laws'7.the-copy 𝓤 H A W; lawful = Laws'8.lawful Operand.the-type Laws'7.the-laws 𝓤 H A W; makes = Laws'8.makes
+    Operand.the-type Laws'7.the-plain 𝓤 H A; in-mem = Local.mem-whole 𝓤 H A W (Declared.row Operand.the-type); of-mem = Local.whole-mem 𝓤 H A W (Declared.row
     Operand.the-type) }) ∷ (Value.pVal record { ty = Declared.row Block.the-type; one = Path'.refl; val = Laws'8.val Block.the-type Laws.the-laws; tells =
     Laws'8.tells Block.the-type Laws.the-laws; still = Laws'8.still Block.the-type Laws.the-copy Exit.yes; row = Rows.whole (Declared.row Block.the-type); rd
     = λ x. x; mk = λ x. x } λ M 𝓤 H A W. record { copies = Laws'8.copy Block.the-type Laws.the-copy 𝓤 H A W; lawful = Laws'8.lawful Block.the-type
     Laws.the-laws 𝓤 H A W; makes = Laws'8.makes Block.the-type Laws.the-plain 𝓤 H A; in-mem = Local.mem-whole 𝓤 H A W (Declared.row Block.the-type); of-mem =
     Local.whole-mem 𝓤 H A W (Declared.row Block.the-type) }) ∷ []
 abbrev pub r : Kinds.RK 3
-r = Value.rVal record { ty = Declared.row Begun.the-type; one = Path'.refl; val = Laws'8.val Begun.the-type Laws'3.the-laws; tells = Laws'8.tells
-    Begun.the-type Laws'3.the-laws; still = Laws'8.still Begun.the-type Laws'3.the-copy Exit.yes; row = Rows.whole (Declared.row Begun.the-type); rd = λ x. x;
-    mk = λ x. x } λ M 𝓤 H A W. record { copies = Laws'8.copy Begun.the-type Laws'3.the-copy 𝓤 H A W; lawful = Laws'8.lawful Begun.the-type Laws'3.the-laws 𝓤 H
-    A W; makes = Laws'8.makes Begun.the-type Laws'3.the-plain 𝓤 H A; in-mem = Local.mem-whole 𝓤 H A W (Declared.row Begun.the-type); of-mem = Local.whole-mem
+r = Value.rVal record { ty = Declared.row Begun.the-type; one = Path'.refl; val = Laws'8.val Begun.the-type Laws'6.the-laws; tells = Laws'8.tells
+    Begun.the-type Laws'6.the-laws; still = Laws'8.still Begun.the-type Laws'6.the-copy Exit.yes; row = Rows.whole (Declared.row Begun.the-type); rd = λ x. x;
+    mk = λ x. x } λ M 𝓤 H A W. record { copies = Laws'8.copy Begun.the-type Laws'6.the-copy 𝓤 H A W; lawful = Laws'8.lawful Begun.the-type Laws'6.the-laws 𝓤 H
+    A W; makes = Laws'8.makes Begun.the-type Laws'6.the-plain 𝓤 H A; in-mem = Local.mem-whole 𝓤 H A W (Declared.row Begun.the-type); of-mem = Local.whole-mem
     𝓤 H A W (Declared.row Begun.the-type) }
 abbrev pub xs : List Syntax.Ty
 xs = y7 ∷ y8 ∷ y9 ∷ y12 ∷ y13 ∷ y14 ∷ y15 ∷ []
@@ -214,10 +215,10 @@ m = 3
 abbrev pub ps·0 : List (Kinds.PK 3)
 ps·0 = (Num.pNum Syntax.w32) ∷ (ShrSlice.pShrS (Referent.rtF (Referent.fInt Syntax.w8)) 0 tt) ∷ (MutSlice.pMutS NodeRecordT.row 1 tt) ∷ (Kinds.pMut
     (Array.Array (Array.Array (Referent.rtF (Referent.fInt Syntax.w32)) 4) 32) 2 tt) ∷ (Value.pVal record { ty = Declared.row Operand.the-type; one =
-    Path'.refl; val = Laws'8.val Operand.the-type Laws'4.the-laws; tells = Laws'8.tells Operand.the-type Laws'4.the-laws; still = Laws'8.still
-    Operand.the-type Laws'4.the-copy Exit.yes; row = Rows.whole (Declared.row Operand.the-type); rd = λ x. x; mk = λ x. x } λ M 𝓤 H A W. record { copies =
-    Laws'8.copy Operand.the-type Laws'4.the-copy 𝓤 H A W; lawful = Laws'8.lawful Operand.the-type Laws'4.the-laws 𝓤 H A W; makes = Laws'8.makes
-    Operand.the-type Laws'4.the-plain 𝓤 H A; in-mem = Local.mem-whole 𝓤 H A W (Declared.row Operand.the-type); of-mem = Local.whole-mem 𝓤 H A W (Declared.row
+    Path'.refl; val = Laws'8.val Operand.the-type Laws'7.the-laws; tells = Laws'8.tells Operand.the-type Laws'7.the-laws; still = Laws'8.still
+    Operand.the-type Laws'7.the-copy Exit.yes; row = Rows.whole (Declared.row Operand.the-type); rd = λ x. x; mk = λ x. x } λ M 𝓤 H A W. record { copies =
+    Laws'8.copy Operand.the-type Laws'7.the-copy 𝓤 H A W; lawful = Laws'8.lawful Operand.the-type Laws'7.the-laws 𝓤 H A W; makes = Laws'8.makes
+    Operand.the-type Laws'7.the-plain 𝓤 H A; in-mem = Local.mem-whole 𝓤 H A W (Declared.row Operand.the-type); of-mem = Local.whole-mem 𝓤 H A W (Declared.row
     Operand.the-type) }) ∷ (Value.pVal record { ty = Declared.row Block.the-type; one = Path'.refl; val = Laws'8.val Block.the-type Laws.the-laws; tells =
     Laws'8.tells Block.the-type Laws.the-laws; still = Laws'8.still Block.the-type Laws.the-copy Exit.yes; row = Rows.whole (Declared.row Block.the-type); rd
     = λ x. x; mk = λ x. x } λ M 𝓤 H A W. record { copies = Laws'8.copy Block.the-type Laws.the-copy 𝓤 H A W; lawful = Laws'8.lawful Block.the-type
@@ -231,9 +232,9 @@ r·0 = Value.rVal record { ty = Declared.row Block.the-type; one = Path'.refl; v
     (Declared.row Block.the-type) }
 abbrev pub ps·1 : List (Kinds.PK 1)
 ps·1 = (ShrSlice.pShrS NodeRecordT.row 0 tt) ∷ (Num.pNum Syntax.w32) ∷ (Value.pVal record { ty = Declared.row Operand.the-type; one = Path'.refl; val =
-    Laws'8.val Operand.the-type Laws'4.the-laws; tells = Laws'8.tells Operand.the-type Laws'4.the-laws; still = Laws'8.still Operand.the-type Laws'4.the-copy
+    Laws'8.val Operand.the-type Laws'7.the-laws; tells = Laws'8.tells Operand.the-type Laws'7.the-laws; still = Laws'8.still Operand.the-type Laws'7.the-copy
     Exit.yes; row = Rows.whole (Declared.row Operand.the-type); rd = λ x. x; mk = λ x. x } λ M 𝓤 H A W. record { copies = Laws'8.copy Operand.the-type
-    Laws'4.the-copy 𝓤 H A W; lawful = Laws'8.lawful Operand.the-type Laws'4.the-laws 𝓤 H A W; makes = Laws'8.makes Operand.the-type Laws'4.the-plain 𝓤 H A;
+    Laws'7.the-copy 𝓤 H A W; lawful = Laws'8.lawful Operand.the-type Laws'7.the-laws 𝓤 H A W; makes = Laws'8.makes Operand.the-type Laws'7.the-plain 𝓤 H A;
     in-mem = Local.mem-whole 𝓤 H A W (Declared.row Operand.the-type); of-mem = Local.whole-mem 𝓤 H A W (Declared.row Operand.the-type) }) ∷ (Value.pVal record
     { ty = Declared.row Block.the-type; one = Path'.refl; val = Laws'8.val Block.the-type Laws.the-laws; tells = Laws'8.tells Block.the-type Laws.the-laws;
     still = Laws'8.still Block.the-type Laws.the-copy Exit.yes; row = Rows.whole (Declared.row Block.the-type); rd = λ x. x; mk = λ x. x } λ M 𝓤 H A W. record
@@ -241,10 +242,10 @@ ps·1 = (ShrSlice.pShrS NodeRecordT.row 0 tt) ∷ (Num.pNum Syntax.w32) ∷ (Val
     Block.the-type Laws.the-plain 𝓤 H A; in-mem = Local.mem-whole 𝓤 H A W (Declared.row Block.the-type); of-mem = Local.whole-mem 𝓤 H A W (Declared.row
     Block.the-type) }) ∷ []
 abbrev pub r·1 : Kinds.RK 1
-r·1 = Value.rVal record { ty = Declared.row Operand.the-type; one = Path'.refl; val = Laws'8.val Operand.the-type Laws'4.the-laws; tells = Laws'8.tells
-    Operand.the-type Laws'4.the-laws; still = Laws'8.still Operand.the-type Laws'4.the-copy Exit.yes; row = Rows.whole (Declared.row Operand.the-type); rd = λ
-    x. x; mk = λ x. x } λ M 𝓤 H A W. record { copies = Laws'8.copy Operand.the-type Laws'4.the-copy 𝓤 H A W; lawful = Laws'8.lawful Operand.the-type
-    Laws'4.the-laws 𝓤 H A W; makes = Laws'8.makes Operand.the-type Laws'4.the-plain 𝓤 H A; in-mem = Local.mem-whole 𝓤 H A W (Declared.row Operand.the-type);
+r·1 = Value.rVal record { ty = Declared.row Operand.the-type; one = Path'.refl; val = Laws'8.val Operand.the-type Laws'7.the-laws; tells = Laws'8.tells
+    Operand.the-type Laws'7.the-laws; still = Laws'8.still Operand.the-type Laws'7.the-copy Exit.yes; row = Rows.whole (Declared.row Operand.the-type); rd = λ
+    x. x; mk = λ x. x } λ M 𝓤 H A W. record { copies = Laws'8.copy Operand.the-type Laws'7.the-copy 𝓤 H A W; lawful = Laws'8.lawful Operand.the-type
+    Laws'7.the-laws 𝓤 H A W; makes = Laws'8.makes Operand.the-type Laws'7.the-plain 𝓤 H A; in-mem = Local.mem-whole 𝓤 H A W (Declared.row Operand.the-type);
     of-mem = Local.whole-mem 𝓤 H A W (Declared.row Operand.the-type) }
 abbrev pub hs : List Syntax.Home
 hs = Syntax.valueLocal ∷ Syntax.valueLocal ∷ Syntax.valueLocal ∷ Syntax.valueLocal ∷ Syntax.valueLocal ∷ Syntax.valueLocal ∷ Syntax.valueLocal ∷
@@ -647,15 +648,15 @@ module _ (claims· : Claims) where
               Block.the-type) y7 Path'.refl)) d4
           d6 : Typed.Typed 𝓤 H A 𝓣 E G24 b9 Δ0 at6
           d6 = Typed.s-seq 𝓤 H A W 𝓣 E G24 G25 b7 b8 Δ0 (Typed.pass T23 T25 s23) at5 (Make.t-struct-make 𝓤 H A W E 𝓣 (Apart.apartT Begun.the-type)
-              Laws'3.the-laws Laws'3.the-plain G24 0 ((Scalar.oAt 12 y13 (Laws'8.val Operand.the-type Laws'4.the-laws)) ∷ (Scalar.oAt 8 y7 (Laws'8.val
+              Laws'6.the-laws Laws'6.the-plain G24 0 ((Scalar.oAt 12 y13 (Laws'8.val Operand.the-type Laws'7.the-laws)) ∷ (Scalar.oAt 8 y7 (Laws'8.val
               Block.the-type Laws.the-laws)) ∷ []) (λ m. (m .1 .1 .1 .1 .1 .1 .1 .1 .1 .1 .1 .1 .0, (m .1 .1 .1 .1 .1 .1 .1 .1 .0, tt))) (Reads'.room-gone 𝓤 H
-              A y16) ((Reads.reads-struct 𝓤 H A W Operand.the-type Laws'4.the-laws, Path'.refl), ((Reads.reads-struct 𝓤 H A W Block.the-type Laws.the-laws,
-              Path'.refl), tt)) Path'.refl (λ u. Path'.refl) λ m. Make.is-wt (Apart.apartT Begun.the-type) Laws'3.the-laws (Make.struct-wt Operand.the-type
-              Laws'4.the-laws (Make.bool-wt, (Make.u32-wt, (Make.bool-wt, tt))), (Make.struct-wt Block.the-type Laws.the-laws (Make.struct-wt Cursor.the-type
-              Laws'5.the-laws (Make.struct-wt Run.the-type Laws'7.the-laws (Make.struct-wt Ref.the-type Laws''.the-laws (Make.u32-wt, (Make.u32-wt, tt)),
-              (Make.struct-wt Pair.the-type Laws'6.the-laws (Make.bool-wt, (Make.struct-wt Ref.the-type Laws''.the-laws (Make.u32-wt, (Make.u32-wt, tt)),
-              (Make.struct-wt Ref.the-type Laws''.the-laws (Make.u32-wt, (Make.u32-wt, tt)), tt))), (Make.u64-wt, (Make.u64-wt, (Make.u32-wt, (Whole.enum-wt
-              Context.the-type Laws'.the-laws (tt, (tt, (tt, (tt, (tt, (tt, (tt, tt))))))), (Make.bool-wt, tt))))))), (Make.u64-wt, tt)), (Make.u64-wt,
+              A y16) ((Reads.reads-struct 𝓤 H A W Operand.the-type Laws'7.the-laws, Path'.refl), ((Reads.reads-struct 𝓤 H A W Block.the-type Laws.the-laws,
+              Path'.refl), tt)) Path'.refl (λ u. Path'.refl) λ m. Make.is-wt (Apart.apartT Begun.the-type) Laws'6.the-laws (Make.struct-wt Operand.the-type
+              Laws'7.the-laws (Make.bool-wt, (Make.u32-wt, (Make.bool-wt, tt))), (Make.struct-wt Block.the-type Laws.the-laws (Make.struct-wt Cursor.the-type
+              Laws'.the-laws (Make.struct-wt Run.the-type Laws'3.the-laws (Make.struct-wt Ref.the-type Laws'5.the-laws (Make.u32-wt, (Make.u32-wt, tt)),
+              (Make.struct-wt Pair.the-type Laws''.the-laws (Make.bool-wt, (Make.struct-wt Ref.the-type Laws'5.the-laws (Make.u32-wt, (Make.u32-wt, tt)),
+              (Make.struct-wt Ref.the-type Laws'5.the-laws (Make.u32-wt, (Make.u32-wt, tt)), tt))), (Make.u64-wt, (Make.u64-wt, (Make.u32-wt, (Whole.enum-wt
+              Context.the-type Laws'4.the-laws (tt, (tt, (tt, (tt, (tt, (tt, (tt, tt))))))), (Make.bool-wt, tt))))))), (Make.u64-wt, tt)), (Make.u64-wt,
               (Make.u64-wt, (Make.u32-wt, (Make.bool-wt, (Make.bool-wt, tt)))))), tt)) (m .1 .1 .1 .1 .1 .1 .1 .1 .1 .1 .1 .1 .0, (m .1 .1 .1 .1 .1 .1 .1 .1
               .0, tt))) d5
           d7 : Typed.Typed 𝓤 H A 𝓣 E G23 b9 Δ0 at7
@@ -677,7 +678,7 @@ module _ (claims· : Claims) where
               = []; d = 0; at = λ x. x }, (record { pos = 8; st = []; d = 0; at = λ x. x }, tt)))) 12 (5 ∷ []) (Call.sub-id 𝓤 H A W (G18 .slots))
               (ShrSlice.spares-sslice 𝓤 H A W NodeRecordT.row y14 5, Shared.reads-sslice 𝓤 H A W NodeRecordT.row y14 5, Path'.refl, ((Scalar.reads-sc 𝓤 H A W
               (Row.sInt Syntax.w32), Path'.refl), ((Yields.yields-copy 𝓤 H A W (λ ρ. Unit) (Declared.row Operand.the-type) Path'.refl (Copies.cStruct
-              Operand.the-type Laws'4.the-laws Laws'4.the-copy .copy 𝓤 H A W) (Rows.whole (Declared.row Operand.the-type)) (λ x. x) (λ x. x) (λ ρ told.
+              Operand.the-type Laws'7.the-laws Laws'7.the-copy .copy 𝓤 H A W) (Rows.whole (Declared.row Operand.the-type)) (λ x. x) (λ x. x) (λ ρ told.
               Local.mem-whole 𝓤 H A W (Declared.row Operand.the-type) ρ) λ ρ told. Local.whole-mem 𝓤 H A W (Declared.row Operand.the-type) ρ, Path'.refl),
               ((Yields.yields-copy 𝓤 H A W (λ ρ. Unit) (Declared.row Block.the-type) Path'.refl (Copies.cStruct Block.the-type Laws.the-laws Laws.the-copy
               .copy 𝓤 H A W) (Rows.whole (Declared.row Block.the-type)) (λ x. x) (λ x. x) (λ ρ told. Local.mem-whole 𝓤 H A W (Declared.row Block.the-type) ρ)
@@ -723,7 +724,7 @@ module _ (claims· : Claims) where
               Syntax.w8)) y18 0, Path'.refl, (Reads'.as-is 𝓤 H A (Mut.mslice NodeRecordT.row y8 3), Mut.reads-mslice 𝓤 H A W NodeRecordT.row y8 3, Path'.refl,
               (Reads'.as-is 𝓤 H A (Rows.mref (Array.Array (Array.Array (Referent.rtF (Referent.fInt Syntax.w32)) 4) 32) y12 4), Reads'.reads-mref 𝓤 H A W
               (Array.Array (Array.Array (Referent.rtF (Referent.fInt Syntax.w32)) 4) 32) y12 4, Path'.refl, ((Yields.yields-copy 𝓤 H A W (λ ρ. Unit)
-              (Declared.row Operand.the-type) Path'.refl (Copies.cStruct Operand.the-type Laws'4.the-laws Laws'4.the-copy .copy 𝓤 H A W) (Rows.whole
+              (Declared.row Operand.the-type) Path'.refl (Copies.cStruct Operand.the-type Laws'7.the-laws Laws'7.the-copy .copy 𝓤 H A W) (Rows.whole
               (Declared.row Operand.the-type)) (λ x. x) (λ x. x) (λ ρ told. Local.mem-whole 𝓤 H A W (Declared.row Operand.the-type) ρ) λ ρ told.
               Local.whole-mem 𝓤 H A W (Declared.row Operand.the-type) ρ, Path'.refl), ((Yields.yields-copy 𝓤 H A W (λ ρ. Unit) (Declared.row Block.the-type)
               Path'.refl (Copies.cStruct Block.the-type Laws.the-laws Laws.the-copy .copy 𝓤 H A W) (Rows.whole (Declared.row Block.the-type)) (λ x. x) (λ x.
@@ -761,9 +762,9 @@ module _ (claims· : Claims) where
           pub t : Kinds.Den {n = 3} κs (MutSlice.pMutS NodeRecordT.row 1 tt)
           pub o : Kinds.Den {n = 3} κs (Kinds.pMut (Array.Array (Array.Array (Referent.rtF (Referent.fInt Syntax.w32)) 4) 32) 2 tt)
           pub f : Kinds.Den {n = 3} κs (Value.pVal record { ty = Declared.row Operand.the-type; one = Path'.refl; val = Laws'8.val Operand.the-type
-              Laws'4.the-laws; tells = Laws'8.tells Operand.the-type Laws'4.the-laws; still = Laws'8.still Operand.the-type Laws'4.the-copy Exit.yes; row =
+              Laws'7.the-laws; tells = Laws'8.tells Operand.the-type Laws'7.the-laws; still = Laws'8.still Operand.the-type Laws'7.the-copy Exit.yes; row =
               Rows.whole (Declared.row Operand.the-type); rd = λ x. x; mk = λ x. x } λ M 𝓤 H A W. record { copies = Laws'8.copy Operand.the-type
-              Laws'4.the-copy 𝓤 H A W; lawful = Laws'8.lawful Operand.the-type Laws'4.the-laws 𝓤 H A W; makes = Laws'8.makes Operand.the-type Laws'4.the-plain
+              Laws'7.the-copy 𝓤 H A W; lawful = Laws'8.lawful Operand.the-type Laws'7.the-laws 𝓤 H A W; makes = Laws'8.makes Operand.the-type Laws'7.the-plain
               𝓤 H A; in-mem = Local.mem-whole 𝓤 H A W (Declared.row Operand.the-type); of-mem = Local.whole-mem 𝓤 H A W (Declared.row Operand.the-type) })
           pub b : Kinds.Den {n = 3} κs (Value.pVal record { ty = Declared.row Block.the-type; one = Path'.refl; val = Laws'8.val Block.the-type Laws.the-laws;
               tells = Laws'8.tells Block.the-type Laws.the-laws; still = Laws'8.still Block.the-type Laws.the-copy Exit.yes; row = Rows.whole (Declared.row

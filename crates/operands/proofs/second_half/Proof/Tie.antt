@@ -1,5 +1,5 @@
 -- Generated: the needs of second_half at its contract, and how its theorem closes.
--- From 0209d886595e68de, as d817edfe39431864.
+-- From 69fbee6aad42fdc1, as d817edfe39431864.
 use borrow.Fn.Run
 use borrow.Fn.Written
 use contract.Running.{givenOf, tablesOf}

@@ -1,5 +1,5 @@
 -- Generated: the needs of recall_entry at its contract, and how its theorem closes.
--- From 13e0ad0eaccf4d37, as ee79b7f19327406a.
+-- From ee92856c029ce089, as ee79b7f19327406a.
 use borrow.Fn.Run
 use borrow.Fn.Written
 use contract.Running.{givenOf, tablesOf}

@@ -1,17 +1,17 @@
 -- Generated: the derivation of a body.
--- From 9ee42f47e9b6bdb7, as 49489043343f635c.
+-- From ca16d0e1cc319667, as 08bf9079338e4097.
 use Prim.Native.Nat
+use Rattle.cursors.proofs.Pair
+use Rattle.cursors.proofs.Pair.Laws
+use Rattle.cursors.proofs.Run
+use Rattle.cursors.proofs.Run.Laws as Laws'
 use Rattle.elements.proofs.Context
-use Rattle.elements.proofs.Context.Laws
+use Rattle.elements.proofs.Context.Laws as Laws''
 use Rattle.elements.proofs.Ref
-use Rattle.elements.proofs.Ref.Laws as Laws'
+use Rattle.elements.proofs.Ref.Laws as Laws'3
 use Rattle.node_records.proofs.NodeRecord
-use Rattle.node_records.proofs.NodeRecord.Laws as Laws''
+use Rattle.node_records.proofs.NodeRecord.Laws as Laws'4
 use Rattle.node_records.proofs.Tables.NodeRecord as NodeRecordT
-use Rattle.reader.proofs.Pair
-use Rattle.reader.proofs.Pair.Laws as Laws'3
-use Rattle.reader.proofs.Run
-use Rattle.reader.proofs.Run.Laws as Laws'4
 use borrow.Author.Called
 use borrow.Author.Tests
 use borrow.Enum.Make
@@ -84,8 +84,8 @@ y1 = Syntax.tyInt Syntax.w32
 abbrev y2 : Syntax.Ty
 y2 = Syntax.tyStruct (101 ∷ 108 ∷ 101 ∷ 109 ∷ 101 ∷ 110 ∷ 116 ∷ 115 ∷ 58 ∷ 58 ∷ 82 ∷ 101 ∷ 102 ∷ []) (Syntax.tcons y1 (Syntax.tcons y1 Syntax.tnil))
 abbrev y3 : Syntax.Ty
-y3 = Syntax.tyStruct (114 ∷ 101 ∷ 97 ∷ 100 ∷ 101 ∷ 114 ∷ 58 ∷ 58 ∷ 80 ∷ 97 ∷ 105 ∷ 114 ∷ []) (Syntax.tcons Syntax.tyBool (Syntax.tcons y2 (Syntax.tcons y2
-    Syntax.tnil)))
+y3 = Syntax.tyStruct (99 ∷ 117 ∷ 114 ∷ 115 ∷ 111 ∷ 114 ∷ 115 ∷ 58 ∷ 58 ∷ 80 ∷ 97 ∷ 105 ∷ 114 ∷ []) (Syntax.tcons Syntax.tyBool (Syntax.tcons y2 (Syntax.tcons
+    y2 Syntax.tnil)))
 abbrev y4 : Syntax.Ty
 y4 = Syntax.tyStruct (110 ∷ 111 ∷ 100 ∷ 101 ∷ 95 ∷ 114 ∷ 101 ∷ 99 ∷ 111 ∷ 114 ∷ 100 ∷ 115 ∷ 58 ∷ 58 ∷ 78 ∷ 111 ∷ 100 ∷ 101 ∷ 82 ∷ 101 ∷ 99 ∷ 111 ∷ 114 ∷ 100 ∷
     []) (Syntax.tcons y1 (Syntax.tcons y1 (Syntax.tcons y1 (Syntax.tcons y1 (Syntax.tcons y1 (Syntax.tcons y1 (Syntax.tcons y1 (Syntax.tcons y1
@@ -95,8 +95,8 @@ y5 = Syntax.tyRef (Syntax.named 0) Syntax.imm NodeRecordT.behind
 abbrev y6 : Syntax.Ty
 y6 = Syntax.tyInt Syntax.w64
 abbrev y7 : Syntax.Ty
-y7 = Syntax.tyStruct (114 ∷ 101 ∷ 97 ∷ 100 ∷ 101 ∷ 114 ∷ 58 ∷ 58 ∷ 82 ∷ 117 ∷ 110 ∷ []) (Syntax.tcons y2 (Syntax.tcons y3 (Syntax.tcons y6 (Syntax.tcons y6
-    (Syntax.tcons y1 (Syntax.tcons y0 (Syntax.tcons Syntax.tyBool Syntax.tnil)))))))
+y7 = Syntax.tyStruct (99 ∷ 117 ∷ 114 ∷ 115 ∷ 111 ∷ 114 ∷ 115 ∷ 58 ∷ 58 ∷ 82 ∷ 117 ∷ 110 ∷ []) (Syntax.tcons y2 (Syntax.tcons y3 (Syntax.tcons y6 (Syntax.tcons
+    y6 (Syntax.tcons y1 (Syntax.tcons y0 (Syntax.tcons Syntax.tyBool Syntax.tnil)))))))
 abbrev y8 : Syntax.Ty
 y8 = Syntax.tyInt Syntax.w8
 abbrev e0 : Row.Entry
@@ -149,9 +149,9 @@ abbrev e9a : Row.Entry
 e9a = (9, Rows.whole (Declared'.row NodeRecord.the-type))
 abbrev pub ps : List (Kinds.PK 1)
 ps = (ShrSlice.pShrS NodeRecordT.row 0 tt) ∷ (Value.pVal record { ty = Declared'.row Run.the-type; one = Path'.refl; val = Laws'7.val Run.the-type
-    Laws'4.the-laws; tells = Laws'7.tells Run.the-type Laws'4.the-laws; still = Laws'7.still Run.the-type Laws'4.the-copy Exit.yes; row = Rows.whole
-    (Declared'.row Run.the-type); rd = λ x. x; mk = λ x. x } λ M 𝓤 H A W. record { copies = Laws'7.copy Run.the-type Laws'4.the-copy 𝓤 H A W; lawful =
-    Laws'7.lawful Run.the-type Laws'4.the-laws 𝓤 H A W; makes = Laws'7.makes Run.the-type Laws'4.the-plain 𝓤 H A; in-mem = Local.mem-whole 𝓤 H A W
+    Laws'.the-laws; tells = Laws'7.tells Run.the-type Laws'.the-laws; still = Laws'7.still Run.the-type Laws'.the-copy Exit.yes; row = Rows.whole
+    (Declared'.row Run.the-type); rd = λ x. x; mk = λ x. x } λ M 𝓤 H A W. record { copies = Laws'7.copy Run.the-type Laws'.the-copy 𝓤 H A W; lawful =
+    Laws'7.lawful Run.the-type Laws'.the-laws 𝓤 H A W; makes = Laws'7.makes Run.the-type Laws'.the-plain 𝓤 H A; in-mem = Local.mem-whole 𝓤 H A W
     (Declared'.row Run.the-type); of-mem = Local.whole-mem 𝓤 H A W (Declared'.row Run.the-type) }) ∷ (Num.pNum Syntax.w8) ∷ []
 abbrev pub r : Kinds.RK 1
 r = Bool.rBool
@@ -160,24 +160,25 @@ xs = y0 ∷ y3 ∷ y2 ∷ y4 ∷ y2 ∷ y4 ∷ Syntax.tyBool ∷ y0 ∷ Syntax.t
 abbrev pub m : Nat.ℕ
 m = 0
 abbrev pub ps·0 : List (Kinds.PK 0)
-ps·0 = (Value.pVal record { ty = Declared.row Context.the-type; one = Path'.refl; val = Laws'5.val Context.the-type Laws.the-laws; tells = Laws'5.tells
-    Context.the-type Laws.the-laws; still = Laws'5.still Context.the-type Laws.the-copy Exit.yes; row = Rows.whole (Declared.row Context.the-type); rd = λ x.
-    x; mk = λ x. x } λ M 𝓤 H A W. record { copies = Laws'5.copy Context.the-type Laws.the-copy 𝓤 H A W; lawful = Laws'5.lawful Context.the-type Laws.the-laws
-    𝓤 H A W tt; makes = Laws'5.makes Context.the-type Laws.the-plain 𝓤 H A; in-mem = Local.mem-whole 𝓤 H A W (Declared.row Context.the-type); of-mem =
-    Local.whole-mem 𝓤 H A W (Declared.row Context.the-type) }) ∷ (Value.pVal record { ty = Declared.row Context.the-type; one = Path'.refl; val = Laws'5.val
-    Context.the-type Laws.the-laws; tells = Laws'5.tells Context.the-type Laws.the-laws; still = Laws'5.still Context.the-type Laws.the-copy Exit.yes; row =
-    Rows.whole (Declared.row Context.the-type); rd = λ x. x; mk = λ x. x } λ M 𝓤 H A W. record { copies = Laws'5.copy Context.the-type Laws.the-copy 𝓤 H A W;
-    lawful = Laws'5.lawful Context.the-type Laws.the-laws 𝓤 H A W tt; makes = Laws'5.makes Context.the-type Laws.the-plain 𝓤 H A; in-mem = Local.mem-whole 𝓤 H
-    A W (Declared.row Context.the-type); of-mem = Local.whole-mem 𝓤 H A W (Declared.row Context.the-type) }) ∷ []
+ps·0 = (Value.pVal record { ty = Declared.row Context.the-type; one = Path'.refl; val = Laws'5.val Context.the-type Laws''.the-laws; tells = Laws'5.tells
+    Context.the-type Laws''.the-laws; still = Laws'5.still Context.the-type Laws''.the-copy Exit.yes; row = Rows.whole (Declared.row Context.the-type); rd = λ
+    x. x; mk = λ x. x } λ M 𝓤 H A W. record { copies = Laws'5.copy Context.the-type Laws''.the-copy 𝓤 H A W; lawful = Laws'5.lawful Context.the-type
+    Laws''.the-laws 𝓤 H A W tt; makes = Laws'5.makes Context.the-type Laws''.the-plain 𝓤 H A; in-mem = Local.mem-whole 𝓤 H A W (Declared.row
+    Context.the-type); of-mem = Local.whole-mem 𝓤 H A W (Declared.row Context.the-type) }) ∷ (Value.pVal record { ty = Declared.row Context.the-type; one =
+    Path'.refl; val = Laws'5.val Context.the-type Laws''.the-laws; tells = Laws'5.tells Context.the-type Laws''.the-laws; still = Laws'5.still
+    Context.the-type Laws''.the-copy Exit.yes; row = Rows.whole (Declared.row Context.the-type); rd = λ x. x; mk = λ x. x } λ M 𝓤 H A W. record { copies =
+    Laws'5.copy Context.the-type Laws''.the-copy 𝓤 H A W; lawful = Laws'5.lawful Context.the-type Laws''.the-laws 𝓤 H A W tt; makes = Laws'5.makes
+    Context.the-type Laws''.the-plain 𝓤 H A; in-mem = Local.mem-whole 𝓤 H A W (Declared.row Context.the-type); of-mem = Local.whole-mem 𝓤 H A W (Declared.row
+    Context.the-type) }) ∷ []
 abbrev pub r·0 : Kinds.RK 0
 r·0 = Bool.rBool
 abbrev pub ps·1 : List (Kinds.PK 1)
 ps·1 = (ShrSlice.pShrS NodeRecordT.row 0 tt) ∷ (Num.pNum Syntax.w32) ∷ (Num.pNum Syntax.w32) ∷ []
 abbrev pub r·1 : Kinds.RK 1
-r·1 = Value.rVal record { ty = Declared'.row NodeRecord.the-type; one = Path'.refl; val = Laws'7.val NodeRecord.the-type Laws''.the-laws; tells = Laws'7.tells
-    NodeRecord.the-type Laws''.the-laws; still = Laws'7.still NodeRecord.the-type Laws''.the-copy Exit.yes; row = Rows.whole (Declared'.row
-    NodeRecord.the-type); rd = λ x. x; mk = λ x. x } λ M 𝓤 H A W. record { copies = Laws'7.copy NodeRecord.the-type Laws''.the-copy 𝓤 H A W; lawful =
-    Laws'7.lawful NodeRecord.the-type Laws''.the-laws 𝓤 H A W; makes = Laws'7.makes NodeRecord.the-type Laws''.the-plain 𝓤 H A; in-mem = Local.mem-whole 𝓤 H A
+r·1 = Value.rVal record { ty = Declared'.row NodeRecord.the-type; one = Path'.refl; val = Laws'7.val NodeRecord.the-type Laws'4.the-laws; tells = Laws'7.tells
+    NodeRecord.the-type Laws'4.the-laws; still = Laws'7.still NodeRecord.the-type Laws'4.the-copy Exit.yes; row = Rows.whole (Declared'.row
+    NodeRecord.the-type); rd = λ x. x; mk = λ x. x } λ M 𝓤 H A W. record { copies = Laws'7.copy NodeRecord.the-type Laws'4.the-copy 𝓤 H A W; lawful =
+    Laws'7.lawful NodeRecord.the-type Laws'4.the-laws 𝓤 H A W; makes = Laws'7.makes NodeRecord.the-type Laws'4.the-plain 𝓤 H A; in-mem = Local.mem-whole 𝓤 H A
     W (Declared'.row NodeRecord.the-type); of-mem = Local.whole-mem 𝓤 H A W (Declared'.row NodeRecord.the-type) }
 abbrev pub hs : List Syntax.Home
 hs = Syntax.valueLocal ∷ Syntax.valueLocal ∷ Syntax.valueLocal ∷ Syntax.valueLocal ∷ Syntax.valueLocal ∷ Syntax.valueLocal ∷ Syntax.valueLocal ∷
@@ -489,12 +490,12 @@ module _ (claims· : Claims) where
   s21 = λ bs. Call.callB ps·1 r·1 (claims· .2) (claims· .3) T24 (record { pos = 1; ty = y5; ref = λ x. x }, (Num.vFld 2 ((Syntax.field 4) ∷ []) 48 λ x.
       Run.struct .as-values x .1 .1 .1 .1 .0, (Num.vFld 6 ((Syntax.field 0) ∷ []) 0 λ x. Ref.struct .as-values x .0, tt))) 7 (0 ∷ []) y4
   abbrev s22 : (bs : List Nat.ℕ) → Typed.Gives T25 T26
-  s22 = λ bs. Know.k-struct-known NodeRecord.the-type Laws''.the-laws T25 7 λ x. x
+  s22 = λ bs. Know.k-struct-known NodeRecord.the-type Laws'4.the-laws T25 7 λ x. x
   abbrev s23 : (bs : List Nat.ℕ) → Typed.Gives T26 T27
-  s23 = λ bs. Know.k-struct-known Ref.the-type Laws'.the-laws T26 6 λ x. x
+  s23 = λ bs. Know.k-struct-known Ref.the-type Laws'3.the-laws T26 6 λ x. x
   abbrev s24 : (bs : List Nat.ℕ) → Typed.Asks T27 T28
-  s24 = λ bs. Scalar.k-op2 T27 Syntax.ne (Scalar.oFld 7 ((Syntax.field 4) ∷ []) y1 16 (Reads.fieldV NodeRecord.the-type Laws''.the-laws 4)) (Scalar.oFld 6
-      ((Syntax.field 1) ∷ []) y1 4 (Reads.fieldV Ref.the-type Laws'.the-laws 1)) 10 (Rows.sc-here Row.sBool) (Row.sBool .of)
+  s24 = λ bs. Scalar.k-op2 T27 Syntax.ne (Scalar.oFld 7 ((Syntax.field 4) ∷ []) y1 16 (Reads.fieldV NodeRecord.the-type Laws'4.the-laws 4)) (Scalar.oFld 6
+      ((Syntax.field 1) ∷ []) y1 4 (Reads.fieldV Ref.the-type Laws'3.the-laws 1)) 10 (Rows.sc-here Row.sBool) (Row.sBool .of)
   abbrev s25 : (bs : List Nat.ℕ) → Typed.Mo T28 → Typed.Mo T30
   s25 = λ bs. Scalar.n-room T28 6 y2
   abbrev s26 : (bs : List Nat.ℕ) → Typed.Mo T30 → Typed.Mo T31
@@ -523,12 +524,12 @@ module _ (claims· : Claims) where
   abbrev s36 : (bs : List Nat.ℕ) → Typed.Mo T40 → Typed.Mo T41
   s36 = λ bs. Scalar.n-room T40 2 y7
   abbrev s37 : (bs : List Nat.ℕ) → Typed.Gives T41 T42
-  s37 = λ bs. Know.k-struct-known NodeRecord.the-type Laws''.the-laws T41 9 λ x. x
+  s37 = λ bs. Know.k-struct-known NodeRecord.the-type Laws'4.the-laws T41 9 λ x. x
   abbrev s38 : (bs : List Nat.ℕ) → Typed.Gives T42 T43
-  s38 = λ bs. Know.k-struct-known Ref.the-type Laws'.the-laws T42 8 λ x. x
+  s38 = λ bs. Know.k-struct-known Ref.the-type Laws'3.the-laws T42 8 λ x. x
   abbrev s39 : (bs : List Nat.ℕ) → Typed.Asks T43 T44
-  s39 = λ bs. Scalar.k-op2 T43 Syntax.ne (Scalar.oFld 9 ((Syntax.field 4) ∷ []) y1 16 (Reads.fieldV NodeRecord.the-type Laws''.the-laws 4)) (Scalar.oFld 8
-      ((Syntax.field 1) ∷ []) y1 4 (Reads.fieldV Ref.the-type Laws'.the-laws 1)) 0 (Rows.sc-here Row.sBool) (Row.sBool .of)
+  s39 = λ bs. Scalar.k-op2 T43 Syntax.ne (Scalar.oFld 9 ((Syntax.field 4) ∷ []) y1 16 (Reads.fieldV NodeRecord.the-type Laws'4.the-laws 4)) (Scalar.oFld 8
+      ((Syntax.field 1) ∷ []) y1 4 (Reads.fieldV Ref.the-type Laws'3.the-laws 1)) 0 (Rows.sc-here Row.sBool) (Row.sBool .of)
   abbrev s40 : (bs : List Nat.ℕ) → Typed.Mo T44 → Typed.Mo T45
   s40 = λ bs. Scalar.n-room T44 8 y2
   abbrev s41 : (bs : List Nat.ℕ) → Typed.Mo T45 → Typed.Mo T46
@@ -868,15 +869,15 @@ module _ (claims· : Claims) where
               (Declared'.row Ref.the-type) y2 Path'.refl)) d31
           d33 : Typed.Typed 𝓤 H A 𝓣 E G43 b28 Δ0 (at33 bs)
           d33 = Typed.s-seq 𝓤 H A W 𝓣 E G43 G44 b26 b27 Δ0 (Typed.ask (s39 bs)) (at32 bs) (Scalar.t-op2 𝓤 H A W E 𝓣 G43 Syntax.ne (Scalar.oFld 9
-              ((Syntax.field 4) ∷ []) y1 16 (Reads.fieldV NodeRecord.the-type Laws''.the-laws 4)) (Scalar.oFld 8 ((Syntax.field 1) ∷ []) y1 4 (Reads.fieldV
-              Ref.the-type Laws'.the-laws 1)) 0 (Rows.sc-here Row.sBool) Syntax.tyBool (Row.valS Row.sBool) (Row.sBool .of) (Reads.reads-field 𝓤 H A W
-              NodeRecord.the-type Laws''.the-laws 4 y1 16 Path'.refl, Path'.refl) (Reads.reads-field 𝓤 H A W Ref.the-type Laws'.the-laws 1 y1 4 Path'.refl,
+              ((Syntax.field 4) ∷ []) y1 16 (Reads.fieldV NodeRecord.the-type Laws'4.the-laws 4)) (Scalar.oFld 8 ((Syntax.field 1) ∷ []) y1 4 (Reads.fieldV
+              Ref.the-type Laws'3.the-laws 1)) 0 (Rows.sc-here Row.sBool) Syntax.tyBool (Row.valS Row.sBool) (Row.sBool .of) (Reads.reads-field 𝓤 H A W
+              NodeRecord.the-type Laws'4.the-laws 4 y1 16 Path'.refl, Path'.refl) (Reads.reads-field 𝓤 H A W Ref.the-type Laws'3.the-laws 1 y1 4 Path'.refl,
               Path'.refl) (Reads'.room-gone 𝓤 H A Syntax.tyBool) (Scalar.holds-sc 𝓤 H A W Row.sBool) Path'.refl (λ u. Path'.refl) λ u. tt) d32
           d34 : Typed.Typed 𝓤 H A 𝓣 E G42 b28 Δ0 (at34 bs)
-          d34 = Typed.g-pre 𝓤 H A W 𝓣 E G42 G43 b28 Δ0 (Typed.give (s38 bs)) (at33 bs) (Know.g-struct-known 𝓤 H A W E Ref.the-type Laws'.the-laws G42 8 (λ x.
+          d34 = Typed.g-pre 𝓤 H A W 𝓣 E G42 G43 b28 Δ0 (Typed.give (s38 bs)) (at33 bs) (Know.g-struct-known 𝓤 H A W E Ref.the-type Laws'3.the-laws G42 8 (λ x.
               x) (Reads'.as-is 𝓤 H A (Rows.whole (Declared'.row Ref.the-type)))) d33
           d35 : Typed.Typed 𝓤 H A 𝓣 E G41 b28 Δ0 (at35 bs)
-          d35 = Typed.g-pre 𝓤 H A W 𝓣 E G41 G42 b28 Δ0 (Typed.give (s37 bs)) (at34 bs) (Know.g-struct-known 𝓤 H A W E NodeRecord.the-type Laws''.the-laws G41
+          d35 = Typed.g-pre 𝓤 H A W 𝓣 E G41 G42 b28 Δ0 (Typed.give (s37 bs)) (at34 bs) (Know.g-struct-known 𝓤 H A W E NodeRecord.the-type Laws'4.the-laws G41
               9 (λ x. x) (Reads'.as-is 𝓤 H A (Rows.whole (Declared'.row NodeRecord.the-type)))) d34
           d36 : Typed.Typed 𝓤 H A 𝓣 E G40 b28 Δ0 (at36 bs)
           d36 = Typed.g-pre 𝓤 H A W 𝓣 E G40 G41 b28 Δ0 (Typed.pass T40 T41 (s36 bs)) (at35 bs) (Scalar.g-room 𝓤 H A W E G40 2 y7 (Local.room-whole 𝓤 H A W
@@ -886,15 +887,15 @@ module _ (claims· : Claims) where
               "work_table::get" (known .1) E (λ pos β. β) G39 (record { pos = 1; ty = y5; ref = λ x. x }, (Num.vFld 2 ((Syntax.field 4) ∷ []) 48 λ x.
               Run.struct .as-values x .1 .1 .1 .1 .0, (Num.vFld 8 ((Syntax.field 0) ∷ []) 0 λ x. Ref.struct .as-values x .0, tt))) 9 (0 ∷ []) (Call.sub-id 𝓤 H
               A W (G39 .slots)) (ShrSlice.spares-sslice 𝓤 H A W NodeRecordT.row y5 0, Shared.reads-sslice 𝓤 H A W NodeRecordT.row y5 0, Path'.refl,
-              ((Reads.reads-field 𝓤 H A W Run.the-type Laws'4.the-laws 4 y1 48 Path'.refl, Path'.refl), ((Reads.reads-field 𝓤 H A W Ref.the-type
-              Laws'.the-laws 0 y1 0 Path'.refl, Path'.refl), tt))) (Reads'.room-gone 𝓤 H A y4) (tt, tt) Path'.refl) d36
+              ((Reads.reads-field 𝓤 H A W Run.the-type Laws'.the-laws 4 y1 48 Path'.refl, Path'.refl), ((Reads.reads-field 𝓤 H A W Ref.the-type
+              Laws'3.the-laws 0 y1 0 Path'.refl, Path'.refl), tt))) (Reads'.room-gone 𝓤 H A y4) (tt, tt) Path'.refl) d36
           d38 : Typed.Typed 𝓤 H A 𝓣 E G38 b29 Δ0 (at38 bs)
           d38 = Typed.g-pre 𝓤 H A W 𝓣 E G38 G39 b29 Δ0 (Typed.pass T38 T39 (s34 bs)) (at37 bs) (Scalar.g-room 𝓤 H A W E G38 5 y3 (Local.room-whole 𝓤 H A W
               (Declared'.row Pair.the-type) y3 Path'.refl)) d37
           d39 : Typed.Typed 𝓤 H A 𝓣 E G29 b30 Δ0 (at39 bs)
           d39 = Typed.s-seq 𝓤 H A W 𝓣 E G29 G38 b24 b29 Δ0 (Typed.both (s33 bs)) (at38 bs) (WayStmt.t-way-copy-out 𝓤 H A W E 𝓣 (Declared'.row Ref.the-type)
-              Path'.refl (Copies.cStruct Ref.the-type Laws'.the-laws Laws'.the-copy .copy 𝓤 H A W) (λ ρ. Unit) G29 (Row.out 5 (G29 .locals)) (λ u. Row.drop 5
-              (G29 .locals) u) (G29 .slots) 5 (λ t. (Syntax.field 2) ∷ t) y2 y2 8 (Rows.whole (Declared'.row Ref.the-type)) (λ x. x) (λ u. At.getAt
+              Path'.refl (Copies.cStruct Ref.the-type Laws'3.the-laws Laws'3.the-copy .copy 𝓤 H A W) (λ ρ. Unit) G29 (Row.out 5 (G29 .locals)) (λ u. Row.drop
+              5 (G29 .locals) u) (G29 .slots) 5 (λ t. (Syntax.field 2) ∷ t) y2 y2 8 (Rows.whole (Declared'.row Ref.the-type)) (λ x. x) (λ u. At.getAt
               (Pair.the-type .parts) 2 (Pair.struct .as-values (u .1 .1 .1 .1 .1 .0))) (λ u. (Row.hd 0 (Row.tl (Row.tl (Row.tl (Row.tl (Row.tl bs))))),
               Nat._+_ 0 12)) (λ T′. record { locals = Row.setRow 5 (5, Rows.whole (Declared'.row Pair.the-type)) T′; slots = G29 .slots }) (λ u T′ m′. Row.set
               5 (5, Rows.whole (Declared'.row Pair.the-type)) (u .1 .1 .1 .1 .1 .0) T′ m′) (λ u. Unit) (λ x. Unit) (Own.told-none 𝓤 H A (G29 .slots))
@@ -906,7 +907,7 @@ module _ (claims· : Claims) where
               Pair.the-type) ρ (u .1 .1 .1 .1 .1 .0) (Row.hd 0 (Row.tl (Row.tl (Row.tl (Row.tl (Row.tl bs))))))))) Path'.refl λ q. Inner.cut-record 𝓤 H A q
               (Declared'.row Pair.the-type) Ref.the-type 12 (u .1 .1 .1 .1 .1 .0) (u .1 .1 .1 .1 .1 .0) (At.getAt (Pair.the-type .parts) 2 (Pair.struct
               .as-values (u .1 .1 .1 .1 .1 .0))) (At.getAt (Pair.the-type .parts) 2 (Pair.struct .as-values (u .1 .1 .1 .1 .1 .0))) (Row.hd 0 (Row.tl (Row.tl
-              (Row.tl (Row.tl (Row.tl bs))))), 0) (Behind.look-at 𝓤 H A W q Pair.the-type Laws'3.the-laws 2 12 Path'.refl Path'.refl (Row.hd 0 (Row.tl (Row.tl
+              (Row.tl (Row.tl (Row.tl bs))))), 0) (Behind.look-at 𝓤 H A W q Pair.the-type Laws.the-laws 2 12 Path'.refl Path'.refl (Row.hd 0 (Row.tl (Row.tl
               (Row.tl (Row.tl (Row.tl bs))))), 0) (u .1 .1 .1 .1 .1 .0) (Pair.struct .as-values (u .1 .1 .1 .1 .1 .0)) Path'.refl)) (Reads'.room-gone 𝓤 H A
               y2) (Yields.makes-mem 𝓤 H A W (λ ρ. Unit) (Declared'.row Ref.the-type) Path'.refl (Rows.whole (Declared'.row Ref.the-type)) (λ x. x) λ ρ told.
               Local.whole-mem 𝓤 H A W (Declared'.row Ref.the-type) ρ) Path'.refl Path'.refl Path'.refl) d38
@@ -914,27 +915,27 @@ module _ (claims· : Claims) where
           d40 = Typed.t-seq 𝓤 H A W 𝓣 E G28 G29 b23 b30 Δ0 (at28 bs) (at39 bs) d28 d39
           d41 : Typed.Typed 𝓤 H A 𝓣 E G27 b32 Δ0 (at41 bs)
           d41 = Typed.s-seq 𝓤 H A W 𝓣 E G27 G28 b18 b31 Δ0 (Typed.ask (s24 bs)) (at40 bs) (Scalar.t-op2 𝓤 H A W E 𝓣 G27 Syntax.ne (Scalar.oFld 7
-              ((Syntax.field 4) ∷ []) y1 16 (Reads.fieldV NodeRecord.the-type Laws''.the-laws 4)) (Scalar.oFld 6 ((Syntax.field 1) ∷ []) y1 4 (Reads.fieldV
-              Ref.the-type Laws'.the-laws 1)) 10 (Rows.sc-here Row.sBool) Syntax.tyBool (Row.valS Row.sBool) (Row.sBool .of) (Reads.reads-field 𝓤 H A W
-              NodeRecord.the-type Laws''.the-laws 4 y1 16 Path'.refl, Path'.refl) (Reads.reads-field 𝓤 H A W Ref.the-type Laws'.the-laws 1 y1 4 Path'.refl,
+              ((Syntax.field 4) ∷ []) y1 16 (Reads.fieldV NodeRecord.the-type Laws'4.the-laws 4)) (Scalar.oFld 6 ((Syntax.field 1) ∷ []) y1 4 (Reads.fieldV
+              Ref.the-type Laws'3.the-laws 1)) 10 (Rows.sc-here Row.sBool) Syntax.tyBool (Row.valS Row.sBool) (Row.sBool .of) (Reads.reads-field 𝓤 H A W
+              NodeRecord.the-type Laws'4.the-laws 4 y1 16 Path'.refl, Path'.refl) (Reads.reads-field 𝓤 H A W Ref.the-type Laws'3.the-laws 1 y1 4 Path'.refl,
               Path'.refl) (Reads'.room-gone 𝓤 H A Syntax.tyBool) (Scalar.holds-sc 𝓤 H A W Row.sBool) Path'.refl (λ u. Path'.refl) λ u. tt) d40
           d42 : Typed.Typed 𝓤 H A 𝓣 E G26 b32 Δ0 (at42 bs)
-          d42 = Typed.g-pre 𝓤 H A W 𝓣 E G26 G27 b32 Δ0 (Typed.give (s23 bs)) (at41 bs) (Know.g-struct-known 𝓤 H A W E Ref.the-type Laws'.the-laws G26 6 (λ x.
+          d42 = Typed.g-pre 𝓤 H A W 𝓣 E G26 G27 b32 Δ0 (Typed.give (s23 bs)) (at41 bs) (Know.g-struct-known 𝓤 H A W E Ref.the-type Laws'3.the-laws G26 6 (λ x.
               x) (Reads'.as-is 𝓤 H A (Rows.whole (Declared'.row Ref.the-type)))) d41
           d43 : Typed.Typed 𝓤 H A 𝓣 E G25 b32 Δ0 (at43 bs)
-          d43 = Typed.g-pre 𝓤 H A W 𝓣 E G25 G26 b32 Δ0 (Typed.give (s22 bs)) (at42 bs) (Know.g-struct-known 𝓤 H A W E NodeRecord.the-type Laws''.the-laws G25
+          d43 = Typed.g-pre 𝓤 H A W 𝓣 E G25 G26 b32 Δ0 (Typed.give (s22 bs)) (at42 bs) (Know.g-struct-known 𝓤 H A W E NodeRecord.the-type Laws'4.the-laws G25
               7 (λ x. x) (Reads'.as-is 𝓤 H A (Rows.whole (Declared'.row NodeRecord.the-type)))) d42
           d44 : Typed.Typed 𝓤 H A 𝓣 E G24 b33 Δ0 (at44 bs)
           d44 = Typed.s-seq 𝓤 H A W 𝓣 E G24 G25 b17 b32 Δ0 (Typed.both (s21 bs)) (at43 bs) (Plain.t-call-plain 𝓤 H A W 𝓣 1 ps·1 r·1 (claims· .2) (claims· .3)
               "work_table::get" (known .1) E (λ pos β. β) G24 (record { pos = 1; ty = y5; ref = λ x. x }, (Num.vFld 2 ((Syntax.field 4) ∷ []) 48 λ x.
               Run.struct .as-values x .1 .1 .1 .1 .0, (Num.vFld 6 ((Syntax.field 0) ∷ []) 0 λ x. Ref.struct .as-values x .0, tt))) 7 (0 ∷ []) (Call.sub-id 𝓤 H
               A W (G24 .slots)) (ShrSlice.spares-sslice 𝓤 H A W NodeRecordT.row y5 0, Shared.reads-sslice 𝓤 H A W NodeRecordT.row y5 0, Path'.refl,
-              ((Reads.reads-field 𝓤 H A W Run.the-type Laws'4.the-laws 4 y1 48 Path'.refl, Path'.refl), ((Reads.reads-field 𝓤 H A W Ref.the-type
-              Laws'.the-laws 0 y1 0 Path'.refl, Path'.refl), tt))) (Reads'.room-gone 𝓤 H A y4) (tt, tt) Path'.refl) d43
+              ((Reads.reads-field 𝓤 H A W Run.the-type Laws'.the-laws 4 y1 48 Path'.refl, Path'.refl), ((Reads.reads-field 𝓤 H A W Ref.the-type
+              Laws'3.the-laws 0 y1 0 Path'.refl, Path'.refl), tt))) (Reads'.room-gone 𝓤 H A y4) (tt, tt) Path'.refl) d43
           d45 : Typed.Typed 𝓤 H A 𝓣 E G23 b34 Δ0 (at45 bs)
           d45 = Typed.s-seq 𝓤 H A W 𝓣 E G23 G24 b16 b33 Δ0 (Typed.both (s20 bs)) (at44 bs) (WayStmt.t-way-copy-out 𝓤 H A W E 𝓣 (Declared'.row Ref.the-type)
-              Path'.refl (Copies.cStruct Ref.the-type Laws'.the-laws Laws'.the-copy .copy 𝓤 H A W) (λ ρ. Unit) G23 (Row.out 5 (G23 .locals)) (λ u. Row.drop 5
-              (G23 .locals) u) (G23 .slots) 5 (λ t. (Syntax.field 1) ∷ t) y2 y2 6 (Rows.whole (Declared'.row Ref.the-type)) (λ x. x) (λ u. At.getAt
+              Path'.refl (Copies.cStruct Ref.the-type Laws'3.the-laws Laws'3.the-copy .copy 𝓤 H A W) (λ ρ. Unit) G23 (Row.out 5 (G23 .locals)) (λ u. Row.drop
+              5 (G23 .locals) u) (G23 .slots) 5 (λ t. (Syntax.field 1) ∷ t) y2 y2 6 (Rows.whole (Declared'.row Ref.the-type)) (λ x. x) (λ u. At.getAt
               (Pair.the-type .parts) 1 (Pair.struct .as-values (u .1 .1 .1 .1 .1 .0))) (λ u. (Row.hd 0 (Row.tl (Row.tl (Row.tl (Row.tl (Row.tl bs))))),
               Nat._+_ 0 4)) (λ T′. record { locals = Row.setRow 5 (5, Rows.whole (Declared'.row Pair.the-type)) T′; slots = G23 .slots }) (λ u T′ m′. Row.set
               5 (5, Rows.whole (Declared'.row Pair.the-type)) (u .1 .1 .1 .1 .1 .0) T′ m′) (λ u. Unit) (λ x. Unit) (Own.told-none 𝓤 H A (G23 .slots))
@@ -946,14 +947,14 @@ module _ (claims· : Claims) where
               Pair.the-type) ρ (u .1 .1 .1 .1 .1 .0) (Row.hd 0 (Row.tl (Row.tl (Row.tl (Row.tl (Row.tl bs))))))))) Path'.refl λ q. Inner.cut-record 𝓤 H A q
               (Declared'.row Pair.the-type) Ref.the-type 4 (u .1 .1 .1 .1 .1 .0) (u .1 .1 .1 .1 .1 .0) (At.getAt (Pair.the-type .parts) 1 (Pair.struct
               .as-values (u .1 .1 .1 .1 .1 .0))) (At.getAt (Pair.the-type .parts) 1 (Pair.struct .as-values (u .1 .1 .1 .1 .1 .0))) (Row.hd 0 (Row.tl (Row.tl
-              (Row.tl (Row.tl (Row.tl bs))))), 0) (Behind.look-at 𝓤 H A W q Pair.the-type Laws'3.the-laws 1 4 Path'.refl Path'.refl (Row.hd 0 (Row.tl (Row.tl
+              (Row.tl (Row.tl (Row.tl bs))))), 0) (Behind.look-at 𝓤 H A W q Pair.the-type Laws.the-laws 1 4 Path'.refl Path'.refl (Row.hd 0 (Row.tl (Row.tl
               (Row.tl (Row.tl (Row.tl bs))))), 0) (u .1 .1 .1 .1 .1 .0) (Pair.struct .as-values (u .1 .1 .1 .1 .1 .0)) Path'.refl)) (Reads'.room-gone 𝓤 H A
               y2) (Yields.makes-mem 𝓤 H A W (λ ρ. Unit) (Declared'.row Ref.the-type) Path'.refl (Rows.whole (Declared'.row Ref.the-type)) (λ x. x) λ ρ told.
               Local.whole-mem 𝓤 H A W (Declared'.row Ref.the-type) ρ) Path'.refl Path'.refl Path'.refl) d44
           d46 : Typed.Typed 𝓤 H A 𝓣 E G16 b35 Δ0 (at46 bs)
           d46 = Typed.s-seq 𝓤 H A W 𝓣 E G16 G23 b15 b34 Δ0 (Typed.both (s19 bs)) (at45 bs) (WayStmt.t-way-copy-out 𝓤 H A W E 𝓣 (Declared'.row Pair.the-type)
-              Path'.refl (Copies.cStruct Pair.the-type Laws'3.the-laws Laws'3.the-copy .copy 𝓤 H A W) (λ ρ. Unit) G16 (Row.out 2 (G16 .locals)) (λ u. Row.drop
-              2 (G16 .locals) u) (G16 .slots) 2 (λ t. (Syntax.field 1) ∷ t) y3 y3 5 (Rows.whole (Declared'.row Pair.the-type)) (λ x. x) (λ u. At.getAt
+              Path'.refl (Copies.cStruct Pair.the-type Laws.the-laws Laws.the-copy .copy 𝓤 H A W) (λ ρ. Unit) G16 (Row.out 2 (G16 .locals)) (λ u. Row.drop 2
+              (G16 .locals) u) (G16 .slots) 2 (λ t. (Syntax.field 1) ∷ t) y3 y3 5 (Rows.whole (Declared'.row Pair.the-type)) (λ x. x) (λ u. At.getAt
               (Run.the-type .parts) 1 (Run.struct .as-values (u .1 .1 .0))) (λ u. (Row.hd 0 (Row.tl (Row.tl bs)), Nat._+_ 0 8)) (λ T′. record { locals =
               Row.setRow 2 (2, Rows.whole (Declared'.row Run.the-type)) T′; slots = G16 .slots }) (λ u T′ m′. Row.set 2 (2, Rows.whole (Declared'.row
               Run.the-type)) (u .1 .1 .0) T′ m′) (λ u. Unit) (λ x. Unit) (Own.told-none 𝓤 H A (G16 .slots)) (DerefMove.learns-nothing 𝓤 H A (Declared'.row
@@ -963,7 +964,7 @@ module _ (claims· : Claims) where
               (Local.mem-whole 𝓤 H A W (Declared'.row Run.the-type) ρ (u .1 .1 .0) (Row.hd 0 (Row.tl (Row.tl bs)))) (Local.whole-mem 𝓤 H A W (Declared'.row
               Run.the-type) ρ (u .1 .1 .0) (Row.hd 0 (Row.tl (Row.tl bs)))))) Path'.refl λ q. Inner.cut-record 𝓤 H A q (Declared'.row Run.the-type)
               Pair.the-type 8 (u .1 .1 .0) (u .1 .1 .0) (At.getAt (Run.the-type .parts) 1 (Run.struct .as-values (u .1 .1 .0))) (At.getAt (Run.the-type
-              .parts) 1 (Run.struct .as-values (u .1 .1 .0))) (Row.hd 0 (Row.tl (Row.tl bs)), 0) (Behind.look-at 𝓤 H A W q Run.the-type Laws'4.the-laws 1 8
+              .parts) 1 (Run.struct .as-values (u .1 .1 .0))) (Row.hd 0 (Row.tl (Row.tl bs)), 0) (Behind.look-at 𝓤 H A W q Run.the-type Laws'.the-laws 1 8
               Path'.refl Path'.refl (Row.hd 0 (Row.tl (Row.tl bs)), 0) (u .1 .1 .0) (Run.struct .as-values (u .1 .1 .0)) Path'.refl)) (Reads'.room-gone 𝓤 H A
               y3) (Yields.makes-mem 𝓤 H A W (λ ρ. Unit) (Declared'.row Pair.the-type) Path'.refl (Rows.whole (Declared'.row Pair.the-type)) (λ x. x) λ ρ told.
               Local.whole-mem 𝓤 H A W (Declared'.row Pair.the-type) ρ) Path'.refl Path'.refl Path'.refl) d45
@@ -983,18 +984,18 @@ module _ (claims· : Claims) where
           d51 = Typed.s-seq 𝓤 H A W 𝓣 E G11 G12 b8 b37 Δ0 (Typed.both (s9 bs)) (at50 bs) (Plain.t-call-plain 𝓤 H A W 𝓣 0 ps·0 r·0 (claims· .0) (claims· .1)
               "elements::is_context" (known .0) E (λ pos β. β) G11 (record { pos = 4; st = []; d = 0; at = λ x. x }, (record { pos = 11; st = []; d = 0; at =
               λ x. x }, tt)) 10 [] (Call.sub-id 𝓤 H A W (G11 .slots)) ((Yields.yields-copy 𝓤 H A W (λ ρ. Unit) (Declared.row Context.the-type) Path'.refl
-              (Copies.cEnum Context.the-type Laws.the-laws Laws.the-copy .copy 𝓤 H A W) (Rows.whole (Declared.row Context.the-type)) (λ x. x) (λ x. x) (λ ρ
-              told. Local.mem-whole 𝓤 H A W (Declared.row Context.the-type) ρ) λ ρ told. Local.whole-mem 𝓤 H A W (Declared.row Context.the-type) ρ,
-              Path'.refl), ((Yields.yields-copy 𝓤 H A W (λ ρ. Unit) (Declared.row Context.the-type) Path'.refl (Copies.cEnum Context.the-type Laws.the-laws
-              Laws.the-copy .copy 𝓤 H A W) (Rows.whole (Declared.row Context.the-type)) (λ x. x) (λ x. x) (λ ρ told. Local.mem-whole 𝓤 H A W (Declared.row
+              (Copies.cEnum Context.the-type Laws''.the-laws Laws''.the-copy .copy 𝓤 H A W) (Rows.whole (Declared.row Context.the-type)) (λ x. x) (λ x. x) (λ
+              ρ told. Local.mem-whole 𝓤 H A W (Declared.row Context.the-type) ρ) λ ρ told. Local.whole-mem 𝓤 H A W (Declared.row Context.the-type) ρ,
+              Path'.refl), ((Yields.yields-copy 𝓤 H A W (λ ρ. Unit) (Declared.row Context.the-type) Path'.refl (Copies.cEnum Context.the-type Laws''.the-laws
+              Laws''.the-copy .copy 𝓤 H A W) (Rows.whole (Declared.row Context.the-type)) (λ x. x) (λ x. x) (λ ρ told. Local.mem-whole 𝓤 H A W (Declared.row
               Context.the-type) ρ) λ ρ told. Local.whole-mem 𝓤 H A W (Declared.row Context.the-type) ρ, Path'.refl), tt)) (Reads'.room-gone 𝓤 H A
               Syntax.tyBool) tt Path'.refl) d50
           d52 : Typed.Typed 𝓤 H A 𝓣 E G4 b39 Δ0 (at52 bs)
-          d52 = Typed.s-seq 𝓤 H A W 𝓣 E G4 G11 b7 b38 Δ0 (Typed.pass T4 T11 (s8 bs)) (at51 bs) (Make.t-enum-make-wt 𝓤 H A W E 𝓣 Context.the-type Laws.the-laws
-              Laws.the-plain tt G4 11 ((Scalar.oInt Syntax.w8 4) ∷ []) (λ m. Context.enum .make (Logic.inr (Logic.inr (Logic.inr (Logic.inr (Logic.inl
-              tt)))))) (Reads'.room-gone 𝓤 H A y0) (tt, tt) Path'.refl (λ m wa. Make.made-val Context.the-type Laws.the-laws [] (Context.enum .make (Logic.inr
-              (Logic.inr (Logic.inr (Logic.inr (Logic.inl tt)))))) tt (wa .1)) λ m wa. Make.made-is Context.the-type Laws.the-laws [] (Context.enum .make
-              (Logic.inr (Logic.inr (Logic.inr (Logic.inr (Logic.inl tt)))))) tt (wa .1)) d51
+          d52 = Typed.s-seq 𝓤 H A W 𝓣 E G4 G11 b7 b38 Δ0 (Typed.pass T4 T11 (s8 bs)) (at51 bs) (Make.t-enum-make-wt 𝓤 H A W E 𝓣 Context.the-type
+              Laws''.the-laws Laws''.the-plain tt G4 11 ((Scalar.oInt Syntax.w8 4) ∷ []) (λ m. Context.enum .make (Logic.inr (Logic.inr (Logic.inr (Logic.inr
+              (Logic.inl tt)))))) (Reads'.room-gone 𝓤 H A y0) (tt, tt) Path'.refl (λ m wa. Make.made-val Context.the-type Laws''.the-laws [] (Context.enum
+              .make (Logic.inr (Logic.inr (Logic.inr (Logic.inr (Logic.inl tt)))))) tt (wa .1)) λ m wa. Make.made-is Context.the-type Laws''.the-laws []
+              (Context.enum .make (Logic.inr (Logic.inr (Logic.inr (Logic.inr (Logic.inl tt)))))) tt (wa .1)) d51
           d53 : Typed.Typed 𝓤 H A 𝓣 E G3 b40 Δ0 (at53 bs)
           d53 = Typed.t-seq 𝓤 H A W 𝓣 E G3 G4 b6 b39 Δ0 (at8 bs) (at52 bs) d8 d52
           d54 : Typed.Typed 𝓤 H A 𝓣 E G2 b41 Δ0 (at54 bs)
@@ -1004,24 +1005,25 @@ module _ (claims· : Claims) where
               Path'.refl (λ u. Path'.refl) λ u. tt) d53
           d55 : Typed.Typed 𝓤 H A 𝓣 E G0 b42 Δ0 (at55 bs)
           d55 = Typed.s-seq 𝓤 H A W 𝓣 E G0 G2 b0 b41 Δ0 (Typed.pass T0 T2 (s0 bs)) (at54 bs) (CopyOut.t-copy-told 𝓤 H A W E 𝓣 (Declared.row Context.the-type)
-              Path'.refl (Laws'5.val Context.the-type Laws.the-laws) (Laws'5.lawful Context.the-type Laws.the-laws 𝓤 H A W tt) (Laws'5.makes Context.the-type
-              Laws.the-plain 𝓤 H A) G0 4 (Scalar.oFld 2 ((Syntax.field 5) ∷ []) y0 52 λ x. Laws'5.val Context.the-type Laws.the-laws (Run.struct .as-values x
-              .1 .1 .1 .1 .1 .0)) (λ m. Run.struct .as-values (m .1 .1 .0) .1 .1 .1 .1 .1 .0) (λ m. Laws'6.Is (Declared'.row Run.the-type) (m .1 .1 .0)
-              (Laws'7.vals Run.the-type Laws'4.the-laws (m .1 .1 .0))) (Reads'.room-gone 𝓤 H A y0) (Reads.reads-field 𝓤 H A W Run.the-type Laws'4.the-laws 5
-              y0 52 Path'.refl, Path'.refl) Path'.refl (λ ρ m. Make'.tells-row 𝓤 H A W E ρ (Row.out 4 (G0 .locals)) m 2 (Laws'6.Is (Declared'.row
-              Run.the-type) (m .1 .1 .0) (Laws'7.vals Run.the-type Laws'4.the-laws (m .1 .1 .0))) (Make'.whole-is 𝓤 H A W E (Declared'.row Run.the-type)
-              Path'.refl (Laws'7.val Run.the-type Laws'4.the-laws) (Laws'7.tells Run.the-type Laws'4.the-laws) ρ 2 (m .1 .1 .0))) (λ m k wa. Path'.refl) λ m k
-              wa. Laws'7.owed Run.the-type Laws'4.the-laws (m .1 .1 .0) (Laws'7.vals Run.the-type Laws'4.the-laws (m .1 .1 .0)) k .1 .1 .1 .1 .1 .0) d54
+              Path'.refl (Laws'5.val Context.the-type Laws''.the-laws) (Laws'5.lawful Context.the-type Laws''.the-laws 𝓤 H A W tt) (Laws'5.makes
+              Context.the-type Laws''.the-plain 𝓤 H A) G0 4 (Scalar.oFld 2 ((Syntax.field 5) ∷ []) y0 52 λ x. Laws'5.val Context.the-type Laws''.the-laws
+              (Run.struct .as-values x .1 .1 .1 .1 .1 .0)) (λ m. Run.struct .as-values (m .1 .1 .0) .1 .1 .1 .1 .1 .0) (λ m. Laws'6.Is (Declared'.row
+              Run.the-type) (m .1 .1 .0) (Laws'7.vals Run.the-type Laws'.the-laws (m .1 .1 .0))) (Reads'.room-gone 𝓤 H A y0) (Reads.reads-field 𝓤 H A W
+              Run.the-type Laws'.the-laws 5 y0 52 Path'.refl, Path'.refl) Path'.refl (λ ρ m. Make'.tells-row 𝓤 H A W E ρ (Row.out 4 (G0 .locals)) m 2
+              (Laws'6.Is (Declared'.row Run.the-type) (m .1 .1 .0) (Laws'7.vals Run.the-type Laws'.the-laws (m .1 .1 .0))) (Make'.whole-is 𝓤 H A W E
+              (Declared'.row Run.the-type) Path'.refl (Laws'7.val Run.the-type Laws'.the-laws) (Laws'7.tells Run.the-type Laws'.the-laws) ρ 2 (m .1 .1 .0)))
+              (λ m k wa. Path'.refl) λ m k wa. Laws'7.owed Run.the-type Laws'.the-laws (m .1 .1 .0) (Laws'7.vals Run.the-type Laws'.the-laws (m .1 .1 .0)) k
+              .1 .1 .1 .1 .1 .0) d54
           pub typed : Typed.Typed 𝓤 H A 𝓣 E (Function.Γin 1 ps r xs m κs qs) b42 (Function.Δret 1 ps r xs m κs qs) (Φ bs)
           typed = d55
       module _ (κs : Lifetimes.Lfts 1) where
         pub record Args : Type 0 where
           pub t : Kinds.Den {n = 1} κs (ShrSlice.pShrS NodeRecordT.row 0 tt)
-          pub r : Kinds.Den {n = 1} κs (Value.pVal record { ty = Declared'.row Run.the-type; one = Path'.refl; val = Laws'7.val Run.the-type Laws'4.the-laws;
-              tells = Laws'7.tells Run.the-type Laws'4.the-laws; still = Laws'7.still Run.the-type Laws'4.the-copy Exit.yes; row = Rows.whole (Declared'.row
-              Run.the-type); rd = λ x. x; mk = λ x. x } λ M 𝓤 H A W. record { copies = Laws'7.copy Run.the-type Laws'4.the-copy 𝓤 H A W; lawful =
-              Laws'7.lawful Run.the-type Laws'4.the-laws 𝓤 H A W; makes = Laws'7.makes Run.the-type Laws'4.the-plain 𝓤 H A; in-mem = Local.mem-whole 𝓤 H A W
-              (Declared'.row Run.the-type); of-mem = Local.whole-mem 𝓤 H A W (Declared'.row Run.the-type) })
+          pub r : Kinds.Den {n = 1} κs (Value.pVal record { ty = Declared'.row Run.the-type; one = Path'.refl; val = Laws'7.val Run.the-type Laws'.the-laws;
+              tells = Laws'7.tells Run.the-type Laws'.the-laws; still = Laws'7.still Run.the-type Laws'.the-copy Exit.yes; row = Rows.whole (Declared'.row
+              Run.the-type); rd = λ x. x; mk = λ x. x } λ M 𝓤 H A W. record { copies = Laws'7.copy Run.the-type Laws'.the-copy 𝓤 H A W; lawful = Laws'7.lawful
+              Run.the-type Laws'.the-laws 𝓤 H A W; makes = Laws'7.makes Run.the-type Laws'.the-plain 𝓤 H A; in-mem = Local.mem-whole 𝓤 H A W (Declared'.row
+              Run.the-type); of-mem = Local.whole-mem 𝓤 H A W (Declared'.row Run.the-type) })
           pub b : Kinds.Den {n = 1} κs (Num.pNum Syntax.w8)
         abbrev pub dens : (a : Args) → Kinds.Dens κs ps
         dens = λ a. (a .t, (a .r, (a .b, tt)))

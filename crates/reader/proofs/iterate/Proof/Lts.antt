@@ -1,23 +1,23 @@
 -- Generated: the derivation of a body.
--- From 9ee42f47e9b6bdb7, as 7059245db7f5a62d.
+-- From ca16d0e1cc319667, as 4542356ef8b1fae4.
 use Prim.Native.Nat
+use Rattle.cursors.proofs.Run
+use Rattle.cursors.proofs.Run.Laws
 use Rattle.elements.proofs.Cause
-use Rattle.elements.proofs.Cause.Laws
+use Rattle.elements.proofs.Cause.Laws as Laws'
 use Rattle.elements.proofs.Context
-use Rattle.elements.proofs.Context.Laws as Laws'
+use Rattle.elements.proofs.Context.Laws as Laws''
 use Rattle.elements.proofs.Element
-use Rattle.elements.proofs.Element.Laws as Laws''
+use Rattle.elements.proofs.Element.Laws as Laws'3
 use Rattle.elements.proofs.Open
-use Rattle.elements.proofs.Open.Laws as Laws'3
+use Rattle.elements.proofs.Open.Laws as Laws'4
 use Rattle.elements.proofs.Ref
-use Rattle.elements.proofs.Ref.Laws as Laws'4
+use Rattle.elements.proofs.Ref.Laws as Laws'5
 use Rattle.node_records.proofs.NodeRecord
-use Rattle.node_records.proofs.NodeRecord.Laws as Laws'5
+use Rattle.node_records.proofs.NodeRecord.Laws as Laws'6
 use Rattle.node_records.proofs.Tables.NodeRecord as NodeRecordT
 use Rattle.reader.proofs.Iteration
-use Rattle.reader.proofs.Iteration.Laws as Laws'6
-use Rattle.reader.proofs.Run
-use Rattle.reader.proofs.Run.Laws as Laws'7
+use Rattle.reader.proofs.Iteration.Laws as Laws'7
 use Rattle.reader.proofs.Taken
 use Rattle.reader.proofs.Taken.Laws as Laws'8
 use Rattle.scanner.proofs.NextToken
@@ -133,11 +133,11 @@ y10 = Syntax.tyStruct (110 ∷ 111 ∷ 100 ∷ 101 ∷ 95 ∷ 114 ∷ 101 ∷ 99
     ∷ []) (Syntax.tcons y3 (Syntax.tcons y3 (Syntax.tcons y3 (Syntax.tcons y3 (Syntax.tcons y3 (Syntax.tcons y3 (Syntax.tcons y3 (Syntax.tcons y3
     Syntax.tnil))))))))
 abbrev y11 : Syntax.Ty
-y11 = Syntax.tyStruct (114 ∷ 101 ∷ 97 ∷ 100 ∷ 101 ∷ 114 ∷ 58 ∷ 58 ∷ 80 ∷ 97 ∷ 105 ∷ 114 ∷ []) (Syntax.tcons Syntax.tyBool (Syntax.tcons y4 (Syntax.tcons y4
-    Syntax.tnil)))
+y11 = Syntax.tyStruct (99 ∷ 117 ∷ 114 ∷ 115 ∷ 111 ∷ 114 ∷ 115 ∷ 58 ∷ 58 ∷ 80 ∷ 97 ∷ 105 ∷ 114 ∷ []) (Syntax.tcons Syntax.tyBool (Syntax.tcons y4 (Syntax.tcons
+    y4 Syntax.tnil)))
 abbrev y12 : Syntax.Ty
-y12 = Syntax.tyStruct (114 ∷ 101 ∷ 97 ∷ 100 ∷ 101 ∷ 114 ∷ 58 ∷ 58 ∷ 82 ∷ 117 ∷ 110 ∷ []) (Syntax.tcons y4 (Syntax.tcons y11 (Syntax.tcons y0 (Syntax.tcons y0
-    (Syntax.tcons y3 (Syntax.tcons y2 (Syntax.tcons Syntax.tyBool Syntax.tnil)))))))
+y12 = Syntax.tyStruct (99 ∷ 117 ∷ 114 ∷ 115 ∷ 111 ∷ 114 ∷ 115 ∷ 58 ∷ 58 ∷ 82 ∷ 117 ∷ 110 ∷ []) (Syntax.tcons y4 (Syntax.tcons y11 (Syntax.tcons y0
+    (Syntax.tcons y0 (Syntax.tcons y3 (Syntax.tcons y2 (Syntax.tcons Syntax.tyBool Syntax.tnil)))))))
 abbrev y13 : Syntax.Ty
 y13 = Syntax.tyStruct (114 ∷ 101 ∷ 97 ∷ 100 ∷ 101 ∷ 114 ∷ 58 ∷ 58 ∷ 84 ∷ 97 ∷ 107 ∷ 101 ∷ 110 ∷ []) (Syntax.tcons y12 (Syntax.tcons y0 (Syntax.tcons
     Syntax.tyBool (Syntax.tcons y7 (Syntax.tcons Syntax.tyBool (Syntax.tcons Syntax.tyBool Syntax.tnil))))))
@@ -291,20 +291,20 @@ e36b = (36, Mut.msleft NodeRecordT.row y16)
 abbrev pub ps : List (Kinds.PK 3)
 ps = (ShrRef.pShr (Array.Array (Referent.rtF (Referent.fInt Syntax.w8)) 256) 0 tt) ∷ (Num.pNum Syntax.w32) ∷ (ShrSlice.pShrS (Referent.rtF (Referent.fInt
     Syntax.w8)) 1 tt) ∷ (MutSlice.pMutS NodeRecordT.row 2 tt) ∷ (Value.pVal record { ty = Declared'.row Run.the-type; one = Path'.refl; val = Laws'13.val
-    Run.the-type Laws'7.the-laws; tells = Laws'13.tells Run.the-type Laws'7.the-laws; still = Laws'13.still Run.the-type Laws'7.the-copy Exit.yes; row =
-    Rows.whole (Declared'.row Run.the-type); rd = λ x. x; mk = λ x. x } λ M 𝓤 H A W. record { copies = Laws'13.copy Run.the-type Laws'7.the-copy 𝓤 H A W;
-    lawful = Laws'13.lawful Run.the-type Laws'7.the-laws 𝓤 H A W; makes = Laws'13.makes Run.the-type Laws'7.the-plain 𝓤 H A; in-mem = Local.mem-whole 𝓤 H A W
+    Run.the-type Laws.the-laws; tells = Laws'13.tells Run.the-type Laws.the-laws; still = Laws'13.still Run.the-type Laws.the-copy Exit.yes; row = Rows.whole
+    (Declared'.row Run.the-type); rd = λ x. x; mk = λ x. x } λ M 𝓤 H A W. record { copies = Laws'13.copy Run.the-type Laws.the-copy 𝓤 H A W; lawful =
+    Laws'13.lawful Run.the-type Laws.the-laws 𝓤 H A W; makes = Laws'13.makes Run.the-type Laws.the-plain 𝓤 H A; in-mem = Local.mem-whole 𝓤 H A W
     (Declared'.row Run.the-type); of-mem = Local.whole-mem 𝓤 H A W (Declared'.row Run.the-type) }) ∷ (Num.pNum Syntax.w64) ∷ (Value.pVal record { ty =
-    Declared'.row Open.the-type; one = Path'.refl; val = Laws'13.val Open.the-type Laws'3.the-laws; tells = Laws'13.tells Open.the-type Laws'3.the-laws; still
-    = Laws'13.still Open.the-type Laws'3.the-copy Exit.yes; row = Rows.whole (Declared'.row Open.the-type); rd = λ x. x; mk = λ x. x } λ M 𝓤 H A W. record {
-    copies = Laws'13.copy Open.the-type Laws'3.the-copy 𝓤 H A W; lawful = Laws'13.lawful Open.the-type Laws'3.the-laws 𝓤 H A W; makes = Laws'13.makes
-    Open.the-type Laws'3.the-plain 𝓤 H A; in-mem = Local.mem-whole 𝓤 H A W (Declared'.row Open.the-type); of-mem = Local.whole-mem 𝓤 H A W (Declared'.row
+    Declared'.row Open.the-type; one = Path'.refl; val = Laws'13.val Open.the-type Laws'4.the-laws; tells = Laws'13.tells Open.the-type Laws'4.the-laws; still
+    = Laws'13.still Open.the-type Laws'4.the-copy Exit.yes; row = Rows.whole (Declared'.row Open.the-type); rd = λ x. x; mk = λ x. x } λ M 𝓤 H A W. record {
+    copies = Laws'13.copy Open.the-type Laws'4.the-copy 𝓤 H A W; lawful = Laws'13.lawful Open.the-type Laws'4.the-laws 𝓤 H A W; makes = Laws'13.makes
+    Open.the-type Laws'4.the-plain 𝓤 H A; in-mem = Local.mem-whole 𝓤 H A W (Declared'.row Open.the-type); of-mem = Local.whole-mem 𝓤 H A W (Declared'.row
     Open.the-type) }) ∷ []
 abbrev pub r : Kinds.RK 3
-r = Value.rVal record { ty = Declared'.row Iteration.the-type; one = Path'.refl; val = Laws'13.val Iteration.the-type Laws'6.the-laws; tells = Laws'13.tells
-    Iteration.the-type Laws'6.the-laws; still = Laws'13.still Iteration.the-type Laws'6.the-copy Exit.yes; row = Rows.whole (Declared'.row
-    Iteration.the-type); rd = λ x. x; mk = λ x. x } λ M 𝓤 H A W. record { copies = Laws'13.copy Iteration.the-type Laws'6.the-copy 𝓤 H A W; lawful =
-    Laws'13.lawful Iteration.the-type Laws'6.the-laws 𝓤 H A W; makes = Laws'13.makes Iteration.the-type Laws'6.the-plain 𝓤 H A; in-mem = Local.mem-whole 𝓤 H A
+r = Value.rVal record { ty = Declared'.row Iteration.the-type; one = Path'.refl; val = Laws'13.val Iteration.the-type Laws'7.the-laws; tells = Laws'13.tells
+    Iteration.the-type Laws'7.the-laws; still = Laws'13.still Iteration.the-type Laws'7.the-copy Exit.yes; row = Rows.whole (Declared'.row
+    Iteration.the-type); rd = λ x. x; mk = λ x. x } λ M 𝓤 H A W. record { copies = Laws'13.copy Iteration.the-type Laws'7.the-copy 𝓤 H A W; lawful =
+    Laws'13.lawful Iteration.the-type Laws'7.the-laws 𝓤 H A W; makes = Laws'13.makes Iteration.the-type Laws'7.the-plain 𝓤 H A; in-mem = Local.mem-whole 𝓤 H A
     W (Declared'.row Iteration.the-type); of-mem = Local.whole-mem 𝓤 H A W (Declared'.row Iteration.the-type) }
 abbrev pub xs : List Syntax.Ty
 xs = y0 ∷ y1 ∷ y2 ∷ y4 ∷ y8 ∷ y6 ∷ y7 ∷ y9 ∷ y10 ∷ y2 ∷ y13 ∷ y0 ∷ Syntax.tyBool ∷ y7 ∷ Syntax.tyPtr ∷ y1 ∷ Syntax.tyBool ∷ y14 ∷ y15 ∷ y7 ∷ Syntax.tyBool ∷
@@ -312,49 +312,49 @@ xs = y0 ∷ y1 ∷ y2 ∷ y4 ∷ y8 ∷ y6 ∷ y7 ∷ y9 ∷ y10 ∷ y2 ∷ y13 
 abbrev pub m : Nat.ℕ
 m = 3
 abbrev pub ps·0 : List (Kinds.PK 0)
-ps·0 = (Value.pVal record { ty = Declared'.row Run.the-type; one = Path'.refl; val = Laws'13.val Run.the-type Laws'7.the-laws; tells = Laws'13.tells
-    Run.the-type Laws'7.the-laws; still = Laws'13.still Run.the-type Laws'7.the-copy Exit.yes; row = Rows.whole (Declared'.row Run.the-type); rd = λ x. x; mk
-    = λ x. x } λ M 𝓤 H A W. record { copies = Laws'13.copy Run.the-type Laws'7.the-copy 𝓤 H A W; lawful = Laws'13.lawful Run.the-type Laws'7.the-laws 𝓤 H A W;
-    makes = Laws'13.makes Run.the-type Laws'7.the-plain 𝓤 H A; in-mem = Local.mem-whole 𝓤 H A W (Declared'.row Run.the-type); of-mem = Local.whole-mem 𝓤 H A W
+ps·0 = (Value.pVal record { ty = Declared'.row Run.the-type; one = Path'.refl; val = Laws'13.val Run.the-type Laws.the-laws; tells = Laws'13.tells
+    Run.the-type Laws.the-laws; still = Laws'13.still Run.the-type Laws.the-copy Exit.yes; row = Rows.whole (Declared'.row Run.the-type); rd = λ x. x; mk = λ
+    x. x } λ M 𝓤 H A W. record { copies = Laws'13.copy Run.the-type Laws.the-copy 𝓤 H A W; lawful = Laws'13.lawful Run.the-type Laws.the-laws 𝓤 H A W; makes =
+    Laws'13.makes Run.the-type Laws.the-plain 𝓤 H A; in-mem = Local.mem-whole 𝓤 H A W (Declared'.row Run.the-type); of-mem = Local.whole-mem 𝓤 H A W
     (Declared'.row Run.the-type) }) ∷ (Num.pNum Syntax.w64) ∷ (Value.pVal record { ty = Declared'.row Open.the-type; one = Path'.refl; val = Laws'13.val
-    Open.the-type Laws'3.the-laws; tells = Laws'13.tells Open.the-type Laws'3.the-laws; still = Laws'13.still Open.the-type Laws'3.the-copy Exit.yes; row =
-    Rows.whole (Declared'.row Open.the-type); rd = λ x. x; mk = λ x. x } λ M 𝓤 H A W. record { copies = Laws'13.copy Open.the-type Laws'3.the-copy 𝓤 H A W;
-    lawful = Laws'13.lawful Open.the-type Laws'3.the-laws 𝓤 H A W; makes = Laws'13.makes Open.the-type Laws'3.the-plain 𝓤 H A; in-mem = Local.mem-whole 𝓤 H A
+    Open.the-type Laws'4.the-laws; tells = Laws'13.tells Open.the-type Laws'4.the-laws; still = Laws'13.still Open.the-type Laws'4.the-copy Exit.yes; row =
+    Rows.whole (Declared'.row Open.the-type); rd = λ x. x; mk = λ x. x } λ M 𝓤 H A W. record { copies = Laws'13.copy Open.the-type Laws'4.the-copy 𝓤 H A W;
+    lawful = Laws'13.lawful Open.the-type Laws'4.the-laws 𝓤 H A W; makes = Laws'13.makes Open.the-type Laws'4.the-plain 𝓤 H A; in-mem = Local.mem-whole 𝓤 H A
     W (Declared'.row Open.the-type); of-mem = Local.whole-mem 𝓤 H A W (Declared'.row Open.the-type) }) ∷ Bool.pBool ∷ (Value.pVal record { ty = Declared.row
-    Cause.the-type; one = Path'.refl; val = Laws'11.val Cause.the-type Laws.the-laws; tells = Laws'11.tells Cause.the-type Laws.the-laws; still =
-    Laws'11.still Cause.the-type Laws.the-copy Exit.yes; row = Rows.whole (Declared.row Cause.the-type); rd = λ x. x; mk = λ x. x } λ M 𝓤 H A W. record {
-    copies = Laws'11.copy Cause.the-type Laws.the-copy 𝓤 H A W; lawful = Laws'11.lawful Cause.the-type Laws.the-laws 𝓤 H A W tt; makes = Laws'11.makes
-    Cause.the-type Laws.the-plain 𝓤 H A; in-mem = Local.mem-whole 𝓤 H A W (Declared.row Cause.the-type); of-mem = Local.whole-mem 𝓤 H A W (Declared.row
+    Cause.the-type; one = Path'.refl; val = Laws'11.val Cause.the-type Laws'.the-laws; tells = Laws'11.tells Cause.the-type Laws'.the-laws; still =
+    Laws'11.still Cause.the-type Laws'.the-copy Exit.yes; row = Rows.whole (Declared.row Cause.the-type); rd = λ x. x; mk = λ x. x } λ M 𝓤 H A W. record {
+    copies = Laws'11.copy Cause.the-type Laws'.the-copy 𝓤 H A W; lawful = Laws'11.lawful Cause.the-type Laws'.the-laws 𝓤 H A W tt; makes = Laws'11.makes
+    Cause.the-type Laws'.the-plain 𝓤 H A; in-mem = Local.mem-whole 𝓤 H A W (Declared.row Cause.the-type); of-mem = Local.whole-mem 𝓤 H A W (Declared.row
     Cause.the-type) }) ∷ (Num.pNum Syntax.w64) ∷ []
 abbrev pub r·0 : Kinds.RK 0
-r·0 = Value.rVal record { ty = Declared'.row Iteration.the-type; one = Path'.refl; val = Laws'13.val Iteration.the-type Laws'6.the-laws; tells = Laws'13.tells
-    Iteration.the-type Laws'6.the-laws; still = Laws'13.still Iteration.the-type Laws'6.the-copy Exit.yes; row = Rows.whole (Declared'.row
-    Iteration.the-type); rd = λ x. x; mk = λ x. x } λ M 𝓤 H A W. record { copies = Laws'13.copy Iteration.the-type Laws'6.the-copy 𝓤 H A W; lawful =
-    Laws'13.lawful Iteration.the-type Laws'6.the-laws 𝓤 H A W; makes = Laws'13.makes Iteration.the-type Laws'6.the-plain 𝓤 H A; in-mem = Local.mem-whole 𝓤 H A
+r·0 = Value.rVal record { ty = Declared'.row Iteration.the-type; one = Path'.refl; val = Laws'13.val Iteration.the-type Laws'7.the-laws; tells = Laws'13.tells
+    Iteration.the-type Laws'7.the-laws; still = Laws'13.still Iteration.the-type Laws'7.the-copy Exit.yes; row = Rows.whole (Declared'.row
+    Iteration.the-type); rd = λ x. x; mk = λ x. x } λ M 𝓤 H A W. record { copies = Laws'13.copy Iteration.the-type Laws'7.the-copy 𝓤 H A W; lawful =
+    Laws'13.lawful Iteration.the-type Laws'7.the-laws 𝓤 H A W; makes = Laws'13.makes Iteration.the-type Laws'7.the-plain 𝓤 H A; in-mem = Local.mem-whole 𝓤 H A
     W (Declared'.row Iteration.the-type); of-mem = Local.whole-mem 𝓤 H A W (Declared'.row Iteration.the-type) }
 abbrev pub ps·1 : List (Kinds.PK 1)
 ps·1 = (ShrSlice.pShrS NodeRecordT.row 0 tt) ∷ (Value.pVal record { ty = Declared'.row Run.the-type; one = Path'.refl; val = Laws'13.val Run.the-type
-    Laws'7.the-laws; tells = Laws'13.tells Run.the-type Laws'7.the-laws; still = Laws'13.still Run.the-type Laws'7.the-copy Exit.yes; row = Rows.whole
-    (Declared'.row Run.the-type); rd = λ x. x; mk = λ x. x } λ M 𝓤 H A W. record { copies = Laws'13.copy Run.the-type Laws'7.the-copy 𝓤 H A W; lawful =
-    Laws'13.lawful Run.the-type Laws'7.the-laws 𝓤 H A W; makes = Laws'13.makes Run.the-type Laws'7.the-plain 𝓤 H A; in-mem = Local.mem-whole 𝓤 H A W
+    Laws.the-laws; tells = Laws'13.tells Run.the-type Laws.the-laws; still = Laws'13.still Run.the-type Laws.the-copy Exit.yes; row = Rows.whole
+    (Declared'.row Run.the-type); rd = λ x. x; mk = λ x. x } λ M 𝓤 H A W. record { copies = Laws'13.copy Run.the-type Laws.the-copy 𝓤 H A W; lawful =
+    Laws'13.lawful Run.the-type Laws.the-laws 𝓤 H A W; makes = Laws'13.makes Run.the-type Laws.the-plain 𝓤 H A; in-mem = Local.mem-whole 𝓤 H A W
     (Declared'.row Run.the-type); of-mem = Local.whole-mem 𝓤 H A W (Declared'.row Run.the-type) }) ∷ (Num.pNum Syntax.w8) ∷ []
 abbrev pub r·1 : Kinds.RK 1
 r·1 = Bool.rBool
 abbrev pub ps·2 : List (Kinds.PK 2)
 ps·2 = (ShrRef.pShr (Array.Array (Referent.rtF (Referent.fInt Syntax.w8)) 256) 0 tt) ∷ (ShrSlice.pShrS (Referent.rtF (Referent.fInt Syntax.w8)) 1 tt) ∷
-    (Num.pNum Syntax.w64) ∷ (Value.pVal record { ty = Declared.row Context.the-type; one = Path'.refl; val = Laws'11.val Context.the-type Laws'.the-laws;
-    tells = Laws'11.tells Context.the-type Laws'.the-laws; still = Laws'11.still Context.the-type Laws'.the-copy Exit.yes; row = Rows.whole (Declared.row
-    Context.the-type); rd = λ x. x; mk = λ x. x } λ M 𝓤 H A W. record { copies = Laws'11.copy Context.the-type Laws'.the-copy 𝓤 H A W; lawful = Laws'11.lawful
-    Context.the-type Laws'.the-laws 𝓤 H A W tt; makes = Laws'11.makes Context.the-type Laws'.the-plain 𝓤 H A; in-mem = Local.mem-whole 𝓤 H A W (Declared.row
-    Context.the-type); of-mem = Local.whole-mem 𝓤 H A W (Declared.row Context.the-type) }) ∷ (Value.pVal record { ty = Declared'.row Ref.the-type; one =
-    Path'.refl; val = Laws'13.val Ref.the-type Laws'4.the-laws; tells = Laws'13.tells Ref.the-type Laws'4.the-laws; still = Laws'13.still Ref.the-type
-    Laws'4.the-copy Exit.yes; row = Rows.whole (Declared'.row Ref.the-type); rd = λ x. x; mk = λ x. x } λ M 𝓤 H A W. record { copies = Laws'13.copy
-    Ref.the-type Laws'4.the-copy 𝓤 H A W; lawful = Laws'13.lawful Ref.the-type Laws'4.the-laws 𝓤 H A W; makes = Laws'13.makes Ref.the-type Laws'4.the-plain 𝓤
-    H A; in-mem = Local.mem-whole 𝓤 H A W (Declared'.row Ref.the-type); of-mem = Local.whole-mem 𝓤 H A W (Declared'.row Ref.the-type) }) ∷ (Num.pNum
-    Syntax.w64) ∷ (Value.pVal record { ty = Declared'.row Open.the-type; one = Path'.refl; val = Laws'13.val Open.the-type Laws'3.the-laws; tells =
-    Laws'13.tells Open.the-type Laws'3.the-laws; still = Laws'13.still Open.the-type Laws'3.the-copy Exit.yes; row = Rows.whole (Declared'.row Open.the-type);
-    rd = λ x. x; mk = λ x. x } λ M 𝓤 H A W. record { copies = Laws'13.copy Open.the-type Laws'3.the-copy 𝓤 H A W; lawful = Laws'13.lawful Open.the-type
-    Laws'3.the-laws 𝓤 H A W; makes = Laws'13.makes Open.the-type Laws'3.the-plain 𝓤 H A; in-mem = Local.mem-whole 𝓤 H A W (Declared'.row Open.the-type);
+    (Num.pNum Syntax.w64) ∷ (Value.pVal record { ty = Declared.row Context.the-type; one = Path'.refl; val = Laws'11.val Context.the-type Laws''.the-laws;
+    tells = Laws'11.tells Context.the-type Laws''.the-laws; still = Laws'11.still Context.the-type Laws''.the-copy Exit.yes; row = Rows.whole (Declared.row
+    Context.the-type); rd = λ x. x; mk = λ x. x } λ M 𝓤 H A W. record { copies = Laws'11.copy Context.the-type Laws''.the-copy 𝓤 H A W; lawful =
+    Laws'11.lawful Context.the-type Laws''.the-laws 𝓤 H A W tt; makes = Laws'11.makes Context.the-type Laws''.the-plain 𝓤 H A; in-mem = Local.mem-whole 𝓤 H A
+    W (Declared.row Context.the-type); of-mem = Local.whole-mem 𝓤 H A W (Declared.row Context.the-type) }) ∷ (Value.pVal record { ty = Declared'.row
+    Ref.the-type; one = Path'.refl; val = Laws'13.val Ref.the-type Laws'5.the-laws; tells = Laws'13.tells Ref.the-type Laws'5.the-laws; still = Laws'13.still
+    Ref.the-type Laws'5.the-copy Exit.yes; row = Rows.whole (Declared'.row Ref.the-type); rd = λ x. x; mk = λ x. x } λ M 𝓤 H A W. record { copies =
+    Laws'13.copy Ref.the-type Laws'5.the-copy 𝓤 H A W; lawful = Laws'13.lawful Ref.the-type Laws'5.the-laws 𝓤 H A W; makes = Laws'13.makes Ref.the-type
+    Laws'5.the-plain 𝓤 H A; in-mem = Local.mem-whole 𝓤 H A W (Declared'.row Ref.the-type); of-mem = Local.whole-mem 𝓤 H A W (Declared'.row Ref.the-type) }) ∷
+    (Num.pNum Syntax.w64) ∷ (Value.pVal record { ty = Declared'.row Open.the-type; one = Path'.refl; val = Laws'13.val Open.the-type Laws'4.the-laws; tells =
+    Laws'13.tells Open.the-type Laws'4.the-laws; still = Laws'13.still Open.the-type Laws'4.the-copy Exit.yes; row = Rows.whole (Declared'.row Open.the-type);
+    rd = λ x. x; mk = λ x. x } λ M 𝓤 H A W. record { copies = Laws'13.copy Open.the-type Laws'4.the-copy 𝓤 H A W; lawful = Laws'13.lawful Open.the-type
+    Laws'4.the-laws 𝓤 H A W; makes = Laws'13.makes Open.the-type Laws'4.the-plain 𝓤 H A; in-mem = Local.mem-whole 𝓤 H A W (Declared'.row Open.the-type);
     of-mem = Local.whole-mem 𝓤 H A W (Declared'.row Open.the-type) }) ∷ []
 abbrev pub r·2 : Kinds.RK 2
 r·2 = Value.rVal record { ty = Declared'.row NextToken.the-type; one = Path'.refl; val = Laws'13.val NextToken.the-type Laws'9.the-laws; tells = Laws'13.tells
@@ -385,48 +385,48 @@ ps·5 = (Value.pVal record { ty = Declared.row Token.the-type; one = Path'.refl;
     Laws'10.the-laws 𝓤 H A W tt; makes = Laws'11.makes Token.the-type Laws'10.the-plain 𝓤 H A; in-mem = Local.mem-whole 𝓤 H A W (Declared.row Token.the-type);
     of-mem = Local.whole-mem 𝓤 H A W (Declared.row Token.the-type) }) ∷ (Num.pNum Syntax.w32) ∷ []
 abbrev pub r·5 : Kinds.RK 0
-r·5 = Value.rVal record { ty = Declared.row Element.the-type; one = Path'.refl; val = Laws'11.val Element.the-type Laws''.the-laws; tells = Laws'11.tells
-    Element.the-type Laws''.the-laws; still = Laws'11.still Element.the-type Laws''.the-copy Exit.yes; row = Rows.whole (Declared.row Element.the-type); rd =
-    λ x. x; mk = λ x. x } λ M 𝓤 H A W. record { copies = Laws'11.copy Element.the-type Laws''.the-copy 𝓤 H A W; lawful = Laws'11.lawful Element.the-type
-    Laws''.the-laws 𝓤 H A W tt; makes = Laws'11.makes Element.the-type Laws''.the-plain 𝓤 H A; in-mem = Local.mem-whole 𝓤 H A W (Declared.row
+r·5 = Value.rVal record { ty = Declared.row Element.the-type; one = Path'.refl; val = Laws'11.val Element.the-type Laws'3.the-laws; tells = Laws'11.tells
+    Element.the-type Laws'3.the-laws; still = Laws'11.still Element.the-type Laws'3.the-copy Exit.yes; row = Rows.whole (Declared.row Element.the-type); rd =
+    λ x. x; mk = λ x. x } λ M 𝓤 H A W. record { copies = Laws'11.copy Element.the-type Laws'3.the-copy 𝓤 H A W; lawful = Laws'11.lawful Element.the-type
+    Laws'3.the-laws 𝓤 H A W tt; makes = Laws'11.makes Element.the-type Laws'3.the-plain 𝓤 H A; in-mem = Local.mem-whole 𝓤 H A W (Declared.row
     Element.the-type); of-mem = Local.whole-mem 𝓤 H A W (Declared.row Element.the-type) }
 abbrev pub ps·6 : List (Kinds.PK 1)
 ps·6 = (ShrSlice.pShrS NodeRecordT.row 0 tt) ∷ (Num.pNum Syntax.w32) ∷ (Num.pNum Syntax.w32) ∷ []
 abbrev pub r·6 : Kinds.RK 1
-r·6 = Value.rVal record { ty = Declared'.row NodeRecord.the-type; one = Path'.refl; val = Laws'13.val NodeRecord.the-type Laws'5.the-laws; tells =
-    Laws'13.tells NodeRecord.the-type Laws'5.the-laws; still = Laws'13.still NodeRecord.the-type Laws'5.the-copy Exit.yes; row = Rows.whole (Declared'.row
-    NodeRecord.the-type); rd = λ x. x; mk = λ x. x } λ M 𝓤 H A W. record { copies = Laws'13.copy NodeRecord.the-type Laws'5.the-copy 𝓤 H A W; lawful =
-    Laws'13.lawful NodeRecord.the-type Laws'5.the-laws 𝓤 H A W; makes = Laws'13.makes NodeRecord.the-type Laws'5.the-plain 𝓤 H A; in-mem = Local.mem-whole 𝓤 H
+r·6 = Value.rVal record { ty = Declared'.row NodeRecord.the-type; one = Path'.refl; val = Laws'13.val NodeRecord.the-type Laws'6.the-laws; tells =
+    Laws'13.tells NodeRecord.the-type Laws'6.the-laws; still = Laws'13.still NodeRecord.the-type Laws'6.the-copy Exit.yes; row = Rows.whole (Declared'.row
+    NodeRecord.the-type); rd = λ x. x; mk = λ x. x } λ M 𝓤 H A W. record { copies = Laws'13.copy NodeRecord.the-type Laws'6.the-copy 𝓤 H A W; lawful =
+    Laws'13.lawful NodeRecord.the-type Laws'6.the-laws 𝓤 H A W; makes = Laws'13.makes NodeRecord.the-type Laws'6.the-plain 𝓤 H A; in-mem = Local.mem-whole 𝓤 H
     A W (Declared'.row NodeRecord.the-type); of-mem = Local.whole-mem 𝓤 H A W (Declared'.row NodeRecord.the-type) }
 abbrev pub ps·7 : List (Kinds.PK 0)
 ps·7 = (Num.pNum Syntax.w8) ∷ (Num.pNum Syntax.w64) ∷ []
 abbrev pub r·7 : Kinds.RK 0
 r·7 = Num.rNum Syntax.w64
 abbrev pub ps·8 : List (Kinds.PK 0)
-ps·8 = (Num.pNum Syntax.w32) ∷ (Value.pVal record { ty = Declared'.row Run.the-type; one = Path'.refl; val = Laws'13.val Run.the-type Laws'7.the-laws; tells =
-    Laws'13.tells Run.the-type Laws'7.the-laws; still = Laws'13.still Run.the-type Laws'7.the-copy Exit.yes; row = Rows.whole (Declared'.row Run.the-type); rd
-    = λ x. x; mk = λ x. x } λ M 𝓤 H A W. record { copies = Laws'13.copy Run.the-type Laws'7.the-copy 𝓤 H A W; lawful = Laws'13.lawful Run.the-type
-    Laws'7.the-laws 𝓤 H A W; makes = Laws'13.makes Run.the-type Laws'7.the-plain 𝓤 H A; in-mem = Local.mem-whole 𝓤 H A W (Declared'.row Run.the-type); of-mem
-    = Local.whole-mem 𝓤 H A W (Declared'.row Run.the-type) }) ∷ (Num.pNum Syntax.w32) ∷ (Value.pVal record { ty = Declared'.row Open.the-type; one =
-    Path'.refl; val = Laws'13.val Open.the-type Laws'3.the-laws; tells = Laws'13.tells Open.the-type Laws'3.the-laws; still = Laws'13.still Open.the-type
-    Laws'3.the-copy Exit.yes; row = Rows.whole (Declared'.row Open.the-type); rd = λ x. x; mk = λ x. x } λ M 𝓤 H A W. record { copies = Laws'13.copy
-    Open.the-type Laws'3.the-copy 𝓤 H A W; lawful = Laws'13.lawful Open.the-type Laws'3.the-laws 𝓤 H A W; makes = Laws'13.makes Open.the-type Laws'3.the-plain
-    𝓤 H A; in-mem = Local.mem-whole 𝓤 H A W (Declared'.row Open.the-type); of-mem = Local.whole-mem 𝓤 H A W (Declared'.row Open.the-type) }) ∷ (Num.pNum
-    Syntax.w64) ∷ (Value.pVal record { ty = Declared.row Element.the-type; one = Path'.refl; val = Laws'11.val Element.the-type Laws''.the-laws; tells =
-    Laws'11.tells Element.the-type Laws''.the-laws; still = Laws'11.still Element.the-type Laws''.the-copy Exit.yes; row = Rows.whole (Declared.row
-    Element.the-type); rd = λ x. x; mk = λ x. x } λ M 𝓤 H A W. record { copies = Laws'11.copy Element.the-type Laws''.the-copy 𝓤 H A W; lawful =
-    Laws'11.lawful Element.the-type Laws''.the-laws 𝓤 H A W tt; makes = Laws'11.makes Element.the-type Laws''.the-plain 𝓤 H A; in-mem = Local.mem-whole 𝓤 H A
-    W (Declared.row Element.the-type); of-mem = Local.whole-mem 𝓤 H A W (Declared.row Element.the-type) }) ∷ (Value.pVal record { ty = Declared'.row
-    NodeRecord.the-type; one = Path'.refl; val = Laws'13.val NodeRecord.the-type Laws'5.the-laws; tells = Laws'13.tells NodeRecord.the-type Laws'5.the-laws;
-    still = Laws'13.still NodeRecord.the-type Laws'5.the-copy Exit.yes; row = Rows.whole (Declared'.row NodeRecord.the-type); rd = λ x. x; mk = λ x. x } λ M 𝓤
-    H A W. record { copies = Laws'13.copy NodeRecord.the-type Laws'5.the-copy 𝓤 H A W; lawful = Laws'13.lawful NodeRecord.the-type Laws'5.the-laws 𝓤 H A W;
-    makes = Laws'13.makes NodeRecord.the-type Laws'5.the-plain 𝓤 H A; in-mem = Local.mem-whole 𝓤 H A W (Declared'.row NodeRecord.the-type); of-mem =
-    Local.whole-mem 𝓤 H A W (Declared'.row NodeRecord.the-type) }) ∷ (Num.pNum Syntax.w64) ∷ (Value.pVal record { ty = Declared.row Context.the-type; one =
-    Path'.refl; val = Laws'11.val Context.the-type Laws'.the-laws; tells = Laws'11.tells Context.the-type Laws'.the-laws; still = Laws'11.still
-    Context.the-type Laws'.the-copy Exit.yes; row = Rows.whole (Declared.row Context.the-type); rd = λ x. x; mk = λ x. x } λ M 𝓤 H A W. record { copies =
-    Laws'11.copy Context.the-type Laws'.the-copy 𝓤 H A W; lawful = Laws'11.lawful Context.the-type Laws'.the-laws 𝓤 H A W tt; makes = Laws'11.makes
-    Context.the-type Laws'.the-plain 𝓤 H A; in-mem = Local.mem-whole 𝓤 H A W (Declared.row Context.the-type); of-mem = Local.whole-mem 𝓤 H A W (Declared.row
-    Context.the-type) }) ∷ []
+ps·8 = (Num.pNum Syntax.w32) ∷ (Value.pVal record { ty = Declared'.row Run.the-type; one = Path'.refl; val = Laws'13.val Run.the-type Laws.the-laws; tells =
+    Laws'13.tells Run.the-type Laws.the-laws; still = Laws'13.still Run.the-type Laws.the-copy Exit.yes; row = Rows.whole (Declared'.row Run.the-type); rd = λ
+    x. x; mk = λ x. x } λ M 𝓤 H A W. record { copies = Laws'13.copy Run.the-type Laws.the-copy 𝓤 H A W; lawful = Laws'13.lawful Run.the-type Laws.the-laws 𝓤 H
+    A W; makes = Laws'13.makes Run.the-type Laws.the-plain 𝓤 H A; in-mem = Local.mem-whole 𝓤 H A W (Declared'.row Run.the-type); of-mem = Local.whole-mem 𝓤 H
+    A W (Declared'.row Run.the-type) }) ∷ (Num.pNum Syntax.w32) ∷ (Value.pVal record { ty = Declared'.row Open.the-type; one = Path'.refl; val = Laws'13.val
+    Open.the-type Laws'4.the-laws; tells = Laws'13.tells Open.the-type Laws'4.the-laws; still = Laws'13.still Open.the-type Laws'4.the-copy Exit.yes; row =
+    Rows.whole (Declared'.row Open.the-type); rd = λ x. x; mk = λ x. x } λ M 𝓤 H A W. record { copies = Laws'13.copy Open.the-type Laws'4.the-copy 𝓤 H A W;
+    lawful = Laws'13.lawful Open.the-type Laws'4.the-laws 𝓤 H A W; makes = Laws'13.makes Open.the-type Laws'4.the-plain 𝓤 H A; in-mem = Local.mem-whole 𝓤 H A
+    W (Declared'.row Open.the-type); of-mem = Local.whole-mem 𝓤 H A W (Declared'.row Open.the-type) }) ∷ (Num.pNum Syntax.w64) ∷ (Value.pVal record { ty =
+    Declared.row Element.the-type; one = Path'.refl; val = Laws'11.val Element.the-type Laws'3.the-laws; tells = Laws'11.tells Element.the-type
+    Laws'3.the-laws; still = Laws'11.still Element.the-type Laws'3.the-copy Exit.yes; row = Rows.whole (Declared.row Element.the-type); rd = λ x. x; mk = λ x.
+    x } λ M 𝓤 H A W. record { copies = Laws'11.copy Element.the-type Laws'3.the-copy 𝓤 H A W; lawful = Laws'11.lawful Element.the-type Laws'3.the-laws 𝓤 H A W
+    tt; makes = Laws'11.makes Element.the-type Laws'3.the-plain 𝓤 H A; in-mem = Local.mem-whole 𝓤 H A W (Declared.row Element.the-type); of-mem =
+    Local.whole-mem 𝓤 H A W (Declared.row Element.the-type) }) ∷ (Value.pVal record { ty = Declared'.row NodeRecord.the-type; one = Path'.refl; val =
+    Laws'13.val NodeRecord.the-type Laws'6.the-laws; tells = Laws'13.tells NodeRecord.the-type Laws'6.the-laws; still = Laws'13.still NodeRecord.the-type
+    Laws'6.the-copy Exit.yes; row = Rows.whole (Declared'.row NodeRecord.the-type); rd = λ x. x; mk = λ x. x } λ M 𝓤 H A W. record { copies = Laws'13.copy
+    NodeRecord.the-type Laws'6.the-copy 𝓤 H A W; lawful = Laws'13.lawful NodeRecord.the-type Laws'6.the-laws 𝓤 H A W; makes = Laws'13.makes
+    NodeRecord.the-type Laws'6.the-plain 𝓤 H A; in-mem = Local.mem-whole 𝓤 H A W (Declared'.row NodeRecord.the-type); of-mem = Local.whole-mem 𝓤 H A W
+    (Declared'.row NodeRecord.the-type) }) ∷ (Num.pNum Syntax.w64) ∷ (Value.pVal record { ty = Declared.row Context.the-type; one = Path'.refl; val =
+    Laws'11.val Context.the-type Laws''.the-laws; tells = Laws'11.tells Context.the-type Laws''.the-laws; still = Laws'11.still Context.the-type
+    Laws''.the-copy Exit.yes; row = Rows.whole (Declared.row Context.the-type); rd = λ x. x; mk = λ x. x } λ M 𝓤 H A W. record { copies = Laws'11.copy
+    Context.the-type Laws''.the-copy 𝓤 H A W; lawful = Laws'11.lawful Context.the-type Laws''.the-laws 𝓤 H A W tt; makes = Laws'11.makes Context.the-type
+    Laws''.the-plain 𝓤 H A; in-mem = Local.mem-whole 𝓤 H A W (Declared.row Context.the-type); of-mem = Local.whole-mem 𝓤 H A W (Declared.row Context.the-type)
+    }) ∷ []
 abbrev pub r·8 : Kinds.RK 0
 r·8 = Value.rVal record { ty = Declared'.row Taken.the-type; one = Path'.refl; val = Laws'13.val Taken.the-type Laws'8.the-laws; tells = Laws'13.tells
     Taken.the-type Laws'8.the-laws; still = Laws'13.still Taken.the-type Laws'8.the-copy Exit.yes; row = Rows.whole (Declared'.row Taken.the-type); rd = λ x.
@@ -435,14 +435,14 @@ r·8 = Value.rVal record { ty = Declared'.row Taken.the-type; one = Path'.refl; 
     of-mem = Local.whole-mem 𝓤 H A W (Declared'.row Taken.the-type) }
 abbrev pub ps·9 : List (Kinds.PK 1)
 ps·9 = (MutSlice.pMutS NodeRecordT.row 0 tt) ∷ (Value.pVal record { ty = Declared'.row Run.the-type; one = Path'.refl; val = Laws'13.val Run.the-type
-    Laws'7.the-laws; tells = Laws'13.tells Run.the-type Laws'7.the-laws; still = Laws'13.still Run.the-type Laws'7.the-copy Exit.yes; row = Rows.whole
-    (Declared'.row Run.the-type); rd = λ x. x; mk = λ x. x } λ M 𝓤 H A W. record { copies = Laws'13.copy Run.the-type Laws'7.the-copy 𝓤 H A W; lawful =
-    Laws'13.lawful Run.the-type Laws'7.the-laws 𝓤 H A W; makes = Laws'13.makes Run.the-type Laws'7.the-plain 𝓤 H A; in-mem = Local.mem-whole 𝓤 H A W
+    Laws.the-laws; tells = Laws'13.tells Run.the-type Laws.the-laws; still = Laws'13.still Run.the-type Laws.the-copy Exit.yes; row = Rows.whole
+    (Declared'.row Run.the-type); rd = λ x. x; mk = λ x. x } λ M 𝓤 H A W. record { copies = Laws'13.copy Run.the-type Laws.the-copy 𝓤 H A W; lawful =
+    Laws'13.lawful Run.the-type Laws.the-laws 𝓤 H A W; makes = Laws'13.makes Run.the-type Laws.the-plain 𝓤 H A; in-mem = Local.mem-whole 𝓤 H A W
     (Declared'.row Run.the-type); of-mem = Local.whole-mem 𝓤 H A W (Declared'.row Run.the-type) }) ∷ (Num.pNum Syntax.w32) ∷ (Num.pNum Syntax.w32) ∷
-    (Value.pVal record { ty = Declared'.row NodeRecord.the-type; one = Path'.refl; val = Laws'13.val NodeRecord.the-type Laws'5.the-laws; tells =
-    Laws'13.tells NodeRecord.the-type Laws'5.the-laws; still = Laws'13.still NodeRecord.the-type Laws'5.the-copy Exit.yes; row = Rows.whole (Declared'.row
-    NodeRecord.the-type); rd = λ x. x; mk = λ x. x } λ M 𝓤 H A W. record { copies = Laws'13.copy NodeRecord.the-type Laws'5.the-copy 𝓤 H A W; lawful =
-    Laws'13.lawful NodeRecord.the-type Laws'5.the-laws 𝓤 H A W; makes = Laws'13.makes NodeRecord.the-type Laws'5.the-plain 𝓤 H A; in-mem = Local.mem-whole 𝓤 H
+    (Value.pVal record { ty = Declared'.row NodeRecord.the-type; one = Path'.refl; val = Laws'13.val NodeRecord.the-type Laws'6.the-laws; tells =
+    Laws'13.tells NodeRecord.the-type Laws'6.the-laws; still = Laws'13.still NodeRecord.the-type Laws'6.the-copy Exit.yes; row = Rows.whole (Declared'.row
+    NodeRecord.the-type); rd = λ x. x; mk = λ x. x } λ M 𝓤 H A W. record { copies = Laws'13.copy NodeRecord.the-type Laws'6.the-copy 𝓤 H A W; lawful =
+    Laws'13.lawful NodeRecord.the-type Laws'6.the-laws 𝓤 H A W; makes = Laws'13.makes NodeRecord.the-type Laws'6.the-plain 𝓤 H A; in-mem = Local.mem-whole 𝓤 H
     A W (Declared'.row NodeRecord.the-type); of-mem = Local.whole-mem 𝓤 H A W (Declared'.row NodeRecord.the-type) }) ∷ (Value.pVal record { ty = Declared'.row
     Taken.the-type; one = Path'.refl; val = Laws'13.val Taken.the-type Laws'8.the-laws; tells = Laws'13.tells Taken.the-type Laws'8.the-laws; still =
     Laws'13.still Taken.the-type Laws'8.the-copy Exit.yes; row = Rows.whole (Declared'.row Taken.the-type); rd = λ x. x; mk = λ x. x } λ M 𝓤 H A W. record {
@@ -463,10 +463,10 @@ ps·10 = (Value.pVal record { ty = Declared'.row Taken.the-type; one = Path'.ref
     Laws'9.the-plain 𝓤 H A; in-mem = Local.mem-whole 𝓤 H A W (Declared'.row NextToken.the-type); of-mem = Local.whole-mem 𝓤 H A W (Declared'.row
     NextToken.the-type) }) ∷ []
 abbrev pub r·10 : Kinds.RK 0
-r·10 = Value.rVal record { ty = Declared'.row Iteration.the-type; one = Path'.refl; val = Laws'13.val Iteration.the-type Laws'6.the-laws; tells =
-    Laws'13.tells Iteration.the-type Laws'6.the-laws; still = Laws'13.still Iteration.the-type Laws'6.the-copy Exit.yes; row = Rows.whole (Declared'.row
-    Iteration.the-type); rd = λ x. x; mk = λ x. x } λ M 𝓤 H A W. record { copies = Laws'13.copy Iteration.the-type Laws'6.the-copy 𝓤 H A W; lawful =
-    Laws'13.lawful Iteration.the-type Laws'6.the-laws 𝓤 H A W; makes = Laws'13.makes Iteration.the-type Laws'6.the-plain 𝓤 H A; in-mem = Local.mem-whole 𝓤 H A
+r·10 = Value.rVal record { ty = Declared'.row Iteration.the-type; one = Path'.refl; val = Laws'13.val Iteration.the-type Laws'7.the-laws; tells =
+    Laws'13.tells Iteration.the-type Laws'7.the-laws; still = Laws'13.still Iteration.the-type Laws'7.the-copy Exit.yes; row = Rows.whole (Declared'.row
+    Iteration.the-type); rd = λ x. x; mk = λ x. x } λ M 𝓤 H A W. record { copies = Laws'13.copy Iteration.the-type Laws'7.the-copy 𝓤 H A W; lawful =
+    Laws'13.lawful Iteration.the-type Laws'7.the-laws 𝓤 H A W; makes = Laws'13.makes Iteration.the-type Laws'7.the-plain 𝓤 H A; in-mem = Local.mem-whole 𝓤 H A
     W (Declared'.row Iteration.the-type); of-mem = Local.whole-mem 𝓤 H A W (Declared'.row Iteration.the-type) }
 abbrev pub hs : List Syntax.Home
 hs = Syntax.valueLocal ∷ Syntax.valueLocal ∷ Syntax.valueLocal ∷ Syntax.valueLocal ∷ Syntax.valueLocal ∷ Syntax.valueLocal ∷ Syntax.valueLocal ∷
@@ -1053,8 +1053,8 @@ module _ (claims· : Claims) where
   abbrev s0 : (bs : List Nat.ℕ) → Typed.Gives T0 T2
   s0 = λ bs. Know.k-shs-known (Referent.fInt Syntax.w8) T0 3 1 y21 Row.off 0 λ x. x
   abbrev s1 : (bs : List Nat.ℕ) → Typed.Mo T2 → Typed.Mo T3
-  s1 = λ bs. Scalar.n-use T2 (Scalar.oFld 5 ((Syntax.field 2) ∷ []) y0 32 (Reads.fieldV Run.the-type Laws'7.the-laws 2)) 8 (Rows.sc-here (Row.sInt
-      Syntax.w64)) (Row.sInt Syntax.w64 .of)
+  s1 = λ bs. Scalar.n-use T2 (Scalar.oFld 5 ((Syntax.field 2) ∷ []) y0 32 (Reads.fieldV Run.the-type Laws.the-laws 2)) 8 (Rows.sc-here (Row.sInt Syntax.w64))
+      (Row.sInt Syntax.w64 .of)
   abbrev s2 : (bs : List Nat.ℕ) → Typed.Mo T3 → Typed.Mo T4
   s2 = λ bs. Scalar.n-use T3 (Scalar.oFld 3 ((Syntax.field 1) ∷ []) y0 8 Shared.lenV) 19 (Rows.sc-here (Row.sInt Syntax.w64)) (Row.sInt Syntax.w64 .of)
   abbrev s3 : (bs : List Nat.ℕ) → Typed.Asks T4 T5
@@ -1888,22 +1888,22 @@ module _ (claims· : Claims) where
           d7 = Typed.s-seq 𝓤 H A W 𝓣 E G9 G10 b4 b5 Δ1 (Typed.both (s7 bs)) (at6 bs) (Plain.t-call-plain 𝓤 H A W 𝓣 0 ps·0 r·0 (claims· .0) (claims· .1)
               "reader::halted" (known .0) E (λ pos β. β) G9 (record { pos = 5; st = []; d = 0; at = λ x. x }, (Num.vAt 6 λ x. x, (record { pos = 7; st = []; d
               = 0; at = λ x. x }, (Bool.bLit Bool'.false, (record { pos = 21; st = []; d = 0; at = λ x. x }, (Num.vLit 0, tt)))))) 0 [] (Call.sub-id 𝓤 H A W
-              (G9 .slots)) ((Yields.yields-copy 𝓤 H A W (λ ρ. Unit) (Declared'.row Run.the-type) Path'.refl (Copies.cStruct Run.the-type Laws'7.the-laws
-              Laws'7.the-copy .copy 𝓤 H A W) (Rows.whole (Declared'.row Run.the-type)) (λ x. x) (λ x. x) (λ ρ told. Local.mem-whole 𝓤 H A W (Declared'.row
+              (G9 .slots)) ((Yields.yields-copy 𝓤 H A W (λ ρ. Unit) (Declared'.row Run.the-type) Path'.refl (Copies.cStruct Run.the-type Laws.the-laws
+              Laws.the-copy .copy 𝓤 H A W) (Rows.whole (Declared'.row Run.the-type)) (λ x. x) (λ x. x) (λ ρ told. Local.mem-whole 𝓤 H A W (Declared'.row
               Run.the-type) ρ) λ ρ told. Local.whole-mem 𝓤 H A W (Declared'.row Run.the-type) ρ, Path'.refl), ((Scalar.reads-sc 𝓤 H A W (Row.sInt Syntax.w64),
-              Path'.refl), ((Yields.yields-copy 𝓤 H A W (λ ρ. Unit) (Declared'.row Open.the-type) Path'.refl (Copies.cStruct Open.the-type Laws'3.the-laws
-              Laws'3.the-copy .copy 𝓤 H A W) (Rows.whole (Declared'.row Open.the-type)) (λ x. x) (λ x. x) (λ ρ told. Local.mem-whole 𝓤 H A W (Declared'.row
+              Path'.refl), ((Yields.yields-copy 𝓤 H A W (λ ρ. Unit) (Declared'.row Open.the-type) Path'.refl (Copies.cStruct Open.the-type Laws'4.the-laws
+              Laws'4.the-copy .copy 𝓤 H A W) (Rows.whole (Declared'.row Open.the-type)) (λ x. x) (λ x. x) (λ ρ told. Local.mem-whole 𝓤 H A W (Declared'.row
               Open.the-type) ρ) λ ρ told. Local.whole-mem 𝓤 H A W (Declared'.row Open.the-type) ρ, Path'.refl), (tt, ((Yields.yields-copy 𝓤 H A W (λ ρ. Unit)
-              (Declared.row Cause.the-type) Path'.refl (Copies.cEnum Cause.the-type Laws.the-laws Laws.the-copy .copy 𝓤 H A W) (Rows.whole (Declared.row
+              (Declared.row Cause.the-type) Path'.refl (Copies.cEnum Cause.the-type Laws'.the-laws Laws'.the-copy .copy 𝓤 H A W) (Rows.whole (Declared.row
               Cause.the-type)) (λ x. x) (λ x. x) (λ ρ told. Local.mem-whole 𝓤 H A W (Declared.row Cause.the-type) ρ) λ ρ told. Local.whole-mem 𝓤 H A W
               (Declared.row Cause.the-type) ρ, Path'.refl), (tt, tt)))))) (Reads'.room-gone 𝓤 H A y18) tt Path'.refl) d6
           d8 : Typed.Typed 𝓤 H A 𝓣 E G8 b7 Δ1 (at8 bs)
-          d8 = Typed.s-seq 𝓤 H A W 𝓣 E G8 G9 b3 b6 Δ1 (Typed.pass T8 T9 (s6 bs)) (at7 bs) (Make.t-enum-make-wt 𝓤 H A W E 𝓣 Cause.the-type Laws.the-laws
-              Laws.the-plain tt G8 21 ((Scalar.oInt Syntax.w8 6) ∷ []) (λ m. Cause.enum .make (Logic.inr (Logic.inr (Logic.inr (Logic.inr (Logic.inr
-              (Logic.inr (Logic.inl tt)))))))) (Reads'.room-gone 𝓤 H A y7) (tt, tt) Path'.refl (λ m wa. Make.made-val Cause.the-type Laws.the-laws []
+          d8 = Typed.s-seq 𝓤 H A W 𝓣 E G8 G9 b3 b6 Δ1 (Typed.pass T8 T9 (s6 bs)) (at7 bs) (Make.t-enum-make-wt 𝓤 H A W E 𝓣 Cause.the-type Laws'.the-laws
+              Laws'.the-plain tt G8 21 ((Scalar.oInt Syntax.w8 6) ∷ []) (λ m. Cause.enum .make (Logic.inr (Logic.inr (Logic.inr (Logic.inr (Logic.inr
+              (Logic.inr (Logic.inl tt)))))))) (Reads'.room-gone 𝓤 H A y7) (tt, tt) Path'.refl (λ m wa. Make.made-val Cause.the-type Laws'.the-laws []
               (Cause.enum .make (Logic.inr (Logic.inr (Logic.inr (Logic.inr (Logic.inr (Logic.inr (Logic.inl tt)))))))) tt (wa .1)) λ m wa. Make.made-is
-              Cause.the-type Laws.the-laws [] (Cause.enum .make (Logic.inr (Logic.inr (Logic.inr (Logic.inr (Logic.inr (Logic.inr (Logic.inl tt)))))))) tt (wa
-              .1)) d7
+              Cause.the-type Laws'.the-laws [] (Cause.enum .make (Logic.inr (Logic.inr (Logic.inr (Logic.inr (Logic.inr (Logic.inr (Logic.inl tt)))))))) tt
+              (wa .1)) d7
           d9 : Typed.Typed 𝓤 H A 𝓣 E G7 b7 Δ1 (at9 bs)
           d9 = Typed.g-pre 𝓤 H A W 𝓣 E G7 G8 b7 Δ1 (Typed.pass T7 T8 (s5 bs)) (at8 bs) (Scalar.g-room 𝓤 H A W E G7 20 Syntax.tyBool (Scalar.room-sc 𝓤 H A W
               Row.sBool)) d8
@@ -1944,24 +1944,24 @@ module _ (claims· : Claims) where
           d22 = Typed.s-seq 𝓤 H A W 𝓣 E G34 G35 b17 b18 Δ2 (Typed.both (s31 bs)) (at21 bs) (Plain.t-call-plain 𝓤 H A W 𝓣 0 ps·0 r·0 (claims· .0) (claims· .1)
               "reader::halted" (known .0) E (λ pos β. β) G34 (record { pos = 5; st = []; d = 0; at = λ x. x }, (Num.vAt 6 λ x. x, (record { pos = 7; st = [];
               d = 0; at = λ x. x }, (Bool.bLit Bool'.true, (record { pos = 27; st = []; d = 0; at = λ x. x }, (Num.vAt 8 λ x. x, tt)))))) 0 [] (Call.sub-id 𝓤
-              H A W (G34 .slots)) ((Yields.yields-copy 𝓤 H A W (λ ρ. Unit) (Declared'.row Run.the-type) Path'.refl (Copies.cStruct Run.the-type
-              Laws'7.the-laws Laws'7.the-copy .copy 𝓤 H A W) (Rows.whole (Declared'.row Run.the-type)) (λ x. x) (λ x. x) (λ ρ told. Local.mem-whole 𝓤 H A W
-              (Declared'.row Run.the-type) ρ) λ ρ told. Local.whole-mem 𝓤 H A W (Declared'.row Run.the-type) ρ, Path'.refl), ((Scalar.reads-sc 𝓤 H A W
-              (Row.sInt Syntax.w64), Path'.refl), ((Yields.yields-copy 𝓤 H A W (λ ρ. Unit) (Declared'.row Open.the-type) Path'.refl (Copies.cStruct
-              Open.the-type Laws'3.the-laws Laws'3.the-copy .copy 𝓤 H A W) (Rows.whole (Declared'.row Open.the-type)) (λ x. x) (λ x. x) (λ ρ told.
-              Local.mem-whole 𝓤 H A W (Declared'.row Open.the-type) ρ) λ ρ told. Local.whole-mem 𝓤 H A W (Declared'.row Open.the-type) ρ, Path'.refl), (tt,
-              ((Yields.yields-copy 𝓤 H A W (λ ρ. Unit) (Declared.row Cause.the-type) Path'.refl (Copies.cEnum Cause.the-type Laws.the-laws Laws.the-copy .copy
-              𝓤 H A W) (Rows.whole (Declared.row Cause.the-type)) (λ x. x) (λ x. x) (λ ρ told. Local.mem-whole 𝓤 H A W (Declared.row Cause.the-type) ρ) λ ρ
-              told. Local.whole-mem 𝓤 H A W (Declared.row Cause.the-type) ρ, Path'.refl), ((Scalar.reads-sc 𝓤 H A W (Row.sInt Syntax.w64), Path'.refl),
-              tt)))))) (Reads'.room-gone 𝓤 H A y18) tt Path'.refl) d21
+              H A W (G34 .slots)) ((Yields.yields-copy 𝓤 H A W (λ ρ. Unit) (Declared'.row Run.the-type) Path'.refl (Copies.cStruct Run.the-type Laws.the-laws
+              Laws.the-copy .copy 𝓤 H A W) (Rows.whole (Declared'.row Run.the-type)) (λ x. x) (λ x. x) (λ ρ told. Local.mem-whole 𝓤 H A W (Declared'.row
+              Run.the-type) ρ) λ ρ told. Local.whole-mem 𝓤 H A W (Declared'.row Run.the-type) ρ, Path'.refl), ((Scalar.reads-sc 𝓤 H A W (Row.sInt Syntax.w64),
+              Path'.refl), ((Yields.yields-copy 𝓤 H A W (λ ρ. Unit) (Declared'.row Open.the-type) Path'.refl (Copies.cStruct Open.the-type Laws'4.the-laws
+              Laws'4.the-copy .copy 𝓤 H A W) (Rows.whole (Declared'.row Open.the-type)) (λ x. x) (λ x. x) (λ ρ told. Local.mem-whole 𝓤 H A W (Declared'.row
+              Open.the-type) ρ) λ ρ told. Local.whole-mem 𝓤 H A W (Declared'.row Open.the-type) ρ, Path'.refl), (tt, ((Yields.yields-copy 𝓤 H A W (λ ρ. Unit)
+              (Declared.row Cause.the-type) Path'.refl (Copies.cEnum Cause.the-type Laws'.the-laws Laws'.the-copy .copy 𝓤 H A W) (Rows.whole (Declared.row
+              Cause.the-type)) (λ x. x) (λ x. x) (λ ρ told. Local.mem-whole 𝓤 H A W (Declared.row Cause.the-type) ρ) λ ρ told. Local.whole-mem 𝓤 H A W
+              (Declared.row Cause.the-type) ρ, Path'.refl), ((Scalar.reads-sc 𝓤 H A W (Row.sInt Syntax.w64), Path'.refl), tt)))))) (Reads'.room-gone 𝓤 H A
+              y18) tt Path'.refl) d21
           d23 : Typed.Typed 𝓤 H A 𝓣 E G33 b20 Δ2 (at23 bs)
           d23 = Typed.s-seq 𝓤 H A W 𝓣 E G33 G34 b16 b19 Δ2 (Typed.pass T33 T34 (s30 bs)) (at22 bs) (Make.t-enum-make-wt 𝓤 H A W E 𝓣 Cause.the-type
-              Laws.the-laws Laws.the-plain tt G33 27 ((Scalar.oInt Syntax.w8 11) ∷ []) (λ m. Cause.enum .make (Logic.inr (Logic.inr (Logic.inr (Logic.inr
+              Laws'.the-laws Laws'.the-plain tt G33 27 ((Scalar.oInt Syntax.w8 11) ∷ []) (λ m. Cause.enum .make (Logic.inr (Logic.inr (Logic.inr (Logic.inr
               (Logic.inr (Logic.inr (Logic.inr (Logic.inr (Logic.inr (Logic.inr (Logic.inr (Logic.inl tt))))))))))))) (Reads'.room-gone 𝓤 H A y7) (tt, tt)
-              Path'.refl (λ m wa. Make.made-val Cause.the-type Laws.the-laws [] (Cause.enum .make (Logic.inr (Logic.inr (Logic.inr (Logic.inr (Logic.inr
+              Path'.refl (λ m wa. Make.made-val Cause.the-type Laws'.the-laws [] (Cause.enum .make (Logic.inr (Logic.inr (Logic.inr (Logic.inr (Logic.inr
               (Logic.inr (Logic.inr (Logic.inr (Logic.inr (Logic.inr (Logic.inr (Logic.inl tt))))))))))))) tt (wa .1)) λ m wa. Make.made-is Cause.the-type
-              Laws.the-laws [] (Cause.enum .make (Logic.inr (Logic.inr (Logic.inr (Logic.inr (Logic.inr (Logic.inr (Logic.inr (Logic.inr (Logic.inr (Logic.inr
-              (Logic.inr (Logic.inl tt))))))))))))) tt (wa .1)) d22
+              Laws'.the-laws [] (Cause.enum .make (Logic.inr (Logic.inr (Logic.inr (Logic.inr (Logic.inr (Logic.inr (Logic.inr (Logic.inr (Logic.inr
+              (Logic.inr (Logic.inr (Logic.inl tt))))))))))))) tt (wa .1)) d22
           d24 : Typed.Typed 𝓤 H A 𝓣 E G32 b20 Δ2 (at24 bs)
           d24 = Typed.g-pre 𝓤 H A W 𝓣 E G32 G33 b20 Δ2 (Typed.pass T31 T33 (s29 bs)) (at23 bs) (Scalar.g-room 𝓤 H A W E G32 24 Syntax.tyBool (Scalar.room-sc 𝓤
               H A W Row.sBool)) d23
@@ -2013,20 +2013,20 @@ module _ (claims· : Claims) where
               "reader::halted" (known .0) E (λ pos β. β) G54 (record { pos = 5; st = []; d = 0; at = λ x. x }, (Num.vAt 6 λ x. x, (record { pos = 7; st = [];
               d = 0; at = λ x. x }, (Bool.bLit Bool'.true, (record { pos = 14; st = []; d = 0; at = λ x. x }, (Num.vFld 12 ((Syntax.field 0) ∷ []) 0 λ x.
               NextToken.struct .as-values x .0, tt)))))) 0 [] (Call.sub-id 𝓤 H A W (G54 .slots)) ((Yields.yields-copy 𝓤 H A W (λ ρ. Unit) (Declared'.row
-              Run.the-type) Path'.refl (Copies.cStruct Run.the-type Laws'7.the-laws Laws'7.the-copy .copy 𝓤 H A W) (Rows.whole (Declared'.row Run.the-type))
-              (λ x. x) (λ x. x) (λ ρ told. Local.mem-whole 𝓤 H A W (Declared'.row Run.the-type) ρ) λ ρ told. Local.whole-mem 𝓤 H A W (Declared'.row
-              Run.the-type) ρ, Path'.refl), ((Scalar.reads-sc 𝓤 H A W (Row.sInt Syntax.w64), Path'.refl), ((Yields.yields-copy 𝓤 H A W (λ ρ. Unit)
-              (Declared'.row Open.the-type) Path'.refl (Copies.cStruct Open.the-type Laws'3.the-laws Laws'3.the-copy .copy 𝓤 H A W) (Rows.whole (Declared'.row
+              Run.the-type) Path'.refl (Copies.cStruct Run.the-type Laws.the-laws Laws.the-copy .copy 𝓤 H A W) (Rows.whole (Declared'.row Run.the-type)) (λ x.
+              x) (λ x. x) (λ ρ told. Local.mem-whole 𝓤 H A W (Declared'.row Run.the-type) ρ) λ ρ told. Local.whole-mem 𝓤 H A W (Declared'.row Run.the-type) ρ,
+              Path'.refl), ((Scalar.reads-sc 𝓤 H A W (Row.sInt Syntax.w64), Path'.refl), ((Yields.yields-copy 𝓤 H A W (λ ρ. Unit) (Declared'.row
+              Open.the-type) Path'.refl (Copies.cStruct Open.the-type Laws'4.the-laws Laws'4.the-copy .copy 𝓤 H A W) (Rows.whole (Declared'.row
               Open.the-type)) (λ x. x) (λ x. x) (λ ρ told. Local.mem-whole 𝓤 H A W (Declared'.row Open.the-type) ρ) λ ρ told. Local.whole-mem 𝓤 H A W
               (Declared'.row Open.the-type) ρ, Path'.refl), (tt, ((Yields.yields-copy 𝓤 H A W (λ ρ. Unit) (Declared.row Cause.the-type) Path'.refl
-              (Copies.cEnum Cause.the-type Laws.the-laws Laws.the-copy .copy 𝓤 H A W) (Rows.whole (Declared.row Cause.the-type)) (λ x. x) (λ x. x) (λ ρ told.
-              Local.mem-whole 𝓤 H A W (Declared.row Cause.the-type) ρ) λ ρ told. Local.whole-mem 𝓤 H A W (Declared.row Cause.the-type) ρ, Path'.refl),
+              (Copies.cEnum Cause.the-type Laws'.the-laws Laws'.the-copy .copy 𝓤 H A W) (Rows.whole (Declared.row Cause.the-type)) (λ x. x) (λ x. x) (λ ρ
+              told. Local.mem-whole 𝓤 H A W (Declared.row Cause.the-type) ρ) λ ρ told. Local.whole-mem 𝓤 H A W (Declared.row Cause.the-type) ρ, Path'.refl),
               ((Reads.reads-field 𝓤 H A W NextToken.the-type Laws'9.the-laws 0 y0 0 Path'.refl, Path'.refl), tt)))))) (Reads'.room-gone 𝓤 H A y18) tt
               Path'.refl) d40
           d42 : Typed.Typed 𝓤 H A 𝓣 E G53 b32 Δ3 (at42 bs)
           d42 = Typed.s-seq 𝓤 H A W 𝓣 E G53 G54 b28 b31 Δ3 (Typed.pass T53 T54 (s49 bs)) (at41 bs) (CopyOut.t-copy-told 𝓤 H A W E 𝓣 (Declared.row
-              Cause.the-type) Path'.refl (Laws'11.val Cause.the-type Laws.the-laws) (Laws'11.lawful Cause.the-type Laws.the-laws 𝓤 H A W tt) (Laws'11.makes
-              Cause.the-type Laws.the-plain 𝓤 H A) G53 14 (Scalar.oFld 12 ((Syntax.field 6) ∷ []) y7 41 λ x. Laws'11.val Cause.the-type Laws.the-laws
+              Cause.the-type) Path'.refl (Laws'11.val Cause.the-type Laws'.the-laws) (Laws'11.lawful Cause.the-type Laws'.the-laws 𝓤 H A W tt) (Laws'11.makes
+              Cause.the-type Laws'.the-plain 𝓤 H A) G53 14 (Scalar.oFld 12 ((Syntax.field 6) ∷ []) y7 41 λ x. Laws'11.val Cause.the-type Laws'.the-laws
               (NextToken.struct .as-values x .1 .1 .1 .1 .1 .1 .0)) (λ m. NextToken.struct .as-values (m .1 .1 .1 .1 .1 .1 .1 .1 .1 .1 .1 .1 .0) .1 .1 .1 .1
               .1 .1 .0) (λ m. Laws'12.Is (Declared'.row NextToken.the-type) (m .1 .1 .1 .1 .1 .1 .1 .1 .1 .1 .1 .1 .0) (Laws'13.vals NextToken.the-type
               Laws'9.the-laws (m .1 .1 .1 .1 .1 .1 .1 .1 .1 .1 .1 .1 .0))) (Reads'.room-gone 𝓤 H A y7) (Reads.reads-field 𝓤 H A W NextToken.the-type
@@ -2076,22 +2076,22 @@ module _ (claims· : Claims) where
           d56 = Typed.s-seq 𝓤 H A W 𝓣 E G70 G71 b37 b38 Δ4 (Typed.both (s65 bs)) (at55 bs) (Plain.t-call-plain 𝓤 H A W 𝓣 0 ps·0 r·0 (claims· .0) (claims· .1)
               "reader::halted" (known .0) E (λ pos β. β) G70 (record { pos = 5; st = []; d = 0; at = λ x. x }, (Num.vAt 6 λ x. x, (record { pos = 7; st = [];
               d = 0; at = λ x. x }, (Bool.bLit Bool'.false, (record { pos = 30; st = []; d = 0; at = λ x. x }, (Num.vLit 0, tt)))))) 0 [] (Call.sub-id 𝓤 H A W
-              (G70 .slots)) ((Yields.yields-copy 𝓤 H A W (λ ρ. Unit) (Declared'.row Run.the-type) Path'.refl (Copies.cStruct Run.the-type Laws'7.the-laws
-              Laws'7.the-copy .copy 𝓤 H A W) (Rows.whole (Declared'.row Run.the-type)) (λ x. x) (λ x. x) (λ ρ told. Local.mem-whole 𝓤 H A W (Declared'.row
+              (G70 .slots)) ((Yields.yields-copy 𝓤 H A W (λ ρ. Unit) (Declared'.row Run.the-type) Path'.refl (Copies.cStruct Run.the-type Laws.the-laws
+              Laws.the-copy .copy 𝓤 H A W) (Rows.whole (Declared'.row Run.the-type)) (λ x. x) (λ x. x) (λ ρ told. Local.mem-whole 𝓤 H A W (Declared'.row
               Run.the-type) ρ) λ ρ told. Local.whole-mem 𝓤 H A W (Declared'.row Run.the-type) ρ, Path'.refl), ((Scalar.reads-sc 𝓤 H A W (Row.sInt Syntax.w64),
-              Path'.refl), ((Yields.yields-copy 𝓤 H A W (λ ρ. Unit) (Declared'.row Open.the-type) Path'.refl (Copies.cStruct Open.the-type Laws'3.the-laws
-              Laws'3.the-copy .copy 𝓤 H A W) (Rows.whole (Declared'.row Open.the-type)) (λ x. x) (λ x. x) (λ ρ told. Local.mem-whole 𝓤 H A W (Declared'.row
+              Path'.refl), ((Yields.yields-copy 𝓤 H A W (λ ρ. Unit) (Declared'.row Open.the-type) Path'.refl (Copies.cStruct Open.the-type Laws'4.the-laws
+              Laws'4.the-copy .copy 𝓤 H A W) (Rows.whole (Declared'.row Open.the-type)) (λ x. x) (λ x. x) (λ ρ told. Local.mem-whole 𝓤 H A W (Declared'.row
               Open.the-type) ρ) λ ρ told. Local.whole-mem 𝓤 H A W (Declared'.row Open.the-type) ρ, Path'.refl), (tt, ((Yields.yields-copy 𝓤 H A W (λ ρ. Unit)
-              (Declared.row Cause.the-type) Path'.refl (Copies.cEnum Cause.the-type Laws.the-laws Laws.the-copy .copy 𝓤 H A W) (Rows.whole (Declared.row
+              (Declared.row Cause.the-type) Path'.refl (Copies.cEnum Cause.the-type Laws'.the-laws Laws'.the-copy .copy 𝓤 H A W) (Rows.whole (Declared.row
               Cause.the-type)) (λ x. x) (λ x. x) (λ ρ told. Local.mem-whole 𝓤 H A W (Declared.row Cause.the-type) ρ) λ ρ told. Local.whole-mem 𝓤 H A W
               (Declared.row Cause.the-type) ρ, Path'.refl), (tt, tt)))))) (Reads'.room-gone 𝓤 H A y18) tt Path'.refl) d55
           d57 : Typed.Typed 𝓤 H A 𝓣 E G69 b40 Δ4 (at57 bs)
           d57 = Typed.s-seq 𝓤 H A W 𝓣 E G69 G70 b36 b39 Δ4 (Typed.pass T69 T70 (s64 bs)) (at56 bs) (Make.t-enum-make-wt 𝓤 H A W E 𝓣 Cause.the-type
-              Laws.the-laws Laws.the-plain tt G69 30 ((Scalar.oInt Syntax.w8 6) ∷ []) (λ m. Cause.enum .make (Logic.inr (Logic.inr (Logic.inr (Logic.inr
-              (Logic.inr (Logic.inr (Logic.inl tt)))))))) (Reads'.room-gone 𝓤 H A y7) (tt, tt) Path'.refl (λ m wa. Make.made-val Cause.the-type Laws.the-laws
+              Laws'.the-laws Laws'.the-plain tt G69 30 ((Scalar.oInt Syntax.w8 6) ∷ []) (λ m. Cause.enum .make (Logic.inr (Logic.inr (Logic.inr (Logic.inr
+              (Logic.inr (Logic.inr (Logic.inl tt)))))))) (Reads'.room-gone 𝓤 H A y7) (tt, tt) Path'.refl (λ m wa. Make.made-val Cause.the-type Laws'.the-laws
               [] (Cause.enum .make (Logic.inr (Logic.inr (Logic.inr (Logic.inr (Logic.inr (Logic.inr (Logic.inl tt)))))))) tt (wa .1)) λ m wa. Make.made-is
-              Cause.the-type Laws.the-laws [] (Cause.enum .make (Logic.inr (Logic.inr (Logic.inr (Logic.inr (Logic.inr (Logic.inr (Logic.inl tt)))))))) tt (wa
-              .1)) d56
+              Cause.the-type Laws'.the-laws [] (Cause.enum .make (Logic.inr (Logic.inr (Logic.inr (Logic.inr (Logic.inr (Logic.inr (Logic.inl tt)))))))) tt
+              (wa .1)) d56
           d58 : Typed.Typed 𝓤 H A 𝓣 E G68 b40 Δ4 (at58 bs)
           d58 = Typed.g-pre 𝓤 H A W 𝓣 E G68 G69 b40 Δ4 (Typed.pass T68 T69 (s63 bs)) (at57 bs) (Scalar.g-room 𝓤 H A W E G68 29 Syntax.tyBool (Scalar.room-sc 𝓤
               H A W Row.sBool)) d57
@@ -2164,11 +2164,11 @@ module _ (claims· : Claims) where
               λ x. x }, (Num.vAt 33 λ x. x, (Num.vFld 12 ((Syntax.field 4) ∷ []) 36 λ x. NextToken.struct .as-values x .1 .1 .1 .1 .0, (record { pos = 16; st
               = []; d = 0; at = λ x. x }, (record { pos = 18; st = []; d = 0; at = λ x. x }, tt)))))) 34 (5 ∷ []) (Call.sub-id 𝓤 H A W (G102 .slots))
               (Reads'.as-is 𝓤 H A (Mut.mslice NodeRecordT.row y16 5), Mut.reads-mslice 𝓤 H A W NodeRecordT.row y16 5, Path'.refl, ((Yields.yields-copy 𝓤 H A W
-              (λ ρ. Unit) (Declared'.row Run.the-type) Path'.refl (Copies.cStruct Run.the-type Laws'7.the-laws Laws'7.the-copy .copy 𝓤 H A W) (Rows.whole
+              (λ ρ. Unit) (Declared'.row Run.the-type) Path'.refl (Copies.cStruct Run.the-type Laws.the-laws Laws.the-copy .copy 𝓤 H A W) (Rows.whole
               (Declared'.row Run.the-type)) (λ x. x) (λ x. x) (λ ρ told. Local.mem-whole 𝓤 H A W (Declared'.row Run.the-type) ρ) λ ρ told. Local.whole-mem 𝓤 H
               A W (Declared'.row Run.the-type) ρ, Path'.refl), ((Scalar.reads-sc 𝓤 H A W (Row.sInt Syntax.w32), Path'.refl), ((Reads.reads-field 𝓤 H A W
               NextToken.the-type Laws'9.the-laws 4 y3 36 Path'.refl, Path'.refl), ((Yields.yields-copy 𝓤 H A W (λ ρ. Unit) (Declared'.row NodeRecord.the-type)
-              Path'.refl (Copies.cStruct NodeRecord.the-type Laws'5.the-laws Laws'5.the-copy .copy 𝓤 H A W) (Rows.whole (Declared'.row NodeRecord.the-type))
+              Path'.refl (Copies.cStruct NodeRecord.the-type Laws'6.the-laws Laws'6.the-copy .copy 𝓤 H A W) (Rows.whole (Declared'.row NodeRecord.the-type))
               (λ x. x) (λ x. x) (λ ρ told. Local.mem-whole 𝓤 H A W (Declared'.row NodeRecord.the-type) ρ) λ ρ told. Local.whole-mem 𝓤 H A W (Declared'.row
               NodeRecord.the-type) ρ, Path'.refl), ((Yields.yields-copy 𝓤 H A W (λ ρ. Unit) (Declared'.row Taken.the-type) Path'.refl (Copies.cStruct
               Taken.the-type Laws'8.the-laws Laws'8.the-copy .copy 𝓤 H A W) (Rows.whole (Declared'.row Taken.the-type)) (λ x. x) (λ x. x) (λ ρ told.
@@ -2213,20 +2213,20 @@ module _ (claims· : Claims) where
               x, (record { pos = 7; st = []; d = 0; at = λ x. x }, (Num.vAt 19 λ x. x, (record { pos = 15; st = []; d = 0; at = λ x. x }, (record { pos = 16;
               st = []; d = 0; at = λ x. x }, (Num.vFld 12 ((Syntax.field 1) ∷ []) 8 λ x. NextToken.struct .as-values x .1 .0, (record { pos = 17; st = []; d =
               0; at = λ x. x }, tt))))))))) 18 [] (Call.sub-id 𝓤 H A W (G92 .slots)) ((Scalar.reads-sc 𝓤 H A W (Row.sInt Syntax.w32), Path'.refl),
-              ((Yields.yields-copy 𝓤 H A W (λ ρ. Unit) (Declared'.row Run.the-type) Path'.refl (Copies.cStruct Run.the-type Laws'7.the-laws Laws'7.the-copy
-              .copy 𝓤 H A W) (Rows.whole (Declared'.row Run.the-type)) (λ x. x) (λ x. x) (λ ρ told. Local.mem-whole 𝓤 H A W (Declared'.row Run.the-type) ρ) λ
-              ρ told. Local.whole-mem 𝓤 H A W (Declared'.row Run.the-type) ρ, Path'.refl), ((Scalar.reads-sc 𝓤 H A W (Row.sInt Syntax.w32), Path'.refl),
-              ((Yields.yields-copy 𝓤 H A W (λ ρ. Unit) (Declared'.row Open.the-type) Path'.refl (Copies.cStruct Open.the-type Laws'3.the-laws Laws'3.the-copy
+              ((Yields.yields-copy 𝓤 H A W (λ ρ. Unit) (Declared'.row Run.the-type) Path'.refl (Copies.cStruct Run.the-type Laws.the-laws Laws.the-copy .copy
+              𝓤 H A W) (Rows.whole (Declared'.row Run.the-type)) (λ x. x) (λ x. x) (λ ρ told. Local.mem-whole 𝓤 H A W (Declared'.row Run.the-type) ρ) λ ρ
+              told. Local.whole-mem 𝓤 H A W (Declared'.row Run.the-type) ρ, Path'.refl), ((Scalar.reads-sc 𝓤 H A W (Row.sInt Syntax.w32), Path'.refl),
+              ((Yields.yields-copy 𝓤 H A W (λ ρ. Unit) (Declared'.row Open.the-type) Path'.refl (Copies.cStruct Open.the-type Laws'4.the-laws Laws'4.the-copy
               .copy 𝓤 H A W) (Rows.whole (Declared'.row Open.the-type)) (λ x. x) (λ x. x) (λ ρ told. Local.mem-whole 𝓤 H A W (Declared'.row Open.the-type) ρ)
               λ ρ told. Local.whole-mem 𝓤 H A W (Declared'.row Open.the-type) ρ, Path'.refl), ((Scalar.reads-sc 𝓤 H A W (Row.sInt Syntax.w64), Path'.refl),
-              ((Yields.yields-copy 𝓤 H A W (λ ρ. Unit) (Declared.row Element.the-type) Path'.refl (Copies.cEnum Element.the-type Laws''.the-laws
-              Laws''.the-copy .copy 𝓤 H A W) (Rows.whole (Declared.row Element.the-type)) (λ x. x) (λ x. x) (λ ρ told. Local.mem-whole 𝓤 H A W (Declared.row
+              ((Yields.yields-copy 𝓤 H A W (λ ρ. Unit) (Declared.row Element.the-type) Path'.refl (Copies.cEnum Element.the-type Laws'3.the-laws
+              Laws'3.the-copy .copy 𝓤 H A W) (Rows.whole (Declared.row Element.the-type)) (λ x. x) (λ x. x) (λ ρ told. Local.mem-whole 𝓤 H A W (Declared.row
               Element.the-type) ρ) λ ρ told. Local.whole-mem 𝓤 H A W (Declared.row Element.the-type) ρ, Path'.refl), ((Yields.yields-copy 𝓤 H A W (λ ρ. Unit)
-              (Declared'.row NodeRecord.the-type) Path'.refl (Copies.cStruct NodeRecord.the-type Laws'5.the-laws Laws'5.the-copy .copy 𝓤 H A W) (Rows.whole
+              (Declared'.row NodeRecord.the-type) Path'.refl (Copies.cStruct NodeRecord.the-type Laws'6.the-laws Laws'6.the-copy .copy 𝓤 H A W) (Rows.whole
               (Declared'.row NodeRecord.the-type)) (λ x. x) (λ x. x) (λ ρ told. Local.mem-whole 𝓤 H A W (Declared'.row NodeRecord.the-type) ρ) λ ρ told.
               Local.whole-mem 𝓤 H A W (Declared'.row NodeRecord.the-type) ρ, Path'.refl), ((Reads.reads-field 𝓤 H A W NextToken.the-type Laws'9.the-laws 1 y0
               8 Path'.refl, Path'.refl), ((Yields.yields-copy 𝓤 H A W (λ ρ. Unit) (Declared.row Context.the-type) Path'.refl (Copies.cEnum Context.the-type
-              Laws'.the-laws Laws'.the-copy .copy 𝓤 H A W) (Rows.whole (Declared.row Context.the-type)) (λ x. x) (λ x. x) (λ ρ told. Local.mem-whole 𝓤 H A W
+              Laws''.the-laws Laws''.the-copy .copy 𝓤 H A W) (Rows.whole (Declared.row Context.the-type)) (λ x. x) (λ x. x) (λ ρ told. Local.mem-whole 𝓤 H A W
               (Declared.row Context.the-type) ρ) λ ρ told. Local.whole-mem 𝓤 H A W (Declared.row Context.the-type) ρ, Path'.refl), tt)))))))))
               (Reads'.room-gone 𝓤 H A y13) tt Path'.refl) d88
           d90 : Typed.Typed 𝓤 H A 𝓣 E G91 b63 Δ0 (at90 bs)
@@ -2241,10 +2241,10 @@ module _ (claims· : Claims) where
               𝓤 H A W (Row.sInt Syntax.w32)) Path'.refl (λ u. Path'.refl) λ u. tt) d90
           d92 : Typed.Typed 𝓤 H A 𝓣 E G89 b65 Δ0 (at92 bs)
           d92 = Typed.s-seq 𝓤 H A W 𝓣 E G89 G90 b47 b64 Δ0 (Typed.pass T88 T90 (s84 bs)) (at91 bs) (CopyOut.t-copy-told 𝓤 H A W E 𝓣 (Declared.row
-              Context.the-type) Path'.refl (Laws'11.val Context.the-type Laws'.the-laws) (Laws'11.lawful Context.the-type Laws'.the-laws 𝓤 H A W tt)
-              (Laws'11.makes Context.the-type Laws'.the-plain 𝓤 H A) G89 17 (Scalar.oFld 12 ((Syntax.field 7) ∷ []) y2 42 λ x. Laws'11.val Context.the-type
-              Laws'.the-laws (NextToken.struct .as-values x .1 .1 .1 .1 .1 .1 .1 .0)) (λ m. NextToken.struct .as-values (m .1 .1 .1 .1 .1 .1 .1 .1 .1 .1 .1 .1
-              .0) .1 .1 .1 .1 .1 .1 .1 .0) (λ m. Laws'12.Is (Declared'.row NextToken.the-type) (m .1 .1 .1 .1 .1 .1 .1 .1 .1 .1 .1 .1 .0) (Laws'13.vals
+              Context.the-type) Path'.refl (Laws'11.val Context.the-type Laws''.the-laws) (Laws'11.lawful Context.the-type Laws''.the-laws 𝓤 H A W tt)
+              (Laws'11.makes Context.the-type Laws''.the-plain 𝓤 H A) G89 17 (Scalar.oFld 12 ((Syntax.field 7) ∷ []) y2 42 λ x. Laws'11.val Context.the-type
+              Laws''.the-laws (NextToken.struct .as-values x .1 .1 .1 .1 .1 .1 .1 .0)) (λ m. NextToken.struct .as-values (m .1 .1 .1 .1 .1 .1 .1 .1 .1 .1 .1
+              .1 .0) .1 .1 .1 .1 .1 .1 .1 .0) (λ m. Laws'12.Is (Declared'.row NextToken.the-type) (m .1 .1 .1 .1 .1 .1 .1 .1 .1 .1 .1 .1 .0) (Laws'13.vals
               NextToken.the-type Laws'9.the-laws (m .1 .1 .1 .1 .1 .1 .1 .1 .1 .1 .1 .1 .0))) (Reads'.room-gone 𝓤 H A y2) (Reads.reads-field 𝓤 H A W
               NextToken.the-type Laws'9.the-laws 7 y2 42 Path'.refl, Path'.refl) Path'.refl (λ ρ m. Make'.tells-row 𝓤 H A W E ρ (Row.out 17 (G89 .locals)) m
               12 (Laws'12.Is (Declared'.row NextToken.the-type) (m .1 .1 .1 .1 .1 .1 .1 .1 .1 .1 .1 .1 .0) (Laws'13.vals NextToken.the-type Laws'9.the-laws (m
@@ -2267,7 +2267,7 @@ module _ (claims· : Claims) where
               .13) "work_table::get" (known .6) E (λ pos β. β) G84 (record { pos = 32; ty = y14; ref = λ x. x }, (Num.vFld 5 ((Syntax.field 4) ∷ []) 48 λ x.
               Run.struct .as-values x .1 .1 .1 .1 .0, (Num.vFld 12 ((Syntax.field 4) ∷ []) 36 λ x. NextToken.struct .as-values x .1 .1 .1 .1 .0, tt))) 16 (4 ∷
               []) (Call.sub-id 𝓤 H A W (G84 .slots)) (ShrSlice.spares-sslice 𝓤 H A W NodeRecordT.row y14 4, Shared.reads-sslice 𝓤 H A W NodeRecordT.row y14 4,
-              Path'.refl, ((Reads.reads-field 𝓤 H A W Run.the-type Laws'7.the-laws 4 y3 48 Path'.refl, Path'.refl), ((Reads.reads-field 𝓤 H A W
+              Path'.refl, ((Reads.reads-field 𝓤 H A W Run.the-type Laws.the-laws 4 y3 48 Path'.refl, Path'.refl), ((Reads.reads-field 𝓤 H A W
               NextToken.the-type Laws'9.the-laws 4 y3 36 Path'.refl, Path'.refl), tt))) (Reads'.room-gone 𝓤 H A y10) (tt, tt) Path'.refl) d96
           d98 : Typed.Typed 𝓤 H A 𝓣 E G83 b67 Δ0 (at98 bs)
           d98 = Typed.s-seq 𝓤 H A W 𝓣 E G83 G84 b45 b66 Δ0 (Typed.ask (s78 bs)) (at97 bs) (Relend.t-sl-aggregate 𝓤 H A W E NodeRecordT.row 𝓣 (Relend.asShr
@@ -2338,18 +2338,18 @@ module _ (claims· : Claims) where
               (Array.Array (Referent.rtF (Referent.fInt Syntax.w8)) 256) y20 0, Reads'.reads-sref 𝓤 H A W (Array.Array (Referent.rtF (Referent.fInt
               Syntax.w8)) 256) y20 0, Path'.refl, (ShrSlice.spares-sslice 𝓤 H A W (Referent.rtF (Referent.fInt Syntax.w8)) y21 1, Shared.reads-sslice 𝓤 H A W
               (Referent.rtF (Referent.fInt Syntax.w8)) y21 1, Path'.refl, ((Scalar.reads-sc 𝓤 H A W (Row.sInt Syntax.w64), Path'.refl), ((Yields.yields-copy 𝓤
-              H A W (λ ρ. Unit) (Declared.row Context.the-type) Path'.refl (Copies.cEnum Context.the-type Laws'.the-laws Laws'.the-copy .copy 𝓤 H A W)
+              H A W (λ ρ. Unit) (Declared.row Context.the-type) Path'.refl (Copies.cEnum Context.the-type Laws''.the-laws Laws''.the-copy .copy 𝓤 H A W)
               (Rows.whole (Declared.row Context.the-type)) (λ x. x) (λ x. x) (λ ρ told. Local.mem-whole 𝓤 H A W (Declared.row Context.the-type) ρ) λ ρ told.
               Local.whole-mem 𝓤 H A W (Declared.row Context.the-type) ρ, Path'.refl), ((Yields.yields-copy 𝓤 H A W (λ ρ. Unit) (Declared'.row Ref.the-type)
-              Path'.refl (Copies.cStruct Ref.the-type Laws'4.the-laws Laws'4.the-copy .copy 𝓤 H A W) (Rows.whole (Declared'.row Ref.the-type)) (λ x. x) (λ x.
+              Path'.refl (Copies.cStruct Ref.the-type Laws'5.the-laws Laws'5.the-copy .copy 𝓤 H A W) (Rows.whole (Declared'.row Ref.the-type)) (λ x. x) (λ x.
               x) (λ ρ told. Local.mem-whole 𝓤 H A W (Declared'.row Ref.the-type) ρ) λ ρ told. Local.whole-mem 𝓤 H A W (Declared'.row Ref.the-type) ρ,
               Path'.refl), ((Scalar.reads-sc 𝓤 H A W (Row.sInt Syntax.w64), Path'.refl), ((Yields.yields-copy 𝓤 H A W (λ ρ. Unit) (Declared'.row
-              Open.the-type) Path'.refl (Copies.cStruct Open.the-type Laws'3.the-laws Laws'3.the-copy .copy 𝓤 H A W) (Rows.whole (Declared'.row
+              Open.the-type) Path'.refl (Copies.cStruct Open.the-type Laws'4.the-laws Laws'4.the-copy .copy 𝓤 H A W) (Rows.whole (Declared'.row
               Open.the-type)) (λ x. x) (λ x. x) (λ ρ told. Local.mem-whole 𝓤 H A W (Declared'.row Open.the-type) ρ) λ ρ told. Local.whole-mem 𝓤 H A W
               (Declared'.row Open.the-type) ρ, Path'.refl), tt))))))) (Reads'.room-gone 𝓤 H A y8) (tt, (tt, tt)) Path'.refl) d109
           d111 : Typed.Typed 𝓤 H A 𝓣 E G44 b76 Δ0 (at111 bs)
           d111 = Typed.s-seq 𝓤 H A W 𝓣 E G44 G45 b24 b75 Δ0 (Typed.both (s41 bs)) (at110 bs) (WayStmt.t-way-copy-out 𝓤 H A W E 𝓣 (Declared'.row Ref.the-type)
-              Path'.refl (Copies.cStruct Ref.the-type Laws'4.the-laws Laws'4.the-copy .copy 𝓤 H A W) (λ ρ. Unit) G44 (Row.out 5 (G44 .locals)) (λ u. Row.drop
+              Path'.refl (Copies.cStruct Ref.the-type Laws'5.the-laws Laws'5.the-copy .copy 𝓤 H A W) (λ ρ. Unit) G44 (Row.out 5 (G44 .locals)) (λ u. Row.drop
               5 (G44 .locals) u) (G44 .slots) 5 (λ t. (Syntax.field 0) ∷ t) y4 y4 11 (Rows.whole (Declared'.row Ref.the-type)) (λ x. x) (λ u. At.getAt
               (Run.the-type .parts) 0 (Run.struct .as-values (u .1 .1 .1 .1 .1 .0))) (λ u. (Row.hd 0 (Row.tl (Row.tl (Row.tl (Row.tl (Row.tl bs))))), Nat._+_
               0 0)) (λ T′. record { locals = Row.setRow 5 (5, Rows.whole (Declared'.row Run.the-type)) T′; slots = G44 .slots }) (λ u T′ m′. Row.set 5 (5,
@@ -2362,21 +2362,21 @@ module _ (claims· : Claims) where
               Run.the-type) ρ (u .1 .1 .1 .1 .1 .0) (Row.hd 0 (Row.tl (Row.tl (Row.tl (Row.tl (Row.tl bs))))))))) Path'.refl λ q. Inner.cut-record 𝓤 H A q
               (Declared'.row Run.the-type) Ref.the-type 0 (u .1 .1 .1 .1 .1 .0) (u .1 .1 .1 .1 .1 .0) (At.getAt (Run.the-type .parts) 0 (Run.struct .as-values
               (u .1 .1 .1 .1 .1 .0))) (At.getAt (Run.the-type .parts) 0 (Run.struct .as-values (u .1 .1 .1 .1 .1 .0))) (Row.hd 0 (Row.tl (Row.tl (Row.tl
-              (Row.tl (Row.tl bs))))), 0) (Behind.look-at 𝓤 H A W q Run.the-type Laws'7.the-laws 0 0 Path'.refl Path'.refl (Row.hd 0 (Row.tl (Row.tl (Row.tl
+              (Row.tl (Row.tl bs))))), 0) (Behind.look-at 𝓤 H A W q Run.the-type Laws.the-laws 0 0 Path'.refl Path'.refl (Row.hd 0 (Row.tl (Row.tl (Row.tl
               (Row.tl (Row.tl bs))))), 0) (u .1 .1 .1 .1 .1 .0) (Run.struct .as-values (u .1 .1 .1 .1 .1 .0)) Path'.refl)) (Reads'.room-gone 𝓤 H A y4)
               (Yields.makes-mem 𝓤 H A W (λ ρ. Unit) (Declared'.row Ref.the-type) Path'.refl (Rows.whole (Declared'.row Ref.the-type)) (λ x. x) λ ρ told.
               Local.whole-mem 𝓤 H A W (Declared'.row Ref.the-type) ρ) Path'.refl Path'.refl Path'.refl) d110
           d112 : Typed.Typed 𝓤 H A 𝓣 E G28 b77 Δ0 (at112 bs)
           d112 = Typed.s-seq 𝓤 H A W 𝓣 E G28 G44 b23 b76 Δ0 (Typed.pass T28 T44 (s40 bs)) (at111 bs) (CopyOut.t-copy-told 𝓤 H A W E 𝓣 (Declared.row
-              Context.the-type) Path'.refl (Laws'11.val Context.the-type Laws'.the-laws) (Laws'11.lawful Context.the-type Laws'.the-laws 𝓤 H A W tt)
-              (Laws'11.makes Context.the-type Laws'.the-plain 𝓤 H A) G28 10 (Scalar.oFld 5 ((Syntax.field 5) ∷ []) y2 52 λ x. Laws'11.val Context.the-type
-              Laws'.the-laws (Run.struct .as-values x .1 .1 .1 .1 .1 .0)) (λ m. Run.struct .as-values (m .1 .1 .1 .1 .1 .0) .1 .1 .1 .1 .1 .0) (λ m.
-              Laws'12.Is (Declared'.row Run.the-type) (m .1 .1 .1 .1 .1 .0) (Laws'13.vals Run.the-type Laws'7.the-laws (m .1 .1 .1 .1 .1 .0)))
-              (Reads'.room-gone 𝓤 H A y2) (Reads.reads-field 𝓤 H A W Run.the-type Laws'7.the-laws 5 y2 52 Path'.refl, Path'.refl) Path'.refl (λ ρ m.
-              Make'.tells-row 𝓤 H A W E ρ (Row.out 10 (G28 .locals)) m 5 (Laws'12.Is (Declared'.row Run.the-type) (m .1 .1 .1 .1 .1 .0) (Laws'13.vals
-              Run.the-type Laws'7.the-laws (m .1 .1 .1 .1 .1 .0))) (Make'.whole-is 𝓤 H A W E (Declared'.row Run.the-type) Path'.refl (Laws'13.val Run.the-type
-              Laws'7.the-laws) (Laws'13.tells Run.the-type Laws'7.the-laws) ρ 5 (m .1 .1 .1 .1 .1 .0))) (λ m k wa. Path'.refl) λ m k wa. Laws'13.owed
-              Run.the-type Laws'7.the-laws (m .1 .1 .1 .1 .1 .0) (Laws'13.vals Run.the-type Laws'7.the-laws (m .1 .1 .1 .1 .1 .0)) k .1 .1 .1 .1 .1 .0) d111
+              Context.the-type) Path'.refl (Laws'11.val Context.the-type Laws''.the-laws) (Laws'11.lawful Context.the-type Laws''.the-laws 𝓤 H A W tt)
+              (Laws'11.makes Context.the-type Laws''.the-plain 𝓤 H A) G28 10 (Scalar.oFld 5 ((Syntax.field 5) ∷ []) y2 52 λ x. Laws'11.val Context.the-type
+              Laws''.the-laws (Run.struct .as-values x .1 .1 .1 .1 .1 .0)) (λ m. Run.struct .as-values (m .1 .1 .1 .1 .1 .0) .1 .1 .1 .1 .1 .0) (λ m.
+              Laws'12.Is (Declared'.row Run.the-type) (m .1 .1 .1 .1 .1 .0) (Laws'13.vals Run.the-type Laws.the-laws (m .1 .1 .1 .1 .1 .0))) (Reads'.room-gone
+              𝓤 H A y2) (Reads.reads-field 𝓤 H A W Run.the-type Laws.the-laws 5 y2 52 Path'.refl, Path'.refl) Path'.refl (λ ρ m. Make'.tells-row 𝓤 H A W E ρ
+              (Row.out 10 (G28 .locals)) m 5 (Laws'12.Is (Declared'.row Run.the-type) (m .1 .1 .1 .1 .1 .0) (Laws'13.vals Run.the-type Laws.the-laws (m .1 .1
+              .1 .1 .1 .0))) (Make'.whole-is 𝓤 H A W E (Declared'.row Run.the-type) Path'.refl (Laws'13.val Run.the-type Laws.the-laws) (Laws'13.tells
+              Run.the-type Laws.the-laws) ρ 5 (m .1 .1 .1 .1 .1 .0))) (λ m k wa. Path'.refl) λ m k wa. Laws'13.owed Run.the-type Laws.the-laws (m .1 .1 .1 .1
+              .1 .0) (Laws'13.vals Run.the-type Laws.the-laws (m .1 .1 .1 .1 .1 .0)) k .1 .1 .1 .1 .1 .0) d111
           d113 : Typed.Typed 𝓤 H A 𝓣 E G27 b78 Δ0 (at113 bs)
           d113 = Typed.t-seq 𝓤 H A W 𝓣 E G27 G28 b22 b77 Δ0 (at31 bs) (at112 bs) d31 d112
           d114 : Typed.Typed 𝓤 H A 𝓣 E G26 b79 Δ0 (at114 bs)
@@ -2384,8 +2384,8 @@ module _ (claims· : Claims) where
               .3) "reader::barred" (known .1) E (λ pos β. β) G26 (record { pos = 26; ty = y14; ref = λ x. x }, (record { pos = 5; st = []; d = 0; at = λ x. x
               }, (Num.vAt 9 λ x. x, tt))) 24 (3 ∷ []) (Call.sub-id 𝓤 H A W (G26 .slots)) (ShrSlice.spares-sslice 𝓤 H A W NodeRecordT.row y14 3,
               Shared.reads-sslice 𝓤 H A W NodeRecordT.row y14 3, Path'.refl, ((Yields.yields-copy 𝓤 H A W (λ ρ. Unit) (Declared'.row Run.the-type) Path'.refl
-              (Copies.cStruct Run.the-type Laws'7.the-laws Laws'7.the-copy .copy 𝓤 H A W) (Rows.whole (Declared'.row Run.the-type)) (λ x. x) (λ x. x) (λ ρ
-              told. Local.mem-whole 𝓤 H A W (Declared'.row Run.the-type) ρ) λ ρ told. Local.whole-mem 𝓤 H A W (Declared'.row Run.the-type) ρ, Path'.refl),
+              (Copies.cStruct Run.the-type Laws.the-laws Laws.the-copy .copy 𝓤 H A W) (Rows.whole (Declared'.row Run.the-type)) (λ x. x) (λ x. x) (λ ρ told.
+              Local.mem-whole 𝓤 H A W (Declared'.row Run.the-type) ρ) λ ρ told. Local.whole-mem 𝓤 H A W (Declared'.row Run.the-type) ρ, Path'.refl),
               ((Scalar.reads-sc 𝓤 H A W (Row.sInt Syntax.w8), Path'.refl), tt))) (Reads'.room-gone 𝓤 H A Syntax.tyBool) (tt, tt) Path'.refl) d113
           d115 : Typed.Typed 𝓤 H A 𝓣 E G25 b80 Δ0 (at115 bs)
           d115 = Typed.s-seq 𝓤 H A W 𝓣 E G25 G26 b14 b79 Δ0 (Typed.ask (s23 bs)) (at114 bs) (Relend.t-sl-aggregate 𝓤 H A W E NodeRecordT.row 𝓣 (Relend.asShr
@@ -2440,8 +2440,8 @@ module _ (claims· : Claims) where
               (Scalar.holds-sc 𝓤 H A W (Row.sInt Syntax.w64)) Path'.refl (λ u. Path'.refl) λ u. tt) d125
           d127 : Typed.Typed 𝓤 H A 𝓣 E G2 b88 Δ0 (at127 bs)
           d127 = Typed.s-seq 𝓤 H A W 𝓣 E G2 G3 b0 b87 Δ0 (Typed.pass T2 T3 (s1 bs)) (at126 bs) (Scalar.t-use 𝓤 H A W E 𝓣 G2 (Scalar.oFld 5 ((Syntax.field 2) ∷
-              []) y0 32 (Reads.fieldV Run.the-type Laws'7.the-laws 2)) 8 (Rows.sc-here (Row.sInt Syntax.w64)) y0 (Row.valS (Row.sInt Syntax.w64)) (Row.sInt
-              Syntax.w64 .of) (Reads.reads-field 𝓤 H A W Run.the-type Laws'7.the-laws 2 y0 32 Path'.refl, Path'.refl) (Reads'.room-gone 𝓤 H A y0)
+              []) y0 32 (Reads.fieldV Run.the-type Laws.the-laws 2)) 8 (Rows.sc-here (Row.sInt Syntax.w64)) y0 (Row.valS (Row.sInt Syntax.w64)) (Row.sInt
+              Syntax.w64 .of) (Reads.reads-field 𝓤 H A W Run.the-type Laws.the-laws 2 y0 32 Path'.refl, Path'.refl) (Reads'.room-gone 𝓤 H A y0)
               (Scalar.holds-sc 𝓤 H A W (Row.sInt Syntax.w64)) Path'.refl (λ u. Path'.refl) λ u. tt) d126
           d128 : Typed.Typed 𝓤 H A 𝓣 E G0 b88 Δ0 (at128 bs)
           d128 = Typed.g-pre 𝓤 H A W 𝓣 E G0 G2 b88 Δ0 (Typed.give (s0 bs)) (at127 bs) (Know.g-shs-known 𝓤 H A W (Referent.fInt Syntax.w8) E G0 3 1 y21 K2 0 (λ
@@ -2454,16 +2454,16 @@ module _ (claims· : Claims) where
           pub n : Kinds.Den {n = 3} κs (Num.pNum Syntax.w32)
           pub s : Kinds.Den {n = 3} κs (ShrSlice.pShrS (Referent.rtF (Referent.fInt Syntax.w8)) 1 tt)
           pub t : Kinds.Den {n = 3} κs (MutSlice.pMutS NodeRecordT.row 2 tt)
-          pub r : Kinds.Den {n = 3} κs (Value.pVal record { ty = Declared'.row Run.the-type; one = Path'.refl; val = Laws'13.val Run.the-type Laws'7.the-laws;
-              tells = Laws'13.tells Run.the-type Laws'7.the-laws; still = Laws'13.still Run.the-type Laws'7.the-copy Exit.yes; row = Rows.whole (Declared'.row
-              Run.the-type); rd = λ x. x; mk = λ x. x } λ M 𝓤 H A W. record { copies = Laws'13.copy Run.the-type Laws'7.the-copy 𝓤 H A W; lawful =
-              Laws'13.lawful Run.the-type Laws'7.the-laws 𝓤 H A W; makes = Laws'13.makes Run.the-type Laws'7.the-plain 𝓤 H A; in-mem = Local.mem-whole 𝓤 H A W
+          pub r : Kinds.Den {n = 3} κs (Value.pVal record { ty = Declared'.row Run.the-type; one = Path'.refl; val = Laws'13.val Run.the-type Laws.the-laws;
+              tells = Laws'13.tells Run.the-type Laws.the-laws; still = Laws'13.still Run.the-type Laws.the-copy Exit.yes; row = Rows.whole (Declared'.row
+              Run.the-type); rd = λ x. x; mk = λ x. x } λ M 𝓤 H A W. record { copies = Laws'13.copy Run.the-type Laws.the-copy 𝓤 H A W; lawful =
+              Laws'13.lawful Run.the-type Laws.the-laws 𝓤 H A W; makes = Laws'13.makes Run.the-type Laws.the-plain 𝓤 H A; in-mem = Local.mem-whole 𝓤 H A W
               (Declared'.row Run.the-type); of-mem = Local.whole-mem 𝓤 H A W (Declared'.row Run.the-type) })
           pub d : Kinds.Den {n = 3} κs (Num.pNum Syntax.w64)
           pub low : Kinds.Den {n = 3} κs (Value.pVal record { ty = Declared'.row Open.the-type; one = Path'.refl; val = Laws'13.val Open.the-type
-              Laws'3.the-laws; tells = Laws'13.tells Open.the-type Laws'3.the-laws; still = Laws'13.still Open.the-type Laws'3.the-copy Exit.yes; row =
-              Rows.whole (Declared'.row Open.the-type); rd = λ x. x; mk = λ x. x } λ M 𝓤 H A W. record { copies = Laws'13.copy Open.the-type Laws'3.the-copy 𝓤
-              H A W; lawful = Laws'13.lawful Open.the-type Laws'3.the-laws 𝓤 H A W; makes = Laws'13.makes Open.the-type Laws'3.the-plain 𝓤 H A; in-mem =
+              Laws'4.the-laws; tells = Laws'13.tells Open.the-type Laws'4.the-laws; still = Laws'13.still Open.the-type Laws'4.the-copy Exit.yes; row =
+              Rows.whole (Declared'.row Open.the-type); rd = λ x. x; mk = λ x. x } λ M 𝓤 H A W. record { copies = Laws'13.copy Open.the-type Laws'4.the-copy 𝓤
+              H A W; lawful = Laws'13.lawful Open.the-type Laws'4.the-laws 𝓤 H A W; makes = Laws'13.makes Open.the-type Laws'4.the-plain 𝓤 H A; in-mem =
               Local.mem-whole 𝓤 H A W (Declared'.row Open.the-type); of-mem = Local.whole-mem 𝓤 H A W (Declared'.row Open.the-type) })
         abbrev pub dens : (a : Args) → Kinds.Dens κs ps
         dens = λ a. (a .k, (a .n, (a .s, (a .t, (a .r, (a .d, (a .low, tt)))))))

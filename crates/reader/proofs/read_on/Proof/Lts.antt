@@ -1,21 +1,21 @@
 -- Generated: the derivation of a body.
--- From 9ee42f47e9b6bdb7, as 5feed7e02b46a60c.
+-- From ca16d0e1cc319667, as 8f418ebd8d613cb2.
 use Prim.Native.Nat
+use Rattle.cursors.proofs.Cursor
+use Rattle.cursors.proofs.Cursor.Laws
+use Rattle.cursors.proofs.Pair
+use Rattle.cursors.proofs.Pair.Laws as Laws'
+use Rattle.cursors.proofs.Run
+use Rattle.cursors.proofs.Run.Laws as Laws''
 use Rattle.elements.proofs.Cause
-use Rattle.elements.proofs.Cause.Laws
+use Rattle.elements.proofs.Cause.Laws as Laws'3
 use Rattle.elements.proofs.Context
-use Rattle.elements.proofs.Context.Laws as Laws'
+use Rattle.elements.proofs.Context.Laws as Laws'4
 use Rattle.elements.proofs.Ref
-use Rattle.elements.proofs.Ref.Laws as Laws''
+use Rattle.elements.proofs.Ref.Laws as Laws'5
 use Rattle.node_records.proofs.Tables.NodeRecord as NodeRecordT
-use Rattle.reader.proofs.Cursor
-use Rattle.reader.proofs.Cursor.Laws as Laws'3
-use Rattle.reader.proofs.Pair
-use Rattle.reader.proofs.Pair.Laws as Laws'4
 use Rattle.reader.proofs.Reached
-use Rattle.reader.proofs.Reached.Laws as Laws'5
-use Rattle.reader.proofs.Run
-use Rattle.reader.proofs.Run.Laws as Laws'6
+use Rattle.reader.proofs.Reached.Laws as Laws'6
 use borrow.Author.Called
 use borrow.Enum.Make
 use borrow.Enum.Whole
@@ -97,8 +97,8 @@ y0 = Syntax.tyInt Syntax.w32
 abbrev y1 : Syntax.Ty
 y1 = Syntax.tyStruct (101 ∷ 108 ∷ 101 ∷ 109 ∷ 101 ∷ 110 ∷ 116 ∷ 115 ∷ 58 ∷ 58 ∷ 82 ∷ 101 ∷ 102 ∷ []) (Syntax.tcons y0 (Syntax.tcons y0 Syntax.tnil))
 abbrev y2 : Syntax.Ty
-y2 = Syntax.tyStruct (114 ∷ 101 ∷ 97 ∷ 100 ∷ 101 ∷ 114 ∷ 58 ∷ 58 ∷ 80 ∷ 97 ∷ 105 ∷ 114 ∷ []) (Syntax.tcons Syntax.tyBool (Syntax.tcons y1 (Syntax.tcons y1
-    Syntax.tnil)))
+y2 = Syntax.tyStruct (99 ∷ 117 ∷ 114 ∷ 115 ∷ 111 ∷ 114 ∷ 115 ∷ 58 ∷ 58 ∷ 80 ∷ 97 ∷ 105 ∷ 114 ∷ []) (Syntax.tcons Syntax.tyBool (Syntax.tcons y1 (Syntax.tcons
+    y1 Syntax.tnil)))
 abbrev y3 : Syntax.Ty
 y3 = Syntax.tyInt Syntax.w64
 abbrev y4 : Syntax.Ty
@@ -106,8 +106,8 @@ y4 = Syntax.tyEnum (101 ∷ 108 ∷ 101 ∷ 109 ∷ 101 ∷ 110 ∷ 116 ∷ 115 
     (Syntax.ttcons Syntax.tnil (Syntax.ttcons Syntax.tnil (Syntax.ttcons Syntax.tnil (Syntax.ttcons Syntax.tnil (Syntax.ttcons Syntax.tnil (Syntax.ttcons
     Syntax.tnil Syntax.ttnil)))))))
 abbrev y5 : Syntax.Ty
-y5 = Syntax.tyStruct (114 ∷ 101 ∷ 97 ∷ 100 ∷ 101 ∷ 114 ∷ 58 ∷ 58 ∷ 82 ∷ 117 ∷ 110 ∷ []) (Syntax.tcons y1 (Syntax.tcons y2 (Syntax.tcons y3 (Syntax.tcons y3
-    (Syntax.tcons y0 (Syntax.tcons y4 (Syntax.tcons Syntax.tyBool Syntax.tnil)))))))
+y5 = Syntax.tyStruct (99 ∷ 117 ∷ 114 ∷ 115 ∷ 111 ∷ 114 ∷ 115 ∷ 58 ∷ 58 ∷ 82 ∷ 117 ∷ 110 ∷ []) (Syntax.tcons y1 (Syntax.tcons y2 (Syntax.tcons y3 (Syntax.tcons
+    y3 (Syntax.tcons y0 (Syntax.tcons y4 (Syntax.tcons Syntax.tyBool Syntax.tnil)))))))
 abbrev y6 : Syntax.Ty
 y6 = Syntax.tyInt Syntax.w8
 abbrev y7 : Syntax.Ty
@@ -139,7 +139,8 @@ y17 = Syntax.tyRef (Syntax.named 1) Syntax.mut NodeRecordT.behind
 abbrev y18 : Syntax.Ty
 y18 = Syntax.tyRef (Syntax.named 2) Syntax.mut y13
 abbrev y19 : Syntax.Ty
-y19 = Syntax.tyStruct (114 ∷ 101 ∷ 97 ∷ 100 ∷ 101 ∷ 114 ∷ 58 ∷ 58 ∷ 67 ∷ 117 ∷ 114 ∷ 115 ∷ 111 ∷ 114 ∷ []) (Syntax.tcons y5 (Syntax.tcons y3 Syntax.tnil))
+y19 = Syntax.tyStruct (99 ∷ 117 ∷ 114 ∷ 115 ∷ 111 ∷ 114 ∷ 115 ∷ 58 ∷ 58 ∷ 67 ∷ 117 ∷ 114 ∷ 115 ∷ 111 ∷ 114 ∷ []) (Syntax.tcons y5 (Syntax.tcons y3
+    Syntax.tnil))
 abbrev e0 : Row.Entry
 e0 = (0, Rows'.any-gone y15)
 abbrev e1 : Row.Entry
@@ -211,16 +212,16 @@ e15b = (15, Rows'.mleft (Array'.Array (Array'.Array (Referent.rtF (Referent.fInt
 abbrev pub ps : List (Kinds.PK 3)
 ps = (Num.pNum Syntax.w32) ∷ (ShrSlice.pShrS (Referent.rtF (Referent.fInt Syntax.w8)) 0 tt) ∷ (MutSlice.pMutS NodeRecordT.row 1 tt) ∷ (Kinds.pMut
     (Array'.Array (Array'.Array (Referent.rtF (Referent.fInt Syntax.w32)) 4) 32) 2 tt) ∷ (Value.pVal record { ty = Declared'.row Cursor.the-type; one =
-    Path'.refl; val = Laws'8.val Cursor.the-type Laws'3.the-laws; tells = Laws'8.tells Cursor.the-type Laws'3.the-laws; still = Laws'8.still Cursor.the-type
-    Laws'3.the-copy Exit.yes; row = Rows'.whole (Declared'.row Cursor.the-type); rd = λ x. x; mk = λ x. x } λ M 𝓤 H A W. record { copies = Laws'8.copy
-    Cursor.the-type Laws'3.the-copy 𝓤 H A W; lawful = Laws'8.lawful Cursor.the-type Laws'3.the-laws 𝓤 H A W; makes = Laws'8.makes Cursor.the-type
-    Laws'3.the-plain 𝓤 H A; in-mem = Local.mem-whole 𝓤 H A W (Declared'.row Cursor.the-type); of-mem = Local.whole-mem 𝓤 H A W (Declared'.row Cursor.the-type)
-    }) ∷ (Num.pNum Syntax.w64) ∷ []
+    Path'.refl; val = Laws'8.val Cursor.the-type Laws.the-laws; tells = Laws'8.tells Cursor.the-type Laws.the-laws; still = Laws'8.still Cursor.the-type
+    Laws.the-copy Exit.yes; row = Rows'.whole (Declared'.row Cursor.the-type); rd = λ x. x; mk = λ x. x } λ M 𝓤 H A W. record { copies = Laws'8.copy
+    Cursor.the-type Laws.the-copy 𝓤 H A W; lawful = Laws'8.lawful Cursor.the-type Laws.the-laws 𝓤 H A W; makes = Laws'8.makes Cursor.the-type Laws.the-plain 𝓤
+    H A; in-mem = Local.mem-whole 𝓤 H A W (Declared'.row Cursor.the-type); of-mem = Local.whole-mem 𝓤 H A W (Declared'.row Cursor.the-type) }) ∷ (Num.pNum
+    Syntax.w64) ∷ []
 abbrev pub r : Kinds.RK 3
-r = Value.rVal record { ty = Declared'.row Reached.the-type; one = Path'.refl; val = Laws'8.val Reached.the-type Laws'5.the-laws; tells = Laws'8.tells
-    Reached.the-type Laws'5.the-laws; still = Laws'8.still Reached.the-type Laws'5.the-copy Exit.yes; row = Rows'.whole (Declared'.row Reached.the-type); rd =
-    λ x. x; mk = λ x. x } λ M 𝓤 H A W. record { copies = Laws'8.copy Reached.the-type Laws'5.the-copy 𝓤 H A W; lawful = Laws'8.lawful Reached.the-type
-    Laws'5.the-laws 𝓤 H A W; makes = Laws'8.makes Reached.the-type Laws'5.the-plain 𝓤 H A; in-mem = Local.mem-whole 𝓤 H A W (Declared'.row Reached.the-type);
+r = Value.rVal record { ty = Declared'.row Reached.the-type; one = Path'.refl; val = Laws'8.val Reached.the-type Laws'6.the-laws; tells = Laws'8.tells
+    Reached.the-type Laws'6.the-laws; still = Laws'8.still Reached.the-type Laws'6.the-copy Exit.yes; row = Rows'.whole (Declared'.row Reached.the-type); rd =
+    λ x. x; mk = λ x. x } λ M 𝓤 H A W. record { copies = Laws'8.copy Reached.the-type Laws'6.the-copy 𝓤 H A W; lawful = Laws'8.lawful Reached.the-type
+    Laws'6.the-laws 𝓤 H A W; makes = Laws'8.makes Reached.the-type Laws'6.the-plain 𝓤 H A; in-mem = Local.mem-whole 𝓤 H A W (Declared'.row Reached.the-type);
     of-mem = Local.whole-mem 𝓤 H A W (Declared'.row Reached.the-type) }
 abbrev pub xs : List Syntax.Ty
 xs = y5 ∷ y7 ∷ Syntax.tyBool ∷ y8 ∷ y7 ∷ y9 ∷ y10 ∷ y11 ∷ y14 ∷ []
@@ -237,16 +238,16 @@ r·1 = Array.rArr (Array.eInt Syntax.w8) (Array.eInt-laws Syntax.w8) 256
 abbrev pub ps·2 : List (Kinds.PK 4)
 ps·2 = (ShrRef.pShr (Array'.Array (Referent.rtF (Referent.fInt Syntax.w8)) 256) 0 tt) ∷ (Num.pNum Syntax.w32) ∷ (ShrSlice.pShrS (Referent.rtF (Referent.fInt
     Syntax.w8)) 1 tt) ∷ (MutSlice.pMutS NodeRecordT.row 2 tt) ∷ (Kinds.pMut (Array'.Array (Array'.Array (Referent.rtF (Referent.fInt Syntax.w32)) 4) 32) 3 tt)
-    ∷ (Value.pVal record { ty = Declared'.row Run.the-type; one = Path'.refl; val = Laws'8.val Run.the-type Laws'6.the-laws; tells = Laws'8.tells Run.the-type
-    Laws'6.the-laws; still = Laws'8.still Run.the-type Laws'6.the-copy Exit.yes; row = Rows'.whole (Declared'.row Run.the-type); rd = λ x. x; mk = λ x. x } λ
-    M 𝓤 H A W. record { copies = Laws'8.copy Run.the-type Laws'6.the-copy 𝓤 H A W; lawful = Laws'8.lawful Run.the-type Laws'6.the-laws 𝓤 H A W; makes =
-    Laws'8.makes Run.the-type Laws'6.the-plain 𝓤 H A; in-mem = Local.mem-whole 𝓤 H A W (Declared'.row Run.the-type); of-mem = Local.whole-mem 𝓤 H A W
+    ∷ (Value.pVal record { ty = Declared'.row Run.the-type; one = Path'.refl; val = Laws'8.val Run.the-type Laws''.the-laws; tells = Laws'8.tells Run.the-type
+    Laws''.the-laws; still = Laws'8.still Run.the-type Laws''.the-copy Exit.yes; row = Rows'.whole (Declared'.row Run.the-type); rd = λ x. x; mk = λ x. x } λ
+    M 𝓤 H A W. record { copies = Laws'8.copy Run.the-type Laws''.the-copy 𝓤 H A W; lawful = Laws'8.lawful Run.the-type Laws''.the-laws 𝓤 H A W; makes =
+    Laws'8.makes Run.the-type Laws''.the-plain 𝓤 H A; in-mem = Local.mem-whole 𝓤 H A W (Declared'.row Run.the-type); of-mem = Local.whole-mem 𝓤 H A W
     (Declared'.row Run.the-type) }) ∷ (Num.pNum Syntax.w64) ∷ (Num.pNum Syntax.w64) ∷ []
 abbrev pub r·2 : Kinds.RK 4
-r·2 = Value.rVal record { ty = Declared'.row Reached.the-type; one = Path'.refl; val = Laws'8.val Reached.the-type Laws'5.the-laws; tells = Laws'8.tells
-    Reached.the-type Laws'5.the-laws; still = Laws'8.still Reached.the-type Laws'5.the-copy Exit.yes; row = Rows'.whole (Declared'.row Reached.the-type); rd =
-    λ x. x; mk = λ x. x } λ M 𝓤 H A W. record { copies = Laws'8.copy Reached.the-type Laws'5.the-copy 𝓤 H A W; lawful = Laws'8.lawful Reached.the-type
-    Laws'5.the-laws 𝓤 H A W; makes = Laws'8.makes Reached.the-type Laws'5.the-plain 𝓤 H A; in-mem = Local.mem-whole 𝓤 H A W (Declared'.row Reached.the-type);
+r·2 = Value.rVal record { ty = Declared'.row Reached.the-type; one = Path'.refl; val = Laws'8.val Reached.the-type Laws'6.the-laws; tells = Laws'8.tells
+    Reached.the-type Laws'6.the-laws; still = Laws'8.still Reached.the-type Laws'6.the-copy Exit.yes; row = Rows'.whole (Declared'.row Reached.the-type); rd =
+    λ x. x; mk = λ x. x } λ M 𝓤 H A W. record { copies = Laws'8.copy Reached.the-type Laws'6.the-copy 𝓤 H A W; lawful = Laws'8.lawful Reached.the-type
+    Laws'6.the-laws 𝓤 H A W; makes = Laws'8.makes Reached.the-type Laws'6.the-plain 𝓤 H A; in-mem = Local.mem-whole 𝓤 H A W (Declared'.row Reached.the-type);
     of-mem = Local.whole-mem 𝓤 H A W (Declared'.row Reached.the-type) }
 abbrev pub hs : List Syntax.Home
 hs = Syntax.valueLocal ∷ Syntax.valueLocal ∷ Syntax.valueLocal ∷ Syntax.valueLocal ∷ Syntax.valueLocal ∷ Syntax.valueLocal ∷ Syntax.valueLocal ∷
@@ -785,27 +786,27 @@ module _ (claims· : Claims) where
               (Declared'.row Cursor.the-type) y19 Path'.refl)) d5
           d7 : Typed.Typed 𝓤 H A 𝓣 E G7 b5 Δ1 (at7 bs)
           d7 = Typed.s-seq 𝓤 H A W 𝓣 E G7 G8 b3 b4 Δ1 (Typed.pass T7 T8 (s5 bs)) (at6 bs) (Make'.t-struct-make 𝓤 H A W E 𝓣 (Apart.apartT Reached.the-type)
-              Laws'5.the-laws Laws'5.the-plain G7 0 ((Scalar.oAt 7 y5 (Laws'8.val Run.the-type Laws'6.the-laws)) ∷ (Scalar.oFld 5 ((Syntax.field 1) ∷ []) y3
-              56 (Reads.fieldV Cursor.the-type Laws'3.the-laws 1)) ∷ (Scalar.oInt Syntax.w64 0) ∷ (Scalar.oInt Syntax.w64 0) ∷ (Scalar.oBool Bool'.true) ∷
-              (Scalar.oBool Bool'.false) ∷ (Scalar.oAt 10 y8 (Laws'7.val Cause.the-type Laws.the-laws)) ∷ (Scalar.oInt Syntax.w64 0) ∷ []) (λ m. (m .1 .1 .1
+              Laws'6.the-laws Laws'6.the-plain G7 0 ((Scalar.oAt 7 y5 (Laws'8.val Run.the-type Laws''.the-laws)) ∷ (Scalar.oFld 5 ((Syntax.field 1) ∷ []) y3
+              56 (Reads.fieldV Cursor.the-type Laws.the-laws 1)) ∷ (Scalar.oInt Syntax.w64 0) ∷ (Scalar.oInt Syntax.w64 0) ∷ (Scalar.oBool Bool'.true) ∷
+              (Scalar.oBool Bool'.false) ∷ (Scalar.oAt 10 y8 (Laws'7.val Cause.the-type Laws'3.the-laws)) ∷ (Scalar.oInt Syntax.w64 0) ∷ []) (λ m. (m .1 .1 .1
               .1 .1 .1 .1 .0, (Cursor.struct .as-values (m .1 .1 .1 .1 .1 .0) .1 .0, (0, (0, (Bool'.true, (Bool'.false, (m .1 .1 .1 .1 .1 .1 .1 .1 .1 .1 .0,
-              (0, tt))))))))) (Reads'.room-gone 𝓤 H A y15) ((Reads.reads-struct 𝓤 H A W Run.the-type Laws'6.the-laws, Path'.refl), ((Reads.reads-field 𝓤 H A W
-              Cursor.the-type Laws'3.the-laws 1 y3 56 Path'.refl, Path'.refl), (tt, (tt, (tt, (tt, ((Whole.reads-enum 𝓤 H A W Cause.the-type Laws.the-laws,
-              Path'.refl), (tt, tt)))))))) Path'.refl (λ u. Path'.refl) λ m. Make'.is-wt (Apart.apartT Reached.the-type) Laws'5.the-laws (Make'.struct-wt
-              Run.the-type Laws'6.the-laws (Make'.struct-wt Ref.the-type Laws''.the-laws (Make'.u32-wt, (Make'.u32-wt, tt)), (Make'.struct-wt Pair.the-type
-              Laws'4.the-laws (Make'.bool-wt, (Make'.struct-wt Ref.the-type Laws''.the-laws (Make'.u32-wt, (Make'.u32-wt, tt)), (Make'.struct-wt Ref.the-type
-              Laws''.the-laws (Make'.u32-wt, (Make'.u32-wt, tt)), tt))), (Make'.u64-wt, (Make'.u64-wt, (Make'.u32-wt, (Whole.enum-wt Context.the-type
-              Laws'.the-laws (tt, (tt, (tt, (tt, (tt, (tt, (tt, tt))))))), (Make'.bool-wt, tt))))))), (Make'.u64-wt, (Make'.u64-wt, (Make'.u64-wt,
-              (Make'.bool-wt, (Make'.bool-wt, (Whole.enum-wt Cause.the-type Laws.the-laws (tt, (tt, (tt, (tt, (tt, (tt, (tt, (tt, (tt, (tt, (tt, (tt, (tt,
+              (0, tt))))))))) (Reads'.room-gone 𝓤 H A y15) ((Reads.reads-struct 𝓤 H A W Run.the-type Laws''.the-laws, Path'.refl), ((Reads.reads-field 𝓤 H A W
+              Cursor.the-type Laws.the-laws 1 y3 56 Path'.refl, Path'.refl), (tt, (tt, (tt, (tt, ((Whole.reads-enum 𝓤 H A W Cause.the-type Laws'3.the-laws,
+              Path'.refl), (tt, tt)))))))) Path'.refl (λ u. Path'.refl) λ m. Make'.is-wt (Apart.apartT Reached.the-type) Laws'6.the-laws (Make'.struct-wt
+              Run.the-type Laws''.the-laws (Make'.struct-wt Ref.the-type Laws'5.the-laws (Make'.u32-wt, (Make'.u32-wt, tt)), (Make'.struct-wt Pair.the-type
+              Laws'.the-laws (Make'.bool-wt, (Make'.struct-wt Ref.the-type Laws'5.the-laws (Make'.u32-wt, (Make'.u32-wt, tt)), (Make'.struct-wt Ref.the-type
+              Laws'5.the-laws (Make'.u32-wt, (Make'.u32-wt, tt)), tt))), (Make'.u64-wt, (Make'.u64-wt, (Make'.u32-wt, (Whole.enum-wt Context.the-type
+              Laws'4.the-laws (tt, (tt, (tt, (tt, (tt, (tt, (tt, tt))))))), (Make'.bool-wt, tt))))))), (Make'.u64-wt, (Make'.u64-wt, (Make'.u64-wt,
+              (Make'.bool-wt, (Make'.bool-wt, (Whole.enum-wt Cause.the-type Laws'3.the-laws (tt, (tt, (tt, (tt, (tt, (tt, (tt, (tt, (tt, (tt, (tt, (tt, (tt,
               tt))))))))))))), (Make'.u64-wt, tt)))))))) (m .1 .1 .1 .1 .1 .1 .1 .0, (Cursor.struct .as-values (m .1 .1 .1 .1 .1 .0) .1 .0, (0, (0,
               (Bool'.true, (Bool'.false, (m .1 .1 .1 .1 .1 .1 .1 .1 .1 .1 .0, (0, tt))))))))) d6
           d8 : Typed.Typed 𝓤 H A 𝓣 E G6 b6 Δ1 (at8 bs)
-          d8 = Typed.s-seq 𝓤 H A W 𝓣 E G6 G7 b2 b5 Δ1 (Typed.pass T6 T7 (s4 bs)) (at7 bs) (Make.t-enum-make-wt 𝓤 H A W E 𝓣 Cause.the-type Laws.the-laws
-              Laws.the-plain tt G6 10 ((Scalar.oInt Syntax.w8 6) ∷ []) (λ m. Cause.enum .make (Logic.inr (Logic.inr (Logic.inr (Logic.inr (Logic.inr
-              (Logic.inr (Logic.inl tt)))))))) (Reads'.room-gone 𝓤 H A y8) (tt, tt) Path'.refl (λ m wa. Make.made-val Cause.the-type Laws.the-laws []
+          d8 = Typed.s-seq 𝓤 H A W 𝓣 E G6 G7 b2 b5 Δ1 (Typed.pass T6 T7 (s4 bs)) (at7 bs) (Make.t-enum-make-wt 𝓤 H A W E 𝓣 Cause.the-type Laws'3.the-laws
+              Laws'3.the-plain tt G6 10 ((Scalar.oInt Syntax.w8 6) ∷ []) (λ m. Cause.enum .make (Logic.inr (Logic.inr (Logic.inr (Logic.inr (Logic.inr
+              (Logic.inr (Logic.inl tt)))))))) (Reads'.room-gone 𝓤 H A y8) (tt, tt) Path'.refl (λ m wa. Make.made-val Cause.the-type Laws'3.the-laws []
               (Cause.enum .make (Logic.inr (Logic.inr (Logic.inr (Logic.inr (Logic.inr (Logic.inr (Logic.inl tt)))))))) tt (wa .1)) λ m wa. Make.made-is
-              Cause.the-type Laws.the-laws [] (Cause.enum .make (Logic.inr (Logic.inr (Logic.inr (Logic.inr (Logic.inr (Logic.inr (Logic.inl tt)))))))) tt (wa
-              .1)) d7
+              Cause.the-type Laws'3.the-laws [] (Cause.enum .make (Logic.inr (Logic.inr (Logic.inr (Logic.inr (Logic.inr (Logic.inr (Logic.inl tt)))))))) tt
+              (wa .1)) d7
           d9 : Typed.Typed 𝓤 H A 𝓣 E G4 b6 Δ1 (at9 bs)
           d9 = Typed.g-pre 𝓤 H A W 𝓣 E G4 G6 b6 Δ1 (Typed.pass T4 T6 (s3 bs)) (at8 bs) (Scalar.g-room 𝓤 H A W E G4 9 Syntax.tyBool (Scalar.room-sc 𝓤 H A W
               Row.sBool)) d8
@@ -875,9 +876,9 @@ module _ (claims· : Claims) where
               (Referent.rtF (Referent.fInt Syntax.w8)) y16 0, Path'.refl, (Reads'.as-is 𝓤 H A (Mut.mslice NodeRecordT.row y10 4), Mut.reads-mslice 𝓤 H A W
               NodeRecordT.row y10 4, Path'.refl, (Reads'.as-is 𝓤 H A (Rows'.mref (Array'.Array (Array'.Array (Referent.rtF (Referent.fInt Syntax.w32)) 4) 32)
               y14 5), Reads'.reads-mref 𝓤 H A W (Array'.Array (Array'.Array (Referent.rtF (Referent.fInt Syntax.w32)) 4) 32) y14 5, Path'.refl,
-              ((Yields.yields-copy 𝓤 H A W (λ ρ. Unit) (Declared'.row Run.the-type) Path'.refl (Copies.cStruct Run.the-type Laws'6.the-laws Laws'6.the-copy
+              ((Yields.yields-copy 𝓤 H A W (λ ρ. Unit) (Declared'.row Run.the-type) Path'.refl (Copies.cStruct Run.the-type Laws''.the-laws Laws''.the-copy
               .copy 𝓤 H A W) (Rows'.whole (Declared'.row Run.the-type)) (λ x. x) (λ x. x) (λ ρ told. Local.mem-whole 𝓤 H A W (Declared'.row Run.the-type) ρ) λ
-              ρ told. Local.whole-mem 𝓤 H A W (Declared'.row Run.the-type) ρ, Path'.refl), ((Reads.reads-field 𝓤 H A W Cursor.the-type Laws'3.the-laws 1 y3 56
+              ρ told. Local.whole-mem 𝓤 H A W (Declared'.row Run.the-type) ρ, Path'.refl), ((Reads.reads-field 𝓤 H A W Cursor.the-type Laws.the-laws 1 y3 56
               Path'.refl, Path'.refl), ((Scalar.reads-sc 𝓤 H A W (Row.sInt Syntax.w64), Path'.refl), tt)))))))) (Reads'.room-gone 𝓤 H A y15) (tt, (tt, (tt,
               (tt, tt)))) Path'.refl) d28
           d30 : Typed.Typed 𝓤 H A 𝓣 E G24 b18 Δ0 (at30 bs)
@@ -929,11 +930,11 @@ module _ (claims· : Claims) where
           d41 = Typed.s-seq 𝓤 H A W 𝓣 E G3 G4 b1 b24 Δ0 (Typed.both (s2 bs)) (at40 bs) (Plain.t-call-plain 𝓤 H A W 𝓣 0 ps·0 r·0 (claims· .0) (claims· .1)
               "reader::is_off" (known .0) E (λ pos β. β) G3 (Num.vAt 1 λ x. x, (Num.vFld 5 ((Syntax.field 1) ∷ []) 56 λ x. Cursor.struct .as-values x .1 .0,
               (Num.vAt 6 λ x. x, tt))) 9 [] (Call.sub-id 𝓤 H A W (G3 .slots)) ((Scalar.reads-sc 𝓤 H A W (Row.sInt Syntax.w32), Path'.refl),
-              ((Reads.reads-field 𝓤 H A W Cursor.the-type Laws'3.the-laws 1 y3 56 Path'.refl, Path'.refl), ((Scalar.reads-sc 𝓤 H A W (Row.sInt Syntax.w64),
+              ((Reads.reads-field 𝓤 H A W Cursor.the-type Laws.the-laws 1 y3 56 Path'.refl, Path'.refl), ((Scalar.reads-sc 𝓤 H A W (Row.sInt Syntax.w64),
               Path'.refl), tt))) (Reads'.room-gone 𝓤 H A Syntax.tyBool) tt Path'.refl) d40
           d42 : Typed.Typed 𝓤 H A 𝓣 E G2 b26 Δ0 (at42 bs)
           d42 = Typed.s-seq 𝓤 H A W 𝓣 E G2 G3 b0 b25 Δ0 (Typed.both (s1 bs)) (at41 bs) (WayStmt.t-way-copy-out 𝓤 H A W E 𝓣 (Declared'.row Run.the-type)
-              Path'.refl (Copies.cStruct Run.the-type Laws'6.the-laws Laws'6.the-copy .copy 𝓤 H A W) (λ ρ. Unit) G2 (Row.out 5 (G2 .locals)) (λ u. Row.drop 5
+              Path'.refl (Copies.cStruct Run.the-type Laws''.the-laws Laws''.the-copy .copy 𝓤 H A W) (λ ρ. Unit) G2 (Row.out 5 (G2 .locals)) (λ u. Row.drop 5
               (G2 .locals) u) (G2 .slots) 5 (λ t. (Syntax.field 0) ∷ t) y5 y5 7 (Rows'.whole (Declared'.row Run.the-type)) (λ x. x) (λ u. At.getAt
               (Cursor.the-type .parts) 0 (Cursor.struct .as-values (u .1 .1 .1 .1 .1 .0))) (λ u. (Row.hd 0 (Row.tl (Row.tl (Row.tl (Row.tl (Row.tl bs))))),
               Nat._+_ 0 0)) (λ T′. record { locals = Row.setRow 5 (5, Rows'.whole (Declared'.row Cursor.the-type)) T′; slots = G2 .slots }) (λ u T′ m′.
@@ -946,7 +947,7 @@ module _ (claims· : Claims) where
               (Declared'.row Cursor.the-type) ρ (u .1 .1 .1 .1 .1 .0) (Row.hd 0 (Row.tl (Row.tl (Row.tl (Row.tl (Row.tl bs))))))))) Path'.refl λ q.
               Inner.cut-record 𝓤 H A q (Declared'.row Cursor.the-type) Run.the-type 0 (u .1 .1 .1 .1 .1 .0) (u .1 .1 .1 .1 .1 .0) (At.getAt (Cursor.the-type
               .parts) 0 (Cursor.struct .as-values (u .1 .1 .1 .1 .1 .0))) (At.getAt (Cursor.the-type .parts) 0 (Cursor.struct .as-values (u .1 .1 .1 .1 .1
-              .0))) (Row.hd 0 (Row.tl (Row.tl (Row.tl (Row.tl (Row.tl bs))))), 0) (Behind.look-at 𝓤 H A W q Cursor.the-type Laws'3.the-laws 0 0 Path'.refl
+              .0))) (Row.hd 0 (Row.tl (Row.tl (Row.tl (Row.tl (Row.tl bs))))), 0) (Behind.look-at 𝓤 H A W q Cursor.the-type Laws.the-laws 0 0 Path'.refl
               Path'.refl (Row.hd 0 (Row.tl (Row.tl (Row.tl (Row.tl (Row.tl bs))))), 0) (u .1 .1 .1 .1 .1 .0) (Cursor.struct .as-values (u .1 .1 .1 .1 .1 .0))
               Path'.refl)) (Reads'.room-gone 𝓤 H A y5) (Yields.makes-mem 𝓤 H A W (λ ρ. Unit) (Declared'.row Run.the-type) Path'.refl (Rows'.whole
               (Declared'.row Run.the-type)) (λ x. x) λ ρ told. Local.whole-mem 𝓤 H A W (Declared'.row Run.the-type) ρ) Path'.refl Path'.refl Path'.refl) d41
@@ -962,10 +963,10 @@ module _ (claims· : Claims) where
           pub t : Kinds.Den {n = 3} κs (MutSlice.pMutS NodeRecordT.row 1 tt)
           pub o : Kinds.Den {n = 3} κs (Kinds.pMut (Array'.Array (Array'.Array (Referent.rtF (Referent.fInt Syntax.w32)) 4) 32) 2 tt)
           pub c : Kinds.Den {n = 3} κs (Value.pVal record { ty = Declared'.row Cursor.the-type; one = Path'.refl; val = Laws'8.val Cursor.the-type
-              Laws'3.the-laws; tells = Laws'8.tells Cursor.the-type Laws'3.the-laws; still = Laws'8.still Cursor.the-type Laws'3.the-copy Exit.yes; row =
-              Rows'.whole (Declared'.row Cursor.the-type); rd = λ x. x; mk = λ x. x } λ M 𝓤 H A W. record { copies = Laws'8.copy Cursor.the-type
-              Laws'3.the-copy 𝓤 H A W; lawful = Laws'8.lawful Cursor.the-type Laws'3.the-laws 𝓤 H A W; makes = Laws'8.makes Cursor.the-type Laws'3.the-plain 𝓤
-              H A; in-mem = Local.mem-whole 𝓤 H A W (Declared'.row Cursor.the-type); of-mem = Local.whole-mem 𝓤 H A W (Declared'.row Cursor.the-type) })
+              Laws.the-laws; tells = Laws'8.tells Cursor.the-type Laws.the-laws; still = Laws'8.still Cursor.the-type Laws.the-copy Exit.yes; row =
+              Rows'.whole (Declared'.row Cursor.the-type); rd = λ x. x; mk = λ x. x } λ M 𝓤 H A W. record { copies = Laws'8.copy Cursor.the-type Laws.the-copy
+              𝓤 H A W; lawful = Laws'8.lawful Cursor.the-type Laws.the-laws 𝓤 H A W; makes = Laws'8.makes Cursor.the-type Laws.the-plain 𝓤 H A; in-mem =
+              Local.mem-whole 𝓤 H A W (Declared'.row Cursor.the-type); of-mem = Local.whole-mem 𝓤 H A W (Declared'.row Cursor.the-type) })
           pub stop : Kinds.Den {n = 3} κs (Num.pNum Syntax.w64)
         abbrev pub dens : (a : Args) → Kinds.Dens κs ps
         dens = λ a. (a .n, (a .s, (a .t, (a .o, (a .c, (a .stop, tt))))))

@@ -1,5 +1,5 @@
 -- Generated: the needs of read_on at its contract, and how its theorem closes.
--- From 9ee42f47e9b6bdb7, as 8152d25b6b1c8c28.
+-- From ca16d0e1cc319667, as 8152d25b6b1c8c28.
 use borrow.Fn.Run
 use borrow.Fn.Written
 use contract.Running.{givenOf, tablesOf}

@@ -1,23 +1,23 @@
 -- Generated: the derivation of a body.
--- From 9ee42f47e9b6bdb7, as 446d0b59cc00d62b.
+-- From ca16d0e1cc319667, as 50931fdaa8ff702e.
 use Prim.Native.Nat
+use Rattle.cursors.proofs.Pair
+use Rattle.cursors.proofs.Pair.Laws
+use Rattle.cursors.proofs.Run
+use Rattle.cursors.proofs.Run.Laws as Laws'
 use Rattle.elements.proofs.Cause
-use Rattle.elements.proofs.Cause.Laws
+use Rattle.elements.proofs.Cause.Laws as Laws''
 use Rattle.elements.proofs.Context
-use Rattle.elements.proofs.Context.Laws as Laws'
+use Rattle.elements.proofs.Context.Laws as Laws'3
 use Rattle.elements.proofs.Open
-use Rattle.elements.proofs.Open.Laws as Laws''
+use Rattle.elements.proofs.Open.Laws as Laws'4
 use Rattle.elements.proofs.Ref
-use Rattle.elements.proofs.Ref.Laws as Laws'3
+use Rattle.elements.proofs.Ref.Laws as Laws'5
 use Rattle.node_records.proofs.Tables.NodeRecord as NodeRecordT
 use Rattle.reader.proofs.Iteration
-use Rattle.reader.proofs.Iteration.Laws as Laws'4
-use Rattle.reader.proofs.Pair
-use Rattle.reader.proofs.Pair.Laws as Laws'5
+use Rattle.reader.proofs.Iteration.Laws as Laws'6
 use Rattle.reader.proofs.Reached
-use Rattle.reader.proofs.Reached.Laws as Laws'6
-use Rattle.reader.proofs.Run
-use Rattle.reader.proofs.Run.Laws as Laws'7
+use Rattle.reader.proofs.Reached.Laws as Laws'7
 use borrow.Author.Called
 use borrow.Author.Tests
 use borrow.Enum.Make
@@ -104,8 +104,8 @@ y0 = Syntax.tyInt Syntax.w32
 abbrev y1 : Syntax.Ty
 y1 = Syntax.tyStruct (101 ∷ 108 ∷ 101 ∷ 109 ∷ 101 ∷ 110 ∷ 116 ∷ 115 ∷ 58 ∷ 58 ∷ 82 ∷ 101 ∷ 102 ∷ []) (Syntax.tcons y0 (Syntax.tcons y0 Syntax.tnil))
 abbrev y2 : Syntax.Ty
-y2 = Syntax.tyStruct (114 ∷ 101 ∷ 97 ∷ 100 ∷ 101 ∷ 114 ∷ 58 ∷ 58 ∷ 80 ∷ 97 ∷ 105 ∷ 114 ∷ []) (Syntax.tcons Syntax.tyBool (Syntax.tcons y1 (Syntax.tcons y1
-    Syntax.tnil)))
+y2 = Syntax.tyStruct (99 ∷ 117 ∷ 114 ∷ 115 ∷ 111 ∷ 114 ∷ 115 ∷ 58 ∷ 58 ∷ 80 ∷ 97 ∷ 105 ∷ 114 ∷ []) (Syntax.tcons Syntax.tyBool (Syntax.tcons y1 (Syntax.tcons
+    y1 Syntax.tnil)))
 abbrev y3 : Syntax.Ty
 y3 = Syntax.tyInt Syntax.w64
 abbrev y4 : Syntax.Ty
@@ -113,8 +113,8 @@ y4 = Syntax.tyEnum (101 ∷ 108 ∷ 101 ∷ 109 ∷ 101 ∷ 110 ∷ 116 ∷ 115 
     (Syntax.ttcons Syntax.tnil (Syntax.ttcons Syntax.tnil (Syntax.ttcons Syntax.tnil (Syntax.ttcons Syntax.tnil (Syntax.ttcons Syntax.tnil (Syntax.ttcons
     Syntax.tnil Syntax.ttnil)))))))
 abbrev y5 : Syntax.Ty
-y5 = Syntax.tyStruct (114 ∷ 101 ∷ 97 ∷ 100 ∷ 101 ∷ 114 ∷ 58 ∷ 58 ∷ 82 ∷ 117 ∷ 110 ∷ []) (Syntax.tcons y1 (Syntax.tcons y2 (Syntax.tcons y3 (Syntax.tcons y3
-    (Syntax.tcons y0 (Syntax.tcons y4 (Syntax.tcons Syntax.tyBool Syntax.tnil)))))))
+y5 = Syntax.tyStruct (99 ∷ 117 ∷ 114 ∷ 115 ∷ 111 ∷ 114 ∷ 115 ∷ 58 ∷ 58 ∷ 82 ∷ 117 ∷ 110 ∷ []) (Syntax.tcons y1 (Syntax.tcons y2 (Syntax.tcons y3 (Syntax.tcons
+    y3 (Syntax.tcons y0 (Syntax.tcons y4 (Syntax.tcons Syntax.tyBool Syntax.tnil)))))))
 abbrev y6 : Syntax.Ty
 y6 = Syntax.tyStruct (101 ∷ 108 ∷ 101 ∷ 109 ∷ 101 ∷ 110 ∷ 116 ∷ 115 ∷ 58 ∷ 58 ∷ 79 ∷ 112 ∷ 101 ∷ 110 ∷ []) (Syntax.tcons y1 (Syntax.tcons Syntax.tyBool
     (Syntax.tcons Syntax.tyBool Syntax.tnil)))
@@ -248,16 +248,16 @@ e25a = (25, Rows.mleft (Array.Array (Array.Array (Referent.rtF (Referent.fInt Sy
 abbrev pub ps : List (Kinds.PK 4)
 ps = (ShrRef.pShr (Array.Array (Referent.rtF (Referent.fInt Syntax.w8)) 256) 0 tt) ∷ (Num.pNum Syntax.w32) ∷ (ShrSlice.pShrS (Referent.rtF (Referent.fInt
     Syntax.w8)) 1 tt) ∷ (MutSlice.pMutS NodeRecordT.row 2 tt) ∷ (Kinds.pMut (Array.Array (Array.Array (Referent.rtF (Referent.fInt Syntax.w32)) 4) 32) 3 tt) ∷
-    (Value.pVal record { ty = Declared'.row Run.the-type; one = Path'.refl; val = Laws'10.val Run.the-type Laws'7.the-laws; tells = Laws'10.tells Run.the-type
-    Laws'7.the-laws; still = Laws'10.still Run.the-type Laws'7.the-copy Exit.yes; row = Rows.whole (Declared'.row Run.the-type); rd = λ x. x; mk = λ x. x } λ
-    M 𝓤 H A W. record { copies = Laws'10.copy Run.the-type Laws'7.the-copy 𝓤 H A W; lawful = Laws'10.lawful Run.the-type Laws'7.the-laws 𝓤 H A W; makes =
-    Laws'10.makes Run.the-type Laws'7.the-plain 𝓤 H A; in-mem = Local.mem-whole 𝓤 H A W (Declared'.row Run.the-type); of-mem = Local.whole-mem 𝓤 H A W
+    (Value.pVal record { ty = Declared'.row Run.the-type; one = Path'.refl; val = Laws'10.val Run.the-type Laws'.the-laws; tells = Laws'10.tells Run.the-type
+    Laws'.the-laws; still = Laws'10.still Run.the-type Laws'.the-copy Exit.yes; row = Rows.whole (Declared'.row Run.the-type); rd = λ x. x; mk = λ x. x } λ M
+    𝓤 H A W. record { copies = Laws'10.copy Run.the-type Laws'.the-copy 𝓤 H A W; lawful = Laws'10.lawful Run.the-type Laws'.the-laws 𝓤 H A W; makes =
+    Laws'10.makes Run.the-type Laws'.the-plain 𝓤 H A; in-mem = Local.mem-whole 𝓤 H A W (Declared'.row Run.the-type); of-mem = Local.whole-mem 𝓤 H A W
     (Declared'.row Run.the-type) }) ∷ (Num.pNum Syntax.w64) ∷ (Num.pNum Syntax.w64) ∷ []
 abbrev pub r : Kinds.RK 4
-r = Value.rVal record { ty = Declared'.row Reached.the-type; one = Path'.refl; val = Laws'10.val Reached.the-type Laws'6.the-laws; tells = Laws'10.tells
-    Reached.the-type Laws'6.the-laws; still = Laws'10.still Reached.the-type Laws'6.the-copy Exit.yes; row = Rows.whole (Declared'.row Reached.the-type); rd =
-    λ x. x; mk = λ x. x } λ M 𝓤 H A W. record { copies = Laws'10.copy Reached.the-type Laws'6.the-copy 𝓤 H A W; lawful = Laws'10.lawful Reached.the-type
-    Laws'6.the-laws 𝓤 H A W; makes = Laws'10.makes Reached.the-type Laws'6.the-plain 𝓤 H A; in-mem = Local.mem-whole 𝓤 H A W (Declared'.row Reached.the-type);
+r = Value.rVal record { ty = Declared'.row Reached.the-type; one = Path'.refl; val = Laws'10.val Reached.the-type Laws'7.the-laws; tells = Laws'10.tells
+    Reached.the-type Laws'7.the-laws; still = Laws'10.still Reached.the-type Laws'7.the-copy Exit.yes; row = Rows.whole (Declared'.row Reached.the-type); rd =
+    λ x. x; mk = λ x. x } λ M 𝓤 H A W. record { copies = Laws'10.copy Reached.the-type Laws'7.the-copy 𝓤 H A W; lawful = Laws'10.lawful Reached.the-type
+    Laws'7.the-laws 𝓤 H A W; makes = Laws'10.makes Reached.the-type Laws'7.the-plain 𝓤 H A; in-mem = Local.mem-whole 𝓤 H A W (Declared'.row Reached.the-type);
     of-mem = Local.whole-mem 𝓤 H A W (Declared'.row Reached.the-type) }
 abbrev pub xs : List Syntax.Ty
 xs = y5 ∷ y3 ∷ y3 ∷ y3 ∷ y3 ∷ y6 ∷ y8 ∷ Syntax.tyBool ∷ y7 ∷ y5 ∷ y6 ∷ Syntax.tyBool ∷ y11 ∷ y12 ∷ y13 ∷ Syntax.tyUnit ∷ y14 ∷ y7 ∷ []
@@ -266,35 +266,35 @@ m = 3
 abbrev pub ps·0 : List (Kinds.PK 1)
 ps·0 = (ShrRef.pShr (Array.Array (Array.Array (Referent.rtF (Referent.fInt Syntax.w32)) 4) 32) 0 tt) ∷ (Num.pNum Syntax.w64) ∷ []
 abbrev pub r·0 : Kinds.RK 1
-r·0 = Value.rVal record { ty = Declared'.row Open.the-type; one = Path'.refl; val = Laws'10.val Open.the-type Laws''.the-laws; tells = Laws'10.tells
-    Open.the-type Laws''.the-laws; still = Laws'10.still Open.the-type Laws''.the-copy Exit.yes; row = Rows.whole (Declared'.row Open.the-type); rd = λ x. x;
-    mk = λ x. x } λ M 𝓤 H A W. record { copies = Laws'10.copy Open.the-type Laws''.the-copy 𝓤 H A W; lawful = Laws'10.lawful Open.the-type Laws''.the-laws 𝓤 H
-    A W; makes = Laws'10.makes Open.the-type Laws''.the-plain 𝓤 H A; in-mem = Local.mem-whole 𝓤 H A W (Declared'.row Open.the-type); of-mem = Local.whole-mem
+r·0 = Value.rVal record { ty = Declared'.row Open.the-type; one = Path'.refl; val = Laws'10.val Open.the-type Laws'4.the-laws; tells = Laws'10.tells
+    Open.the-type Laws'4.the-laws; still = Laws'10.still Open.the-type Laws'4.the-copy Exit.yes; row = Rows.whole (Declared'.row Open.the-type); rd = λ x. x;
+    mk = λ x. x } λ M 𝓤 H A W. record { copies = Laws'10.copy Open.the-type Laws'4.the-copy 𝓤 H A W; lawful = Laws'10.lawful Open.the-type Laws'4.the-laws 𝓤 H
+    A W; makes = Laws'10.makes Open.the-type Laws'4.the-plain 𝓤 H A; in-mem = Local.mem-whole 𝓤 H A W (Declared'.row Open.the-type); of-mem = Local.whole-mem
     𝓤 H A W (Declared'.row Open.the-type) }
 abbrev pub ps·1 : List (Kinds.PK 3)
 ps·1 = (ShrRef.pShr (Array.Array (Referent.rtF (Referent.fInt Syntax.w8)) 256) 0 tt) ∷ (Num.pNum Syntax.w32) ∷ (ShrSlice.pShrS (Referent.rtF (Referent.fInt
     Syntax.w8)) 1 tt) ∷ (MutSlice.pMutS NodeRecordT.row 2 tt) ∷ (Value.pVal record { ty = Declared'.row Run.the-type; one = Path'.refl; val = Laws'10.val
-    Run.the-type Laws'7.the-laws; tells = Laws'10.tells Run.the-type Laws'7.the-laws; still = Laws'10.still Run.the-type Laws'7.the-copy Exit.yes; row =
-    Rows.whole (Declared'.row Run.the-type); rd = λ x. x; mk = λ x. x } λ M 𝓤 H A W. record { copies = Laws'10.copy Run.the-type Laws'7.the-copy 𝓤 H A W;
-    lawful = Laws'10.lawful Run.the-type Laws'7.the-laws 𝓤 H A W; makes = Laws'10.makes Run.the-type Laws'7.the-plain 𝓤 H A; in-mem = Local.mem-whole 𝓤 H A W
+    Run.the-type Laws'.the-laws; tells = Laws'10.tells Run.the-type Laws'.the-laws; still = Laws'10.still Run.the-type Laws'.the-copy Exit.yes; row =
+    Rows.whole (Declared'.row Run.the-type); rd = λ x. x; mk = λ x. x } λ M 𝓤 H A W. record { copies = Laws'10.copy Run.the-type Laws'.the-copy 𝓤 H A W;
+    lawful = Laws'10.lawful Run.the-type Laws'.the-laws 𝓤 H A W; makes = Laws'10.makes Run.the-type Laws'.the-plain 𝓤 H A; in-mem = Local.mem-whole 𝓤 H A W
     (Declared'.row Run.the-type); of-mem = Local.whole-mem 𝓤 H A W (Declared'.row Run.the-type) }) ∷ (Num.pNum Syntax.w64) ∷ (Value.pVal record { ty =
-    Declared'.row Open.the-type; one = Path'.refl; val = Laws'10.val Open.the-type Laws''.the-laws; tells = Laws'10.tells Open.the-type Laws''.the-laws; still
-    = Laws'10.still Open.the-type Laws''.the-copy Exit.yes; row = Rows.whole (Declared'.row Open.the-type); rd = λ x. x; mk = λ x. x } λ M 𝓤 H A W. record {
-    copies = Laws'10.copy Open.the-type Laws''.the-copy 𝓤 H A W; lawful = Laws'10.lawful Open.the-type Laws''.the-laws 𝓤 H A W; makes = Laws'10.makes
-    Open.the-type Laws''.the-plain 𝓤 H A; in-mem = Local.mem-whole 𝓤 H A W (Declared'.row Open.the-type); of-mem = Local.whole-mem 𝓤 H A W (Declared'.row
+    Declared'.row Open.the-type; one = Path'.refl; val = Laws'10.val Open.the-type Laws'4.the-laws; tells = Laws'10.tells Open.the-type Laws'4.the-laws; still
+    = Laws'10.still Open.the-type Laws'4.the-copy Exit.yes; row = Rows.whole (Declared'.row Open.the-type); rd = λ x. x; mk = λ x. x } λ M 𝓤 H A W. record {
+    copies = Laws'10.copy Open.the-type Laws'4.the-copy 𝓤 H A W; lawful = Laws'10.lawful Open.the-type Laws'4.the-laws 𝓤 H A W; makes = Laws'10.makes
+    Open.the-type Laws'4.the-plain 𝓤 H A; in-mem = Local.mem-whole 𝓤 H A W (Declared'.row Open.the-type); of-mem = Local.whole-mem 𝓤 H A W (Declared'.row
     Open.the-type) }) ∷ []
 abbrev pub r·1 : Kinds.RK 3
-r·1 = Value.rVal record { ty = Declared'.row Iteration.the-type; one = Path'.refl; val = Laws'10.val Iteration.the-type Laws'4.the-laws; tells = Laws'10.tells
-    Iteration.the-type Laws'4.the-laws; still = Laws'10.still Iteration.the-type Laws'4.the-copy Exit.yes; row = Rows.whole (Declared'.row
-    Iteration.the-type); rd = λ x. x; mk = λ x. x } λ M 𝓤 H A W. record { copies = Laws'10.copy Iteration.the-type Laws'4.the-copy 𝓤 H A W; lawful =
-    Laws'10.lawful Iteration.the-type Laws'4.the-laws 𝓤 H A W; makes = Laws'10.makes Iteration.the-type Laws'4.the-plain 𝓤 H A; in-mem = Local.mem-whole 𝓤 H A
+r·1 = Value.rVal record { ty = Declared'.row Iteration.the-type; one = Path'.refl; val = Laws'10.val Iteration.the-type Laws'6.the-laws; tells = Laws'10.tells
+    Iteration.the-type Laws'6.the-laws; still = Laws'10.still Iteration.the-type Laws'6.the-copy Exit.yes; row = Rows.whole (Declared'.row
+    Iteration.the-type); rd = λ x. x; mk = λ x. x } λ M 𝓤 H A W. record { copies = Laws'10.copy Iteration.the-type Laws'6.the-copy 𝓤 H A W; lawful =
+    Laws'10.lawful Iteration.the-type Laws'6.the-laws 𝓤 H A W; makes = Laws'10.makes Iteration.the-type Laws'6.the-plain 𝓤 H A; in-mem = Local.mem-whole 𝓤 H A
     W (Declared'.row Iteration.the-type); of-mem = Local.whole-mem 𝓤 H A W (Declared'.row Iteration.the-type) }
 abbrev pub ps·2 : List (Kinds.PK 1)
 ps·2 = (Kinds.pMut (Array.Array (Array.Array (Referent.rtF (Referent.fInt Syntax.w32)) 4) 32) 0 tt) ∷ (Num.pNum Syntax.w64) ∷ (Value.pVal record { ty =
-    Declared'.row Open.the-type; one = Path'.refl; val = Laws'10.val Open.the-type Laws''.the-laws; tells = Laws'10.tells Open.the-type Laws''.the-laws; still
-    = Laws'10.still Open.the-type Laws''.the-copy Exit.yes; row = Rows.whole (Declared'.row Open.the-type); rd = λ x. x; mk = λ x. x } λ M 𝓤 H A W. record {
-    copies = Laws'10.copy Open.the-type Laws''.the-copy 𝓤 H A W; lawful = Laws'10.lawful Open.the-type Laws''.the-laws 𝓤 H A W; makes = Laws'10.makes
-    Open.the-type Laws''.the-plain 𝓤 H A; in-mem = Local.mem-whole 𝓤 H A W (Declared'.row Open.the-type); of-mem = Local.whole-mem 𝓤 H A W (Declared'.row
+    Declared'.row Open.the-type; one = Path'.refl; val = Laws'10.val Open.the-type Laws'4.the-laws; tells = Laws'10.tells Open.the-type Laws'4.the-laws; still
+    = Laws'10.still Open.the-type Laws'4.the-copy Exit.yes; row = Rows.whole (Declared'.row Open.the-type); rd = λ x. x; mk = λ x. x } λ M 𝓤 H A W. record {
+    copies = Laws'10.copy Open.the-type Laws'4.the-copy 𝓤 H A W; lawful = Laws'10.lawful Open.the-type Laws'4.the-laws 𝓤 H A W; makes = Laws'10.makes
+    Open.the-type Laws'4.the-plain 𝓤 H A; in-mem = Local.mem-whole 𝓤 H A W (Declared'.row Open.the-type); of-mem = Local.whole-mem 𝓤 H A W (Declared'.row
     Open.the-type) }) ∷ []
 abbrev pub r·2 : Kinds.RK 1
 r·2 = Unit'.rUnit
@@ -592,9 +592,9 @@ module _ (claims· : Claims) where
   abbrev s5 : (bs : List Nat.ℕ) → Typed.Mo (cx t6 t1) → Typed.Mo (cx t7 t1)
   s5 = λ bs. Scalar.n-use (cx t6 t1) (Scalar.oInt Syntax.w64 0) 12 (Rows.sc-here (Row.sInt Syntax.w64)) (Row.sInt Syntax.w64 .of)
   abbrev s6 : (bs : List Nat.ℕ) → Typed.Gives (cx t7 t1) (cx t7 t1)
-  s6 = λ bs. Know'.k-struct-known Run.the-type Laws'7.the-laws (cx t7 t1) 9 λ x. x
+  s6 = λ bs. Know'.k-struct-known Run.the-type Laws'.the-laws (cx t7 t1) 9 λ x. x
   abbrev s7 : (bs : List Nat.ℕ) → Typed.Asks (cx t7 t1) (cx t7 t8)
-  s7 = λ bs. Scalar.k-op2 (cx t7 t1) (Syntax.le Syntax.unsigned) (Scalar.oFld 9 ((Syntax.field 3) ∷ []) y3 40 (Reads.fieldV Run.the-type Laws'7.the-laws 3))
+  s7 = λ bs. Scalar.k-op2 (cx t7 t1) (Syntax.le Syntax.unsigned) (Scalar.oFld 9 ((Syntax.field 3) ∷ []) y3 40 (Reads.fieldV Run.the-type Laws'.the-laws 3))
       (Scalar.oAt 8 y3 (Row.valS (Row.sInt Syntax.w64))) 20 (Rows.sc-here Row.sBool) (Row.sBool .of)
   abbrev s8 : (bs : List Nat.ℕ) → Typed.Mo (cx t7 t8) → Typed.Mo (cx t7 t1)
   s8 = λ bs. Scalar.n-room (cx t7 t8) 20 Syntax.tyBool
@@ -624,7 +624,7 @@ module _ (claims· : Claims) where
   abbrev s24 : (bs : List Nat.ℕ) → Typed.Both (cx t19 t18) (cx t20 t1)
   s24 = λ bs. Relend.k-back-sl NodeRecordT.row (cx t19 t18) 23 4 2 5 y20 y12 Row.off (λ x. x) λ x. x
   abbrev s26 : (bs : List Nat.ℕ) → Typed.Mo (cx t20 t1) → Typed.Mo (cx t20 t21)
-  s26 = λ bs. Scalar.n-use (cx t20 t1) (Scalar.oFld 15 ((Syntax.field 4) ∷ []) Syntax.tyBool 84 (Reads.fieldV Iteration.the-type Laws'4.the-laws 4)) 16
+  s26 = λ bs. Scalar.n-use (cx t20 t1) (Scalar.oFld 15 ((Syntax.field 4) ∷ []) Syntax.tyBool 84 (Reads.fieldV Iteration.the-type Laws'6.the-laws 4)) 16
       (Rows.sc-here Row.sBool) (Row.sBool .of)
   abbrev s27 : (bs : List Nat.ℕ) → Typed.Asks (cx t20 t21) (cx t20 t22)
   s27 = λ bs. Scalar.k-op1 (cx t20 t21) Syntax.bitNot (Scalar.oAt 16 Syntax.tyBool (Row.valS Row.sBool)) 20 (Rows.sc-here Row.sBool) (Row.sBool .of)
@@ -671,7 +671,7 @@ module _ (claims· : Claims) where
   abbrev s46 : (bs : List Nat.ℕ) → Typed.Mo (cx t23 t22) → Typed.Mo (cx t23 t21)
   s46 = λ bs. Scalar.n-room (cx t23 t22) 20 Syntax.tyBool
   abbrev s47 : (bs : List Nat.ℕ) → Typed.Mo (cx t23 t21) → Typed.Mo (cx t37 t21)
-  s47 = λ bs. Scalar.n-use (cx t23 t21) (Scalar.oFld 9 ((Syntax.field 3) ∷ []) y3 40 (Reads.fieldV Run.the-type Laws'7.the-laws 3)) 11 (Rows.sc-here (Row.sInt
+  s47 = λ bs. Scalar.n-use (cx t23 t21) (Scalar.oFld 9 ((Syntax.field 3) ∷ []) y3 40 (Reads.fieldV Run.the-type Laws'.the-laws 3)) 11 (Rows.sc-here (Row.sInt
       Syntax.w64)) (Row.sInt Syntax.w64 .of)
   abbrev s48 : (bs : List Nat.ℕ) → Typed.Mo (cx t37 t21) → Typed.Mo (cx t38 t21)
   s48 = λ bs. Scalar.n-room (cx t37 t21) 9 y5
@@ -705,7 +705,7 @@ module _ (claims· : Claims) where
   abbrev s60 : (bs : List Nat.ℕ) → Typed.Asks (cx t42 t46) (cx t35 t21)
   s60 = λ bs. Reborrow.k-back-mref (cx t42 t46) 25 5 3 (Array.Array (Array.Array (Referent.rtF (Referent.fInt Syntax.w32)) 4) 32) y21 y14 [] (λ x. x) λ x. x
   abbrev s62 : (bs : List Nat.ℕ) → Typed.Mo (cx t35 t21) → Typed.Mo (cx t20 t21)
-  s62 = λ bs. Scalar.n-use (cx t35 t21) (Scalar.oFld 15 ((Syntax.field 1) ∷ []) y3 56 (Reads.fieldV Iteration.the-type Laws'4.the-laws 1)) 10 (Rows.sc-here
+  s62 = λ bs. Scalar.n-use (cx t35 t21) (Scalar.oFld 15 ((Syntax.field 1) ∷ []) y3 56 (Reads.fieldV Iteration.the-type Laws'6.the-laws 1)) 10 (Rows.sc-here
       (Row.sInt Syntax.w64)) (Row.sInt Syntax.w64 .of)
   abbrev s63 : (bs : List Nat.ℕ) → Typed.Mo (cx t20 t21) → Typed.Mo (cx t47 t21)
   s63 = λ bs. Scalar.n-room (cx t20 t21) 13 y3
@@ -1062,42 +1062,42 @@ module _ (claims· : Claims) where
               W E (gx t25 t24 l0) 9 y5 (Local.room-whole 𝓤 H A W (Declared'.row Run.the-type) y5 Path'.refl)) d16
           d18 : Typed.Typed 𝓤 H A 𝓣 E (gx t20 t24 l0) b19 Δ5 (at18 bs)
           d18 = Typed.s-seq 𝓤 H A W 𝓣 E (gx t20 t24 l0) (gx t25 t24 l0) b17 b18 Δ5 (Typed.pass (cx t20 t24) (cx t25 t24) (s30 bs)) (at17 bs)
-              (Make'.t-struct-make 𝓤 H A W E 𝓣 (Apart.apartT Reached.the-type) Laws'6.the-laws Laws'6.the-plain (gx t20 t24 l0) 0 ((Scalar.oAt 9 y5
-              (Laws'10.val Run.the-type Laws'7.the-laws)) ∷ (Scalar.oAt 10 y3 (Row.valS (Row.sInt Syntax.w64))) ∷ (Scalar.oAt 11 y3 (Row.valS (Row.sInt
+              (Make'.t-struct-make 𝓤 H A W E 𝓣 (Apart.apartT Reached.the-type) Laws'7.the-laws Laws'7.the-plain (gx t20 t24 l0) 0 ((Scalar.oAt 9 y5
+              (Laws'10.val Run.the-type Laws'.the-laws)) ∷ (Scalar.oAt 10 y3 (Row.valS (Row.sInt Syntax.w64))) ∷ (Scalar.oAt 11 y3 (Row.valS (Row.sInt
               Syntax.w64))) ∷ (Scalar.oAt 12 y3 (Row.valS (Row.sInt Syntax.w64))) ∷ (Scalar.oBool Bool.true) ∷ (Scalar.oFld 15 ((Syntax.field 5) ∷ [])
-              Syntax.tyBool 85 (Reads.fieldV Iteration.the-type Laws'4.the-laws 5)) ∷ (Scalar.oAt 17 y7 (Laws'8.val Cause.the-type Laws.the-laws)) ∷
-              (Scalar.oFld 15 ((Syntax.field 2) ∷ []) y3 64 (Reads.fieldV Iteration.the-type Laws'4.the-laws 2)) ∷ []) (λ m. (m .1 .1 .1 .1 .1 .1 .1 .1 .1 .0,
+              Syntax.tyBool 85 (Reads.fieldV Iteration.the-type Laws'6.the-laws 5)) ∷ (Scalar.oAt 17 y7 (Laws'8.val Cause.the-type Laws''.the-laws)) ∷
+              (Scalar.oFld 15 ((Syntax.field 2) ∷ []) y3 64 (Reads.fieldV Iteration.the-type Laws'6.the-laws 2)) ∷ []) (λ m. (m .1 .1 .1 .1 .1 .1 .1 .1 .1 .0,
               (m .1 .1 .1 .1 .1 .1 .1 .1 .1 .1 .0, (m .1 .1 .1 .1 .1 .1 .1 .1 .1 .1 .1 .0, (m .1 .1 .1 .1 .1 .1 .1 .1 .1 .1 .1 .1 .0, (Bool.true,
               (Iteration.struct .as-values (m .1 .1 .1 .1 .1 .1 .1 .1 .1 .1 .1 .1 .1 .1 .1 .0) .1 .1 .1 .1 .1 .0, (m .1 .1 .1 .1 .1 .1 .1 .1 .1 .1 .1 .1 .1 .1
               .1 .1 .1 .0, (Iteration.struct .as-values (m .1 .1 .1 .1 .1 .1 .1 .1 .1 .1 .1 .1 .1 .1 .1 .0) .1 .1 .0, tt))))))))) (Reads'.room-gone 𝓤 H A y15)
-              ((Reads.reads-struct 𝓤 H A W Run.the-type Laws'7.the-laws, Path'.refl), ((Scalar.reads-sc 𝓤 H A W (Row.sInt Syntax.w64), Path'.refl),
+              ((Reads.reads-struct 𝓤 H A W Run.the-type Laws'.the-laws, Path'.refl), ((Scalar.reads-sc 𝓤 H A W (Row.sInt Syntax.w64), Path'.refl),
               ((Scalar.reads-sc 𝓤 H A W (Row.sInt Syntax.w64), Path'.refl), ((Scalar.reads-sc 𝓤 H A W (Row.sInt Syntax.w64), Path'.refl), (tt,
-              ((Reads.reads-field 𝓤 H A W Iteration.the-type Laws'4.the-laws 5 Syntax.tyBool 85 Path'.refl, Path'.refl), ((Whole.reads-enum 𝓤 H A W
-              Cause.the-type Laws.the-laws, Path'.refl), ((Reads.reads-field 𝓤 H A W Iteration.the-type Laws'4.the-laws 2 y3 64 Path'.refl, Path'.refl),
-              tt)))))))) Path'.refl (λ u. Path'.refl) λ m. Make'.is-wt (Apart.apartT Reached.the-type) Laws'6.the-laws (Make'.struct-wt Run.the-type
-              Laws'7.the-laws (Make'.struct-wt Ref.the-type Laws'3.the-laws (Make'.u32-wt, (Make'.u32-wt, tt)), (Make'.struct-wt Pair.the-type Laws'5.the-laws
-              (Make'.bool-wt, (Make'.struct-wt Ref.the-type Laws'3.the-laws (Make'.u32-wt, (Make'.u32-wt, tt)), (Make'.struct-wt Ref.the-type Laws'3.the-laws
-              (Make'.u32-wt, (Make'.u32-wt, tt)), tt))), (Make'.u64-wt, (Make'.u64-wt, (Make'.u32-wt, (Whole.enum-wt Context.the-type Laws'.the-laws (tt, (tt,
-              (tt, (tt, (tt, (tt, (tt, tt))))))), (Make'.bool-wt, tt))))))), (Make'.u64-wt, (Make'.u64-wt, (Make'.u64-wt, (Make'.bool-wt, (Make'.bool-wt,
-              (Whole.enum-wt Cause.the-type Laws.the-laws (tt, (tt, (tt, (tt, (tt, (tt, (tt, (tt, (tt, (tt, (tt, (tt, (tt, tt))))))))))))), (Make'.u64-wt,
+              ((Reads.reads-field 𝓤 H A W Iteration.the-type Laws'6.the-laws 5 Syntax.tyBool 85 Path'.refl, Path'.refl), ((Whole.reads-enum 𝓤 H A W
+              Cause.the-type Laws''.the-laws, Path'.refl), ((Reads.reads-field 𝓤 H A W Iteration.the-type Laws'6.the-laws 2 y3 64 Path'.refl, Path'.refl),
+              tt)))))))) Path'.refl (λ u. Path'.refl) λ m. Make'.is-wt (Apart.apartT Reached.the-type) Laws'7.the-laws (Make'.struct-wt Run.the-type
+              Laws'.the-laws (Make'.struct-wt Ref.the-type Laws'5.the-laws (Make'.u32-wt, (Make'.u32-wt, tt)), (Make'.struct-wt Pair.the-type Laws.the-laws
+              (Make'.bool-wt, (Make'.struct-wt Ref.the-type Laws'5.the-laws (Make'.u32-wt, (Make'.u32-wt, tt)), (Make'.struct-wt Ref.the-type Laws'5.the-laws
+              (Make'.u32-wt, (Make'.u32-wt, tt)), tt))), (Make'.u64-wt, (Make'.u64-wt, (Make'.u32-wt, (Whole.enum-wt Context.the-type Laws'3.the-laws (tt,
+              (tt, (tt, (tt, (tt, (tt, (tt, tt))))))), (Make'.bool-wt, tt))))))), (Make'.u64-wt, (Make'.u64-wt, (Make'.u64-wt, (Make'.bool-wt, (Make'.bool-wt,
+              (Whole.enum-wt Cause.the-type Laws''.the-laws (tt, (tt, (tt, (tt, (tt, (tt, (tt, (tt, (tt, (tt, (tt, (tt, (tt, tt))))))))))))), (Make'.u64-wt,
               tt)))))))) (m .1 .1 .1 .1 .1 .1 .1 .1 .1 .0, (m .1 .1 .1 .1 .1 .1 .1 .1 .1 .1 .0, (m .1 .1 .1 .1 .1 .1 .1 .1 .1 .1 .1 .0, (m .1 .1 .1 .1 .1 .1
               .1 .1 .1 .1 .1 .1 .0, (Bool.true, (Iteration.struct .as-values (m .1 .1 .1 .1 .1 .1 .1 .1 .1 .1 .1 .1 .1 .1 .1 .0) .1 .1 .1 .1 .1 .0, (m .1 .1
               .1 .1 .1 .1 .1 .1 .1 .1 .1 .1 .1 .1 .1 .1 .1 .0, (Iteration.struct .as-values (m .1 .1 .1 .1 .1 .1 .1 .1 .1 .1 .1 .1 .1 .1 .1 .0) .1 .1 .0,
               tt))))))))) d17
           d19 : Typed.Typed 𝓤 H A 𝓣 E (gx t20 t21 l0) b20 Δ5 (at19 bs)
           d19 = Typed.s-seq 𝓤 H A W 𝓣 E (gx t20 t21 l0) (gx t20 t24 l0) b16 b19 Δ5 (Typed.pass (cx t20 t21) (cx t20 t24) (s29 bs)) (at18 bs)
-              (CopyOut.t-copy-told 𝓤 H A W E 𝓣 (Declared.row Cause.the-type) Path'.refl (Laws'8.val Cause.the-type Laws.the-laws) (Laws'8.lawful
-              Cause.the-type Laws.the-laws 𝓤 H A W tt) (Laws'8.makes Cause.the-type Laws.the-plain 𝓤 H A) (gx t20 t21 l0) 17 (Scalar.oFld 15 ((Syntax.field 6)
-              ∷ []) y7 86 λ x. Laws'8.val Cause.the-type Laws.the-laws (Iteration.struct .as-values x .1 .1 .1 .1 .1 .1 .0)) (λ m. Iteration.struct .as-values
-              (m .1 .1 .1 .1 .1 .1 .1 .1 .1 .1 .1 .1 .1 .1 .1 .0) .1 .1 .1 .1 .1 .1 .0) (λ m. Laws'9.Is (Declared'.row Iteration.the-type) (m .1 .1 .1 .1 .1
-              .1 .1 .1 .1 .1 .1 .1 .1 .1 .1 .0) (Laws'10.vals Iteration.the-type Laws'4.the-laws (m .1 .1 .1 .1 .1 .1 .1 .1 .1 .1 .1 .1 .1 .1 .1 .0)))
-              (Reads'.room-gone 𝓤 H A y7) (Reads.reads-field 𝓤 H A W Iteration.the-type Laws'4.the-laws 6 y7 86 Path'.refl, Path'.refl) Path'.refl (λ ρ m.
-              Make'.tells-row 𝓤 H A W E ρ (Row.out 17 ((gx t20 t21 l0) .locals)) m 15 (Laws'9.Is (Declared'.row Iteration.the-type) (m .1 .1 .1 .1 .1 .1 .1 .1
-              .1 .1 .1 .1 .1 .1 .1 .0) (Laws'10.vals Iteration.the-type Laws'4.the-laws (m .1 .1 .1 .1 .1 .1 .1 .1 .1 .1 .1 .1 .1 .1 .1 .0))) (Make'.whole-is
-              𝓤 H A W E (Declared'.row Iteration.the-type) Path'.refl (Laws'10.val Iteration.the-type Laws'4.the-laws) (Laws'10.tells Iteration.the-type
-              Laws'4.the-laws) ρ 15 (m .1 .1 .1 .1 .1 .1 .1 .1 .1 .1 .1 .1 .1 .1 .1 .0))) (λ m k wa. Path'.refl) λ m k wa. Laws'10.owed Iteration.the-type
-              Laws'4.the-laws (m .1 .1 .1 .1 .1 .1 .1 .1 .1 .1 .1 .1 .1 .1 .1 .0) (Laws'10.vals Iteration.the-type Laws'4.the-laws (m .1 .1 .1 .1 .1 .1 .1 .1
-              .1 .1 .1 .1 .1 .1 .1 .0)) k .1 .1 .1 .1 .1 .1 .0) d18
+              (CopyOut.t-copy-told 𝓤 H A W E 𝓣 (Declared.row Cause.the-type) Path'.refl (Laws'8.val Cause.the-type Laws''.the-laws) (Laws'8.lawful
+              Cause.the-type Laws''.the-laws 𝓤 H A W tt) (Laws'8.makes Cause.the-type Laws''.the-plain 𝓤 H A) (gx t20 t21 l0) 17 (Scalar.oFld 15
+              ((Syntax.field 6) ∷ []) y7 86 λ x. Laws'8.val Cause.the-type Laws''.the-laws (Iteration.struct .as-values x .1 .1 .1 .1 .1 .1 .0)) (λ m.
+              Iteration.struct .as-values (m .1 .1 .1 .1 .1 .1 .1 .1 .1 .1 .1 .1 .1 .1 .1 .0) .1 .1 .1 .1 .1 .1 .0) (λ m. Laws'9.Is (Declared'.row
+              Iteration.the-type) (m .1 .1 .1 .1 .1 .1 .1 .1 .1 .1 .1 .1 .1 .1 .1 .0) (Laws'10.vals Iteration.the-type Laws'6.the-laws (m .1 .1 .1 .1 .1 .1 .1
+              .1 .1 .1 .1 .1 .1 .1 .1 .0))) (Reads'.room-gone 𝓤 H A y7) (Reads.reads-field 𝓤 H A W Iteration.the-type Laws'6.the-laws 6 y7 86 Path'.refl,
+              Path'.refl) Path'.refl (λ ρ m. Make'.tells-row 𝓤 H A W E ρ (Row.out 17 ((gx t20 t21 l0) .locals)) m 15 (Laws'9.Is (Declared'.row
+              Iteration.the-type) (m .1 .1 .1 .1 .1 .1 .1 .1 .1 .1 .1 .1 .1 .1 .1 .0) (Laws'10.vals Iteration.the-type Laws'6.the-laws (m .1 .1 .1 .1 .1 .1 .1
+              .1 .1 .1 .1 .1 .1 .1 .1 .0))) (Make'.whole-is 𝓤 H A W E (Declared'.row Iteration.the-type) Path'.refl (Laws'10.val Iteration.the-type
+              Laws'6.the-laws) (Laws'10.tells Iteration.the-type Laws'6.the-laws) ρ 15 (m .1 .1 .1 .1 .1 .1 .1 .1 .1 .1 .1 .1 .1 .1 .1 .0))) (λ m k wa.
+              Path'.refl) λ m k wa. Laws'10.owed Iteration.the-type Laws'6.the-laws (m .1 .1 .1 .1 .1 .1 .1 .1 .1 .1 .1 .1 .1 .1 .1 .0) (Laws'10.vals
+              Iteration.the-type Laws'6.the-laws (m .1 .1 .1 .1 .1 .1 .1 .1 .1 .1 .1 .1 .1 .1 .1 .0)) k .1 .1 .1 .1 .1 .1 .0) d18
           d20 : Typed.Typed 𝓤 H A 𝓣 E (gx t20 t22 l0) b20 Δ5 (at20 bs)
           d20 = Typed.g-pre 𝓤 H A W 𝓣 E (gx t20 t22 l0) (gx t20 t21 l0) b20 Δ5 (Typed.pass (cx t20 t22) (cx t20 t21) (s28 bs)) (at19 bs) (Scalar.g-room 𝓤 H A
               W E (gx t20 t22 l0) 20 Syntax.tyBool (Scalar.room-sc 𝓤 H A W Row.sBool)) d19
@@ -1125,8 +1125,8 @@ module _ (claims· : Claims) where
               t47 t21 l0) (gx t7 t21 l0) b30 (λ Ψ. Typed.pass (cx t35 t21) (cx t20 t21) (s62 bs) (Typed.pass (cx t20 t21) (cx t47 t21) (s63 bs) Ψ))
               (Typed.pass (cx t47 t21) (cx t7 t21) (s64 bs)) (Typed.g-post 𝓤 H A W 𝓣 E (gx t35 t21 l0) (gx t20 t21 l0) (gx t47 t21 l0) b30 (Typed.pass (cx t35
               t21) (cx t20 t21) (s62 bs)) (Typed.pass (cx t20 t21) (cx t47 t21) (s63 bs)) (Scalar.t-use 𝓤 H A W E 𝓣 (gx t35 t21 l0) (Scalar.oFld 15
-              ((Syntax.field 1) ∷ []) y3 56 (Reads.fieldV Iteration.the-type Laws'4.the-laws 1)) 10 (Rows.sc-here (Row.sInt Syntax.w64)) y3 (Row.valS
-              (Row.sInt Syntax.w64)) (Row.sInt Syntax.w64 .of) (Reads.reads-field 𝓤 H A W Iteration.the-type Laws'4.the-laws 1 y3 56 Path'.refl, Path'.refl)
+              ((Syntax.field 1) ∷ []) y3 56 (Reads.fieldV Iteration.the-type Laws'6.the-laws 1)) 10 (Rows.sc-here (Row.sInt Syntax.w64)) y3 (Row.valS
+              (Row.sInt Syntax.w64)) (Row.sInt Syntax.w64 .of) (Reads.reads-field 𝓤 H A W Iteration.the-type Laws'6.the-laws 1 y3 56 Path'.refl, Path'.refl)
               (Reads'.room-gone 𝓤 H A y3) (Scalar.holds-sc 𝓤 H A W (Row.sInt Syntax.w64)) Path'.refl (λ u. Path'.refl) λ u. tt) (Scalar.g-room 𝓤 H A W E (gx
               t20 t21 l0) 13 y3 (Scalar.room-sc 𝓤 H A W (Row.sInt Syntax.w64)))) (Scalar.g-room 𝓤 H A W E (gx t47 t21 l0) 15 y8 (Local.room-whole 𝓤 H A W
               (Declared'.row Iteration.the-type) y8 Path'.refl))) (Scalar.g-room 𝓤 H A W E (gx t7 t21 l0) 16 Syntax.tyBool (Scalar.room-sc 𝓤 H A W
@@ -1154,7 +1154,7 @@ module _ (claims· : Claims) where
               13 λ x. x, (record { pos = 19; st = []; d = 0; at = λ x. x }, tt))) 24 (6 ∷ []) (Call.sub-id 𝓤 H A W ((gx g42 t43 l10) .slots)) (Reads'.as-is 𝓤
               H A (Rows.mref (Array.Array (Array.Array (Referent.rtF (Referent.fInt Syntax.w32)) 4) 32) y14 6), Reads'.reads-mref 𝓤 H A W (Array.Array
               (Array.Array (Referent.rtF (Referent.fInt Syntax.w32)) 4) 32) y14 6, Path'.refl, ((Scalar.reads-sc 𝓤 H A W (Row.sInt Syntax.w64), Path'.refl),
-              ((Yields.yields-copy 𝓤 H A W (λ ρ. Unit) (Declared'.row Open.the-type) Path'.refl (Copies.cStruct Open.the-type Laws''.the-laws Laws''.the-copy
+              ((Yields.yields-copy 𝓤 H A W (λ ρ. Unit) (Declared'.row Open.the-type) Path'.refl (Copies.cStruct Open.the-type Laws'4.the-laws Laws'4.the-copy
               .copy 𝓤 H A W) (Rows.whole (Declared'.row Open.the-type)) (λ x. x) (λ x. x) (λ ρ told. Local.mem-whole 𝓤 H A W (Declared'.row Open.the-type) ρ)
               λ ρ told. Local.whole-mem 𝓤 H A W (Declared'.row Open.the-type) ρ, Path'.refl), tt))) (Reads'.room-gone 𝓤 H A Syntax.tyUnit) (tt, tt)
               Path'.refl) d32
@@ -1169,7 +1169,7 @@ module _ (claims· : Claims) where
               tt)))))))))))))))))))))))))))) d34
           d36 : Typed.Typed 𝓤 H A 𝓣 E (gx t35 t21 l0) b33 Δ3 (at36 bs)
           d36 = Typed.s-seq 𝓤 H A W 𝓣 E (gx t35 t21 l0) (gx t35 t41 l0) b27 b32 Δ3 (Typed.both (s53 bs)) (at35 bs) (WayStmt.t-way-copy-out 𝓤 H A W E 𝓣
-              (Declared'.row Open.the-type) Path'.refl (Copies.cStruct Open.the-type Laws''.the-laws Laws''.the-copy .copy 𝓤 H A W) (λ ρ. Unit) (gx t35 t21
+              (Declared'.row Open.the-type) Path'.refl (Copies.cStruct Open.the-type Laws'4.the-laws Laws'4.the-copy .copy 𝓤 H A W) (λ ρ. Unit) (gx t35 t21
               l0) (Row.out 15 ((gx t35 t21 l0) .locals)) (λ u. Row.drop 15 ((gx t35 t21 l0) .locals) u) ((gx t35 t21 l0) .slots) 15 (λ t. (Syntax.field 3) ∷
               t) y6 y6 19 (Rows.whole (Declared'.row Open.the-type)) (λ x. x) (λ u. At.getAt (Iteration.the-type .parts) 3 (Iteration.struct .as-values (u .1
               .1 .1 .1 .1 .1 .1 .1 .1 .1 .1 .1 .1 .1 .1 .0))) (λ u. (Row.hd 0 (Row.tl (Row.tl (Row.tl (Row.tl (Row.tl (Row.tl (Row.tl (Row.tl (Row.tl (Row.tl
@@ -1189,7 +1189,7 @@ module _ (claims· : Claims) where
               .1 .1 .1 .1 .1 .1 .0) (u .1 .1 .1 .1 .1 .1 .1 .1 .1 .1 .1 .1 .1 .1 .1 .0) (At.getAt (Iteration.the-type .parts) 3 (Iteration.struct .as-values
               (u .1 .1 .1 .1 .1 .1 .1 .1 .1 .1 .1 .1 .1 .1 .1 .0))) (At.getAt (Iteration.the-type .parts) 3 (Iteration.struct .as-values (u .1 .1 .1 .1 .1 .1
               .1 .1 .1 .1 .1 .1 .1 .1 .1 .0))) (Row.hd 0 (Row.tl (Row.tl (Row.tl (Row.tl (Row.tl (Row.tl (Row.tl (Row.tl (Row.tl (Row.tl (Row.tl (Row.tl
-              (Row.tl (Row.tl (Row.tl bs))))))))))))))), 0) (Behind.look-at 𝓤 H A W q Iteration.the-type Laws'4.the-laws 3 72 Path'.refl Path'.refl (Row.hd 0
+              (Row.tl (Row.tl (Row.tl bs))))))))))))))), 0) (Behind.look-at 𝓤 H A W q Iteration.the-type Laws'6.the-laws 3 72 Path'.refl Path'.refl (Row.hd 0
               (Row.tl (Row.tl (Row.tl (Row.tl (Row.tl (Row.tl (Row.tl (Row.tl (Row.tl (Row.tl (Row.tl (Row.tl (Row.tl (Row.tl (Row.tl bs))))))))))))))), 0) (u
               .1 .1 .1 .1 .1 .1 .1 .1 .1 .1 .1 .1 .1 .1 .1 .0) (Iteration.struct .as-values (u .1 .1 .1 .1 .1 .1 .1 .1 .1 .1 .1 .1 .1 .1 .1 .0)) Path'.refl))
               (Reads'.room-gone 𝓤 H A y6) (Yields.makes-mem 𝓤 H A W (λ ρ. Unit) (Declared'.row Open.the-type) Path'.refl (Rows.whole (Declared'.row
@@ -1201,14 +1201,14 @@ module _ (claims· : Claims) where
           d38 = Typed.s-seq 𝓤 H A W 𝓣 E (gx t39 t40 l0) (gx t35 t40 l0) b26 b33 Δ3 (Typed.pass (cx t39 t40) (cx t35 t40) (s51 bs)) (at37 bs)
               (LocalCopy.t-val-copy 𝓤 H A W E 𝓣 (λ ρ. Unit) (gx t39 t40 l0) 18 9 (Declared'.row Run.the-type) y5 y5 (Rows.whole (Declared'.row Run.the-type))
               (Rows.whole (Declared'.row Run.the-type)) (λ x. x) (λ x. x) (λ x. x) Path'.refl (Own.told-none 𝓤 H A ((gx t39 t40 l0) .slots))
-              (Yields.yields-copy 𝓤 H A W (λ ρ. Unit) (Declared'.row Run.the-type) Path'.refl (Copies.cStruct Run.the-type Laws'7.the-laws Laws'7.the-copy
-              .copy 𝓤 H A W) (Rows.whole (Declared'.row Run.the-type)) (λ x. x) (λ x. x) (λ ρ told. Local.mem-whole 𝓤 H A W (Declared'.row Run.the-type) ρ) λ
-              ρ told. Local.whole-mem 𝓤 H A W (Declared'.row Run.the-type) ρ) (Reads'.room-gone 𝓤 H A y5) (Yields.makes-mem 𝓤 H A W (λ ρ. Unit) (Declared'.row
+              (Yields.yields-copy 𝓤 H A W (λ ρ. Unit) (Declared'.row Run.the-type) Path'.refl (Copies.cStruct Run.the-type Laws'.the-laws Laws'.the-copy .copy
+              𝓤 H A W) (Rows.whole (Declared'.row Run.the-type)) (λ x. x) (λ x. x) (λ ρ told. Local.mem-whole 𝓤 H A W (Declared'.row Run.the-type) ρ) λ ρ
+              told. Local.whole-mem 𝓤 H A W (Declared'.row Run.the-type) ρ) (Reads'.room-gone 𝓤 H A y5) (Yields.makes-mem 𝓤 H A W (λ ρ. Unit) (Declared'.row
               Run.the-type) Path'.refl (Rows.whole (Declared'.row Run.the-type)) (λ x. x) λ ρ told. Local.whole-mem 𝓤 H A W (Declared'.row Run.the-type) ρ)
               Path'.refl Path'.refl) d37
           d39 : Typed.Typed 𝓤 H A 𝓣 E (gx t39 t21 l0) b35 Δ3 (at39 bs)
           d39 = Typed.s-seq 𝓤 H A W 𝓣 E (gx t39 t21 l0) (gx t39 t40 l0) b25 b34 Δ3 (Typed.both (s50 bs)) (at38 bs) (WayStmt.t-way-copy-out 𝓤 H A W E 𝓣
-              (Declared'.row Run.the-type) Path'.refl (Copies.cStruct Run.the-type Laws'7.the-laws Laws'7.the-copy .copy 𝓤 H A W) (λ ρ. Unit) (gx t39 t21 l0)
+              (Declared'.row Run.the-type) Path'.refl (Copies.cStruct Run.the-type Laws'.the-laws Laws'.the-copy .copy 𝓤 H A W) (λ ρ. Unit) (gx t39 t21 l0)
               (Row.out 15 ((gx t39 t21 l0) .locals)) (λ u. Row.drop 15 ((gx t39 t21 l0) .locals) u) ((gx t39 t21 l0) .slots) 15 (λ t. (Syntax.field 0) ∷ t) y5
               y5 18 (Rows.whole (Declared'.row Run.the-type)) (λ x. x) (λ u. At.getAt (Iteration.the-type .parts) 0 (Iteration.struct .as-values (u .1 .1 .1
               .1 .1 .1 .1 .1 .1 .1 .1 .1 .1 .1 .1 .0))) (λ u. (Row.hd 0 (Row.tl (Row.tl (Row.tl (Row.tl (Row.tl (Row.tl (Row.tl (Row.tl (Row.tl (Row.tl
@@ -1228,7 +1228,7 @@ module _ (claims· : Claims) where
               .1 .1 .1 .1 .1 .1 .0) (u .1 .1 .1 .1 .1 .1 .1 .1 .1 .1 .1 .1 .1 .1 .1 .0) (At.getAt (Iteration.the-type .parts) 0 (Iteration.struct .as-values
               (u .1 .1 .1 .1 .1 .1 .1 .1 .1 .1 .1 .1 .1 .1 .1 .0))) (At.getAt (Iteration.the-type .parts) 0 (Iteration.struct .as-values (u .1 .1 .1 .1 .1 .1
               .1 .1 .1 .1 .1 .1 .1 .1 .1 .0))) (Row.hd 0 (Row.tl (Row.tl (Row.tl (Row.tl (Row.tl (Row.tl (Row.tl (Row.tl (Row.tl (Row.tl (Row.tl (Row.tl
-              (Row.tl (Row.tl (Row.tl bs))))))))))))))), 0) (Behind.look-at 𝓤 H A W q Iteration.the-type Laws'4.the-laws 0 0 Path'.refl Path'.refl (Row.hd 0
+              (Row.tl (Row.tl (Row.tl bs))))))))))))))), 0) (Behind.look-at 𝓤 H A W q Iteration.the-type Laws'6.the-laws 0 0 Path'.refl Path'.refl (Row.hd 0
               (Row.tl (Row.tl (Row.tl (Row.tl (Row.tl (Row.tl (Row.tl (Row.tl (Row.tl (Row.tl (Row.tl (Row.tl (Row.tl (Row.tl (Row.tl bs))))))))))))))), 0) (u
               .1 .1 .1 .1 .1 .1 .1 .1 .1 .1 .1 .1 .1 .1 .1 .0) (Iteration.struct .as-values (u .1 .1 .1 .1 .1 .1 .1 .1 .1 .1 .1 .1 .1 .1 .1 .0)) Path'.refl))
               (Reads'.room-gone 𝓤 H A y5) (Yields.makes-mem 𝓤 H A W (λ ρ. Unit) (Declared'.row Run.the-type) Path'.refl (Rows.whole (Declared'.row
@@ -1243,8 +1243,8 @@ module _ (claims· : Claims) where
               W E (gx t37 t21 l0) 9 y5 (Local.room-whole 𝓤 H A W (Declared'.row Run.the-type) y5 Path'.refl)) d40
           d42 : Typed.Typed 𝓤 H A 𝓣 E (gx t23 t21 l0) b37 Δ3 (at42 bs)
           d42 = Typed.s-seq 𝓤 H A W 𝓣 E (gx t23 t21 l0) (gx t37 t21 l0) b23 b36 Δ3 (Typed.pass (cx t23 t21) (cx t37 t21) (s47 bs)) (at41 bs) (Scalar.t-use 𝓤 H
-              A W E 𝓣 (gx t23 t21 l0) (Scalar.oFld 9 ((Syntax.field 3) ∷ []) y3 40 (Reads.fieldV Run.the-type Laws'7.the-laws 3)) 11 (Rows.sc-here (Row.sInt
-              Syntax.w64)) y3 (Row.valS (Row.sInt Syntax.w64)) (Row.sInt Syntax.w64 .of) (Reads.reads-field 𝓤 H A W Run.the-type Laws'7.the-laws 3 y3 40
+              A W E 𝓣 (gx t23 t21 l0) (Scalar.oFld 9 ((Syntax.field 3) ∷ []) y3 40 (Reads.fieldV Run.the-type Laws'.the-laws 3)) 11 (Rows.sc-here (Row.sInt
+              Syntax.w64)) y3 (Row.valS (Row.sInt Syntax.w64)) (Row.sInt Syntax.w64 .of) (Reads.reads-field 𝓤 H A W Run.the-type Laws'.the-laws 3 y3 40
               Path'.refl, Path'.refl) (Reads'.room-gone 𝓤 H A y3) (Scalar.holds-sc 𝓤 H A W (Row.sInt Syntax.w64)) Path'.refl (λ u. Path'.refl) λ u. tt) d41
           d43 : Typed.Typed 𝓤 H A 𝓣 E (gx t20 t22 l0) b38 Δ3 (at43 bs)
           d43 = Typed.t-seq 𝓤 H A W 𝓣 E (gx t20 t22 l0) (gx t23 t21 l0) b22 b37 Δ3 (at26 bs) (at42 bs) d26 d42
@@ -1255,8 +1255,8 @@ module _ (claims· : Claims) where
               Path'.refl) λ u. tt) d43
           d45 : Typed.Typed 𝓤 H A 𝓣 E (gx t20 t1 l0) b40 Δ3 (at45 bs)
           d45 = Typed.s-seq 𝓤 H A W 𝓣 E (gx t20 t1 l0) (gx t20 t21 l0) b14 b39 Δ3 (Typed.pass (cx t20 t1) (cx t20 t21) (s26 bs)) (at44 bs) (Scalar.t-use 𝓤 H A
-              W E 𝓣 (gx t20 t1 l0) (Scalar.oFld 15 ((Syntax.field 4) ∷ []) Syntax.tyBool 84 (Reads.fieldV Iteration.the-type Laws'4.the-laws 4)) 16
-              (Rows.sc-here Row.sBool) Syntax.tyBool (Row.valS Row.sBool) (Row.sBool .of) (Reads.reads-field 𝓤 H A W Iteration.the-type Laws'4.the-laws 4
+              W E 𝓣 (gx t20 t1 l0) (Scalar.oFld 15 ((Syntax.field 4) ∷ []) Syntax.tyBool 84 (Reads.fieldV Iteration.the-type Laws'6.the-laws 4)) 16
+              (Rows.sc-here Row.sBool) Syntax.tyBool (Row.valS Row.sBool) (Row.sBool .of) (Reads.reads-field 𝓤 H A W Iteration.the-type Laws'6.the-laws 4
               Syntax.tyBool 84 Path'.refl, Path'.refl) (Reads'.room-gone 𝓤 H A Syntax.tyBool) (Scalar.holds-sc 𝓤 H A W Row.sBool) Path'.refl (λ u. Path'.refl)
               λ u. tt) d44
           d46 : Typed.Typed 𝓤 H A 𝓣 E (gx t20 t1 l8) b40 Δ3 (at46 bs)
@@ -1280,11 +1280,11 @@ module _ (claims· : Claims) where
               (Referent.rtF (Referent.fInt Syntax.w8)) 256) y18 0, Path'.refl, ((Scalar.reads-sc 𝓤 H A W (Row.sInt Syntax.w32), Path'.refl),
               (ShrSlice.spares-sslice 𝓤 H A W (Referent.rtF (Referent.fInt Syntax.w8)) y19 1, Shared.reads-sslice 𝓤 H A W (Referent.rtF (Referent.fInt
               Syntax.w8)) y19 1, Path'.refl, (Reads'.as-is 𝓤 H A (Mut.mslice NodeRecordT.row y12 5), Mut.reads-mslice 𝓤 H A W NodeRecordT.row y12 5,
-              Path'.refl, ((Yields.yields-copy 𝓤 H A W (λ ρ. Unit) (Declared'.row Run.the-type) Path'.refl (Copies.cStruct Run.the-type Laws'7.the-laws
-              Laws'7.the-copy .copy 𝓤 H A W) (Rows.whole (Declared'.row Run.the-type)) (λ x. x) (λ x. x) (λ ρ told. Local.mem-whole 𝓤 H A W (Declared'.row
+              Path'.refl, ((Yields.yields-copy 𝓤 H A W (λ ρ. Unit) (Declared'.row Run.the-type) Path'.refl (Copies.cStruct Run.the-type Laws'.the-laws
+              Laws'.the-copy .copy 𝓤 H A W) (Rows.whole (Declared'.row Run.the-type)) (λ x. x) (λ x. x) (λ ρ told. Local.mem-whole 𝓤 H A W (Declared'.row
               Run.the-type) ρ) λ ρ told. Local.whole-mem 𝓤 H A W (Declared'.row Run.the-type) ρ, Path'.refl), ((Scalar.reads-sc 𝓤 H A W (Row.sInt Syntax.w64),
-              Path'.refl), ((Yields.yields-copy 𝓤 H A W (λ ρ. Unit) (Declared'.row Open.the-type) Path'.refl (Copies.cStruct Open.the-type Laws''.the-laws
-              Laws''.the-copy .copy 𝓤 H A W) (Rows.whole (Declared'.row Open.the-type)) (λ x. x) (λ x. x) (λ ρ told. Local.mem-whole 𝓤 H A W (Declared'.row
+              Path'.refl), ((Yields.yields-copy 𝓤 H A W (λ ρ. Unit) (Declared'.row Open.the-type) Path'.refl (Copies.cStruct Open.the-type Laws'4.the-laws
+              Laws'4.the-copy .copy 𝓤 H A W) (Rows.whole (Declared'.row Open.the-type)) (λ x. x) (λ x. x) (λ ρ told. Local.mem-whole 𝓤 H A W (Declared'.row
               Open.the-type) ρ) λ ρ told. Local.whole-mem 𝓤 H A W (Declared'.row Open.the-type) ρ, Path'.refl), tt))))))) (Reads'.room-gone 𝓤 H A y8) (tt,
               (tt, (tt, tt))) Path'.refl) d49
           d51 : Typed.Typed 𝓤 H A 𝓣 E (gx g14 t15 l6) b42 Δ3 (at51 bs)
@@ -1337,13 +1337,13 @@ module _ (claims· : Claims) where
           d62 = Typed.t-seq 𝓤 H A W 𝓣 E (gx t7 t8 l0) (gx t7 t1 l0) b7 b46 Δ3 (at4 bs) (at61 bs) d4 d61
           d63 : Typed.Typed 𝓤 H A 𝓣 E (gx t7 t1 l0) b48 Δ3 (at63 bs)
           d63 = Typed.s-seq 𝓤 H A W 𝓣 E (gx t7 t1 l0) (gx t7 t8 l0) b4 b47 Δ3 (Typed.ask (s7 bs)) (at62 bs) (Scalar.t-op2 𝓤 H A W E 𝓣 (gx t7 t1 l0) (Syntax.le
-              Syntax.unsigned) (Scalar.oFld 9 ((Syntax.field 3) ∷ []) y3 40 (Reads.fieldV Run.the-type Laws'7.the-laws 3)) (Scalar.oAt 8 y3 (Row.valS
-              (Row.sInt Syntax.w64))) 20 (Rows.sc-here Row.sBool) Syntax.tyBool (Row.valS Row.sBool) (Row.sBool .of) (Reads.reads-field 𝓤 H A W Run.the-type
-              Laws'7.the-laws 3 y3 40 Path'.refl, Path'.refl) (Scalar.reads-sc 𝓤 H A W (Row.sInt Syntax.w64), Path'.refl) (Reads'.room-gone 𝓤 H A
+              Syntax.unsigned) (Scalar.oFld 9 ((Syntax.field 3) ∷ []) y3 40 (Reads.fieldV Run.the-type Laws'.the-laws 3)) (Scalar.oAt 8 y3 (Row.valS (Row.sInt
+              Syntax.w64))) 20 (Rows.sc-here Row.sBool) Syntax.tyBool (Row.valS Row.sBool) (Row.sBool .of) (Reads.reads-field 𝓤 H A W Run.the-type
+              Laws'.the-laws 3 y3 40 Path'.refl, Path'.refl) (Scalar.reads-sc 𝓤 H A W (Row.sInt Syntax.w64), Path'.refl) (Reads'.room-gone 𝓤 H A
               Syntax.tyBool) (Scalar.holds-sc 𝓤 H A W Row.sBool) Path'.refl (λ u. Path'.refl) λ u. tt) d62
           d64 : Typed.Typed 𝓤 H A 𝓣 E (gx t7 t1 l0) b48 Δ3 (at64 bs)
           d64 = Typed.g-pre 𝓤 H A W 𝓣 E (gx t7 t1 l0) (gx t7 t1 l0) b48 Δ3 (Typed.give (s6 bs)) (at63 bs) (Know'.g-struct-known 𝓤 H A W E Run.the-type
-              Laws'7.the-laws (gx t7 t1 l0) 9 (λ x. x) (Reads'.as-is 𝓤 H A (Rows.whole (Declared'.row Run.the-type)))) d63
+              Laws'.the-laws (gx t7 t1 l0) 9 (λ x. x) (Reads'.as-is 𝓤 H A (Rows.whole (Declared'.row Run.the-type)))) d63
           d65 : Typed.Typed 𝓤 H A 𝓣 E (gx t7 t1 l0) b49 Δ2 (at65 bs)
           d65 = Typed.t-loop-by 𝓤 H A W 𝓣 E (gx t7 t1 l0) b48 Δ2 put0 (λ u vs. Inv·0 (Row.get 1 ((cx t7 t1) .locals) u .now) (Row.get 2 ((cx t7 t1) .locals)
               u) (Row.get 3 ((cx t7 t1) .locals) u .now) (Row.get 4 ((cx t7 t1) .locals) u .now) (Row.get 5 ((cx t7 t1) .locals) u .now) (Row.get 7 ((cx t7
@@ -1387,29 +1387,29 @@ module _ (claims· : Claims) where
               W E (gx t49 t48 l0) 9 y5 (Local.room-whole 𝓤 H A W (Declared'.row Run.the-type) y5 Path'.refl)) d75
           d77 : Typed.Typed 𝓤 H A 𝓣 E (gx t7 t48 l0) b54 Δ0 (at77 bs)
           d77 = Typed.s-seq 𝓤 H A W 𝓣 E (gx t7 t48 l0) (gx t49 t48 l0) b52 b53 Δ0 (Typed.pass (cx t7 t48) (cx t49 t48) (s67 bs)) (at76 bs)
-              (Make'.t-struct-make 𝓤 H A W E 𝓣 (Apart.apartT Reached.the-type) Laws'6.the-laws Laws'6.the-plain (gx t7 t48 l0) 0 ((Scalar.oAt 9 y5
-              (Laws'10.val Run.the-type Laws'7.the-laws)) ∷ (Scalar.oAt 10 y3 (Row.valS (Row.sInt Syntax.w64))) ∷ (Scalar.oAt 11 y3 (Row.valS (Row.sInt
+              (Make'.t-struct-make 𝓤 H A W E 𝓣 (Apart.apartT Reached.the-type) Laws'7.the-laws Laws'7.the-plain (gx t7 t48 l0) 0 ((Scalar.oAt 9 y5
+              (Laws'10.val Run.the-type Laws'.the-laws)) ∷ (Scalar.oAt 10 y3 (Row.valS (Row.sInt Syntax.w64))) ∷ (Scalar.oAt 11 y3 (Row.valS (Row.sInt
               Syntax.w64))) ∷ (Scalar.oAt 12 y3 (Row.valS (Row.sInt Syntax.w64))) ∷ (Scalar.oBool Bool.false) ∷ (Scalar.oBool Bool.false) ∷ (Scalar.oAt 26 y7
-              (Laws'8.val Cause.the-type Laws.the-laws)) ∷ (Scalar.oInt Syntax.w64 0) ∷ []) (λ m. (m .1 .1 .1 .1 .1 .1 .1 .1 .1 .0, (m .1 .1 .1 .1 .1 .1 .1 .1
-              .1 .1 .0, (m .1 .1 .1 .1 .1 .1 .1 .1 .1 .1 .1 .0, (m .1 .1 .1 .1 .1 .1 .1 .1 .1 .1 .1 .1 .0, (Bool.false, (Bool.false, (m .1 .1 .1 .1 .1 .1 .1
-              .1 .1 .1 .1 .1 .1 .1 .1 .1 .1 .1 .1 .1 .1 .1 .1 .1 .1 .1 .0, (0, tt))))))))) (Reads'.room-gone 𝓤 H A y15) ((Reads.reads-struct 𝓤 H A W
-              Run.the-type Laws'7.the-laws, Path'.refl), ((Scalar.reads-sc 𝓤 H A W (Row.sInt Syntax.w64), Path'.refl), ((Scalar.reads-sc 𝓤 H A W (Row.sInt
+              (Laws'8.val Cause.the-type Laws''.the-laws)) ∷ (Scalar.oInt Syntax.w64 0) ∷ []) (λ m. (m .1 .1 .1 .1 .1 .1 .1 .1 .1 .0, (m .1 .1 .1 .1 .1 .1 .1
+              .1 .1 .1 .0, (m .1 .1 .1 .1 .1 .1 .1 .1 .1 .1 .1 .0, (m .1 .1 .1 .1 .1 .1 .1 .1 .1 .1 .1 .1 .0, (Bool.false, (Bool.false, (m .1 .1 .1 .1 .1 .1
+              .1 .1 .1 .1 .1 .1 .1 .1 .1 .1 .1 .1 .1 .1 .1 .1 .1 .1 .1 .1 .0, (0, tt))))))))) (Reads'.room-gone 𝓤 H A y15) ((Reads.reads-struct 𝓤 H A W
+              Run.the-type Laws'.the-laws, Path'.refl), ((Scalar.reads-sc 𝓤 H A W (Row.sInt Syntax.w64), Path'.refl), ((Scalar.reads-sc 𝓤 H A W (Row.sInt
               Syntax.w64), Path'.refl), ((Scalar.reads-sc 𝓤 H A W (Row.sInt Syntax.w64), Path'.refl), (tt, (tt, ((Whole.reads-enum 𝓤 H A W Cause.the-type
-              Laws.the-laws, Path'.refl), (tt, tt)))))))) Path'.refl (λ u. Path'.refl) λ m. Make'.is-wt (Apart.apartT Reached.the-type) Laws'6.the-laws
-              (Make'.struct-wt Run.the-type Laws'7.the-laws (Make'.struct-wt Ref.the-type Laws'3.the-laws (Make'.u32-wt, (Make'.u32-wt, tt)), (Make'.struct-wt
-              Pair.the-type Laws'5.the-laws (Make'.bool-wt, (Make'.struct-wt Ref.the-type Laws'3.the-laws (Make'.u32-wt, (Make'.u32-wt, tt)), (Make'.struct-wt
-              Ref.the-type Laws'3.the-laws (Make'.u32-wt, (Make'.u32-wt, tt)), tt))), (Make'.u64-wt, (Make'.u64-wt, (Make'.u32-wt, (Whole.enum-wt
-              Context.the-type Laws'.the-laws (tt, (tt, (tt, (tt, (tt, (tt, (tt, tt))))))), (Make'.bool-wt, tt))))))), (Make'.u64-wt, (Make'.u64-wt,
-              (Make'.u64-wt, (Make'.bool-wt, (Make'.bool-wt, (Whole.enum-wt Cause.the-type Laws.the-laws (tt, (tt, (tt, (tt, (tt, (tt, (tt, (tt, (tt, (tt,
+              Laws''.the-laws, Path'.refl), (tt, tt)))))))) Path'.refl (λ u. Path'.refl) λ m. Make'.is-wt (Apart.apartT Reached.the-type) Laws'7.the-laws
+              (Make'.struct-wt Run.the-type Laws'.the-laws (Make'.struct-wt Ref.the-type Laws'5.the-laws (Make'.u32-wt, (Make'.u32-wt, tt)), (Make'.struct-wt
+              Pair.the-type Laws.the-laws (Make'.bool-wt, (Make'.struct-wt Ref.the-type Laws'5.the-laws (Make'.u32-wt, (Make'.u32-wt, tt)), (Make'.struct-wt
+              Ref.the-type Laws'5.the-laws (Make'.u32-wt, (Make'.u32-wt, tt)), tt))), (Make'.u64-wt, (Make'.u64-wt, (Make'.u32-wt, (Whole.enum-wt
+              Context.the-type Laws'3.the-laws (tt, (tt, (tt, (tt, (tt, (tt, (tt, tt))))))), (Make'.bool-wt, tt))))))), (Make'.u64-wt, (Make'.u64-wt,
+              (Make'.u64-wt, (Make'.bool-wt, (Make'.bool-wt, (Whole.enum-wt Cause.the-type Laws''.the-laws (tt, (tt, (tt, (tt, (tt, (tt, (tt, (tt, (tt, (tt,
               (tt, (tt, (tt, tt))))))))))))), (Make'.u64-wt, tt)))))))) (m .1 .1 .1 .1 .1 .1 .1 .1 .1 .0, (m .1 .1 .1 .1 .1 .1 .1 .1 .1 .1 .0, (m .1 .1 .1 .1
               .1 .1 .1 .1 .1 .1 .1 .0, (m .1 .1 .1 .1 .1 .1 .1 .1 .1 .1 .1 .1 .0, (Bool.false, (Bool.false, (m .1 .1 .1 .1 .1 .1 .1 .1 .1 .1 .1 .1 .1 .1 .1 .1
               .1 .1 .1 .1 .1 .1 .1 .1 .1 .1 .0, (0, tt))))))))) d76
           d78 : Typed.Typed 𝓤 H A 𝓣 E (gx t7 t1 l0) b55 Δ0 (at78 bs)
           d78 = Typed.s-seq 𝓤 H A W 𝓣 E (gx t7 t1 l0) (gx t7 t48 l0) b51 b54 Δ0 (Typed.pass (cx t7 t1) (cx t7 t48) (s66 bs)) (at77 bs) (Make.t-enum-make-wt 𝓤
-              H A W E 𝓣 Cause.the-type Laws.the-laws Laws.the-plain tt (gx t7 t1 l0) 26 ((Scalar.oInt Syntax.w8 6) ∷ []) (λ m. Cause.enum .make (Logic.inr
+              H A W E 𝓣 Cause.the-type Laws''.the-laws Laws''.the-plain tt (gx t7 t1 l0) 26 ((Scalar.oInt Syntax.w8 6) ∷ []) (λ m. Cause.enum .make (Logic.inr
               (Logic.inr (Logic.inr (Logic.inr (Logic.inr (Logic.inr (Logic.inl tt)))))))) (Reads'.room-gone 𝓤 H A y7) (tt, tt) Path'.refl (λ m wa.
-              Make.made-val Cause.the-type Laws.the-laws [] (Cause.enum .make (Logic.inr (Logic.inr (Logic.inr (Logic.inr (Logic.inr (Logic.inr (Logic.inl
-              tt)))))))) tt (wa .1)) λ m wa. Make.made-is Cause.the-type Laws.the-laws [] (Cause.enum .make (Logic.inr (Logic.inr (Logic.inr (Logic.inr
+              Make.made-val Cause.the-type Laws''.the-laws [] (Cause.enum .make (Logic.inr (Logic.inr (Logic.inr (Logic.inr (Logic.inr (Logic.inr (Logic.inl
+              tt)))))))) tt (wa .1)) λ m wa. Make.made-is Cause.the-type Laws''.the-laws [] (Cause.enum .make (Logic.inr (Logic.inr (Logic.inr (Logic.inr
               (Logic.inr (Logic.inr (Logic.inl tt)))))))) tt (wa .1)) d77
           d79 : Typed.Typed 𝓤 H A 𝓣 E (gx t7 t1 l0) b56 Δ0 (at79 bs)
           d79 = Typed.t-seq 𝓤 H A W 𝓣 E (gx t7 t1 l0) (gx t7 t1 l0) b50 b55 Δ0 (at66 bs) (at78 bs) d66 d78
@@ -1433,7 +1433,7 @@ module _ (claims· : Claims) where
           d84 = Typed.s-seq 𝓤 H A W 𝓣 E (gx t0 t1 l0) (gx t3 t1 l0) b0 b59 Δ0 (Typed.pass (cx t0 t1) (cx t3 t1) (s1 bs)) (at83 bs) (LocalCopy.t-val-copy 𝓤 H A
               W E 𝓣 (λ ρ. Unit) (gx t0 t1 l0) 6 9 (Declared'.row Run.the-type) y5 y5 (Rows.whole (Declared'.row Run.the-type)) (Rows.whole (Declared'.row
               Run.the-type)) (λ x. x) (λ x. x) (λ x. x) Path'.refl (Own.told-none 𝓤 H A ((gx t0 t1 l0) .slots)) (Yields.yields-copy 𝓤 H A W (λ ρ. Unit)
-              (Declared'.row Run.the-type) Path'.refl (Copies.cStruct Run.the-type Laws'7.the-laws Laws'7.the-copy .copy 𝓤 H A W) (Rows.whole (Declared'.row
+              (Declared'.row Run.the-type) Path'.refl (Copies.cStruct Run.the-type Laws'.the-laws Laws'.the-copy .copy 𝓤 H A W) (Rows.whole (Declared'.row
               Run.the-type)) (λ x. x) (λ x. x) (λ ρ told. Local.mem-whole 𝓤 H A W (Declared'.row Run.the-type) ρ) λ ρ told. Local.whole-mem 𝓤 H A W
               (Declared'.row Run.the-type) ρ) (Reads'.room-gone 𝓤 H A y5) (Yields.makes-mem 𝓤 H A W (λ ρ. Unit) (Declared'.row Run.the-type) Path'.refl
               (Rows.whole (Declared'.row Run.the-type)) (λ x. x) λ ρ told. Local.whole-mem 𝓤 H A W (Declared'.row Run.the-type) ρ) Path'.refl Path'.refl) d83
@@ -1451,10 +1451,10 @@ module _ (claims· : Claims) where
           pub t : Kinds.Den {n = 4} κs (MutSlice.pMutS NodeRecordT.row 2 tt)
           pub o : Kinds.Den {n = 4} κs (Kinds.pMut (Array.Array (Array.Array (Referent.rtF (Referent.fInt Syntax.w32)) 4) 32) 3 tt)
           pub first : Kinds.Den {n = 4} κs (Value.pVal record { ty = Declared'.row Run.the-type; one = Path'.refl; val = Laws'10.val Run.the-type
-              Laws'7.the-laws; tells = Laws'10.tells Run.the-type Laws'7.the-laws; still = Laws'10.still Run.the-type Laws'7.the-copy Exit.yes; row =
-              Rows.whole (Declared'.row Run.the-type); rd = λ x. x; mk = λ x. x } λ M 𝓤 H A W. record { copies = Laws'10.copy Run.the-type Laws'7.the-copy 𝓤 H
-              A W; lawful = Laws'10.lawful Run.the-type Laws'7.the-laws 𝓤 H A W; makes = Laws'10.makes Run.the-type Laws'7.the-plain 𝓤 H A; in-mem =
-              Local.mem-whole 𝓤 H A W (Declared'.row Run.the-type); of-mem = Local.whole-mem 𝓤 H A W (Declared'.row Run.the-type) })
+              Laws'.the-laws; tells = Laws'10.tells Run.the-type Laws'.the-laws; still = Laws'10.still Run.the-type Laws'.the-copy Exit.yes; row = Rows.whole
+              (Declared'.row Run.the-type); rd = λ x. x; mk = λ x. x } λ M 𝓤 H A W. record { copies = Laws'10.copy Run.the-type Laws'.the-copy 𝓤 H A W; lawful
+              = Laws'10.lawful Run.the-type Laws'.the-laws 𝓤 H A W; makes = Laws'10.makes Run.the-type Laws'.the-plain 𝓤 H A; in-mem = Local.mem-whole 𝓤 H A W
+              (Declared'.row Run.the-type); of-mem = Local.whole-mem 𝓤 H A W (Declared'.row Run.the-type) })
           pub around : Kinds.Den {n = 4} κs (Num.pNum Syntax.w64)
           pub stop : Kinds.Den {n = 4} κs (Num.pNum Syntax.w64)
         abbrev pub dens : (a : Args) → Kinds.Dens κs ps

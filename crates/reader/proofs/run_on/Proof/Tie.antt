@@ -1,5 +1,5 @@
 -- Generated: the needs of run_on at its contract, and how its theorem closes.
--- From 9ee42f47e9b6bdb7, as 3bb6c35c23de01d3.
+-- From ca16d0e1cc319667, as 3bb6c35c23de01d3.
 use borrow.Fn.Run
 use borrow.Fn.Written
 use contract.Running.{givenOf, tablesOf}

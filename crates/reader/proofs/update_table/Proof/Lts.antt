@@ -1,11 +1,11 @@
 -- Generated: the derivation of a body.
--- From 9ee42f47e9b6bdb7, as adc343649199b7e2.
+-- From ca16d0e1cc319667, as 81b8637d0f9da8a7.
 use Prim.Native.Nat
+use Rattle.cursors.proofs.Run
+use Rattle.cursors.proofs.Run.Laws
 use Rattle.node_records.proofs.NodeRecord
-use Rattle.node_records.proofs.NodeRecord.Laws
+use Rattle.node_records.proofs.NodeRecord.Laws as Laws'
 use Rattle.node_records.proofs.Tables.NodeRecord as NodeRecordT
-use Rattle.reader.proofs.Run
-use Rattle.reader.proofs.Run.Laws as Laws'
 use Rattle.reader.proofs.Taken
 use Rattle.reader.proofs.Taken.Laws as Laws''
 use borrow.Author.Called
@@ -78,15 +78,15 @@ y5 = Syntax.tyRef (Syntax.named 0) Syntax.mut NodeRecordT.behind
 abbrev y6 : Syntax.Ty
 y6 = Syntax.tyStruct (101 ∷ 108 ∷ 101 ∷ 109 ∷ 101 ∷ 110 ∷ 116 ∷ 115 ∷ 58 ∷ 58 ∷ 82 ∷ 101 ∷ 102 ∷ []) (Syntax.tcons y3 (Syntax.tcons y3 Syntax.tnil))
 abbrev y7 : Syntax.Ty
-y7 = Syntax.tyStruct (114 ∷ 101 ∷ 97 ∷ 100 ∷ 101 ∷ 114 ∷ 58 ∷ 58 ∷ 80 ∷ 97 ∷ 105 ∷ 114 ∷ []) (Syntax.tcons Syntax.tyBool (Syntax.tcons y6 (Syntax.tcons y6
-    Syntax.tnil)))
+y7 = Syntax.tyStruct (99 ∷ 117 ∷ 114 ∷ 115 ∷ 111 ∷ 114 ∷ 115 ∷ 58 ∷ 58 ∷ 80 ∷ 97 ∷ 105 ∷ 114 ∷ []) (Syntax.tcons Syntax.tyBool (Syntax.tcons y6 (Syntax.tcons
+    y6 Syntax.tnil)))
 abbrev y8 : Syntax.Ty
 y8 = Syntax.tyEnum (101 ∷ 108 ∷ 101 ∷ 109 ∷ 101 ∷ 110 ∷ 116 ∷ 115 ∷ 58 ∷ 58 ∷ 67 ∷ 111 ∷ 110 ∷ 116 ∷ 101 ∷ 120 ∷ 116 ∷ []) (Syntax.ttcons Syntax.tnil
     (Syntax.ttcons Syntax.tnil (Syntax.ttcons Syntax.tnil (Syntax.ttcons Syntax.tnil (Syntax.ttcons Syntax.tnil (Syntax.ttcons Syntax.tnil (Syntax.ttcons
     Syntax.tnil Syntax.ttnil)))))))
 abbrev y9 : Syntax.Ty
-y9 = Syntax.tyStruct (114 ∷ 101 ∷ 97 ∷ 100 ∷ 101 ∷ 114 ∷ 58 ∷ 58 ∷ 82 ∷ 117 ∷ 110 ∷ []) (Syntax.tcons y6 (Syntax.tcons y7 (Syntax.tcons y1 (Syntax.tcons y1
-    (Syntax.tcons y3 (Syntax.tcons y8 (Syntax.tcons Syntax.tyBool Syntax.tnil)))))))
+y9 = Syntax.tyStruct (99 ∷ 117 ∷ 114 ∷ 115 ∷ 111 ∷ 114 ∷ 115 ∷ 58 ∷ 58 ∷ 82 ∷ 117 ∷ 110 ∷ []) (Syntax.tcons y6 (Syntax.tcons y7 (Syntax.tcons y1 (Syntax.tcons
+    y1 (Syntax.tcons y3 (Syntax.tcons y8 (Syntax.tcons Syntax.tyBool Syntax.tnil)))))))
 abbrev y10 : Syntax.Ty
 y10 = Syntax.tyEnum (101 ∷ 108 ∷ 101 ∷ 109 ∷ 101 ∷ 110 ∷ 116 ∷ 115 ∷ 58 ∷ 58 ∷ 67 ∷ 97 ∷ 117 ∷ 115 ∷ 101 ∷ []) (Syntax.ttcons Syntax.tnil (Syntax.ttcons
     Syntax.tnil (Syntax.ttcons Syntax.tnil (Syntax.ttcons Syntax.tnil (Syntax.ttcons Syntax.tnil (Syntax.ttcons Syntax.tnil (Syntax.ttcons Syntax.tnil
@@ -173,19 +173,19 @@ abbrev e16a : Row.Entry
 e16a = (16, Mut.msleft NodeRecordT.row y0)
 abbrev pub ps : List (Kinds.PK 1)
 ps = (MutSlice.pMutS NodeRecordT.row 0 tt) ∷ (Value.pVal record { ty = Declared.row Run.the-type; one = Path'.refl; val = Laws'3.val Run.the-type
-    Laws'.the-laws; tells = Laws'3.tells Run.the-type Laws'.the-laws; still = Laws'3.still Run.the-type Laws'.the-copy Exit.yes; row = Rows.whole
-    (Declared.row Run.the-type); rd = λ x. x; mk = λ x. x } λ M 𝓤 H A W. record { copies = Laws'3.copy Run.the-type Laws'.the-copy 𝓤 H A W; lawful =
-    Laws'3.lawful Run.the-type Laws'.the-laws 𝓤 H A W; makes = Laws'3.makes Run.the-type Laws'.the-plain 𝓤 H A; in-mem = Local.mem-whole 𝓤 H A W (Declared.row
-    Run.the-type); of-mem = Local.whole-mem 𝓤 H A W (Declared.row Run.the-type) }) ∷ (Num.pNum Syntax.w32) ∷ (Num.pNum Syntax.w32) ∷ (Value.pVal record { ty =
-    Declared.row NodeRecord.the-type; one = Path'.refl; val = Laws'3.val NodeRecord.the-type Laws.the-laws; tells = Laws'3.tells NodeRecord.the-type
-    Laws.the-laws; still = Laws'3.still NodeRecord.the-type Laws.the-copy Exit.yes; row = Rows.whole (Declared.row NodeRecord.the-type); rd = λ x. x; mk = λ
-    x. x } λ M 𝓤 H A W. record { copies = Laws'3.copy NodeRecord.the-type Laws.the-copy 𝓤 H A W; lawful = Laws'3.lawful NodeRecord.the-type Laws.the-laws 𝓤 H
-    A W; makes = Laws'3.makes NodeRecord.the-type Laws.the-plain 𝓤 H A; in-mem = Local.mem-whole 𝓤 H A W (Declared.row NodeRecord.the-type); of-mem =
-    Local.whole-mem 𝓤 H A W (Declared.row NodeRecord.the-type) }) ∷ (Value.pVal record { ty = Declared.row Taken.the-type; one = Path'.refl; val = Laws'3.val
-    Taken.the-type Laws''.the-laws; tells = Laws'3.tells Taken.the-type Laws''.the-laws; still = Laws'3.still Taken.the-type Laws''.the-copy Exit.yes; row =
-    Rows.whole (Declared.row Taken.the-type); rd = λ x. x; mk = λ x. x } λ M 𝓤 H A W. record { copies = Laws'3.copy Taken.the-type Laws''.the-copy 𝓤 H A W;
-    lawful = Laws'3.lawful Taken.the-type Laws''.the-laws 𝓤 H A W; makes = Laws'3.makes Taken.the-type Laws''.the-plain 𝓤 H A; in-mem = Local.mem-whole 𝓤 H A
-    W (Declared.row Taken.the-type); of-mem = Local.whole-mem 𝓤 H A W (Declared.row Taken.the-type) }) ∷ []
+    Laws.the-laws; tells = Laws'3.tells Run.the-type Laws.the-laws; still = Laws'3.still Run.the-type Laws.the-copy Exit.yes; row = Rows.whole (Declared.row
+    Run.the-type); rd = λ x. x; mk = λ x. x } λ M 𝓤 H A W. record { copies = Laws'3.copy Run.the-type Laws.the-copy 𝓤 H A W; lawful = Laws'3.lawful
+    Run.the-type Laws.the-laws 𝓤 H A W; makes = Laws'3.makes Run.the-type Laws.the-plain 𝓤 H A; in-mem = Local.mem-whole 𝓤 H A W (Declared.row Run.the-type);
+    of-mem = Local.whole-mem 𝓤 H A W (Declared.row Run.the-type) }) ∷ (Num.pNum Syntax.w32) ∷ (Num.pNum Syntax.w32) ∷ (Value.pVal record { ty = Declared.row
+    NodeRecord.the-type; one = Path'.refl; val = Laws'3.val NodeRecord.the-type Laws'.the-laws; tells = Laws'3.tells NodeRecord.the-type Laws'.the-laws; still
+    = Laws'3.still NodeRecord.the-type Laws'.the-copy Exit.yes; row = Rows.whole (Declared.row NodeRecord.the-type); rd = λ x. x; mk = λ x. x } λ M 𝓤 H A W.
+    record { copies = Laws'3.copy NodeRecord.the-type Laws'.the-copy 𝓤 H A W; lawful = Laws'3.lawful NodeRecord.the-type Laws'.the-laws 𝓤 H A W; makes =
+    Laws'3.makes NodeRecord.the-type Laws'.the-plain 𝓤 H A; in-mem = Local.mem-whole 𝓤 H A W (Declared.row NodeRecord.the-type); of-mem = Local.whole-mem 𝓤 H
+    A W (Declared.row NodeRecord.the-type) }) ∷ (Value.pVal record { ty = Declared.row Taken.the-type; one = Path'.refl; val = Laws'3.val Taken.the-type
+    Laws''.the-laws; tells = Laws'3.tells Taken.the-type Laws''.the-laws; still = Laws'3.still Taken.the-type Laws''.the-copy Exit.yes; row = Rows.whole
+    (Declared.row Taken.the-type); rd = λ x. x; mk = λ x. x } λ M 𝓤 H A W. record { copies = Laws'3.copy Taken.the-type Laws''.the-copy 𝓤 H A W; lawful =
+    Laws'3.lawful Taken.the-type Laws''.the-laws 𝓤 H A W; makes = Laws'3.makes Taken.the-type Laws''.the-plain 𝓤 H A; in-mem = Local.mem-whole 𝓤 H A W
+    (Declared.row Taken.the-type); of-mem = Local.whole-mem 𝓤 H A W (Declared.row Taken.the-type) }) ∷ []
 abbrev pub r : Kinds.RK 1
 r = Unit'.rUnit
 abbrev pub xs : List Syntax.Ty
@@ -193,27 +193,27 @@ xs = Syntax.tyBool ∷ Syntax.tyBool ∷ Syntax.tyBool ∷ Syntax.tyUnit ∷ y0 
 abbrev pub m : Nat.ℕ
 m = 2
 abbrev pub ps·0 : List (Kinds.PK 0)
-ps·0 = (Value.pVal record { ty = Declared.row Run.the-type; one = Path'.refl; val = Laws'3.val Run.the-type Laws'.the-laws; tells = Laws'3.tells Run.the-type
-    Laws'.the-laws; still = Laws'3.still Run.the-type Laws'.the-copy Exit.yes; row = Rows.whole (Declared.row Run.the-type); rd = λ x. x; mk = λ x. x } λ M 𝓤
-    H A W. record { copies = Laws'3.copy Run.the-type Laws'.the-copy 𝓤 H A W; lawful = Laws'3.lawful Run.the-type Laws'.the-laws 𝓤 H A W; makes = Laws'3.makes
-    Run.the-type Laws'.the-plain 𝓤 H A; in-mem = Local.mem-whole 𝓤 H A W (Declared.row Run.the-type); of-mem = Local.whole-mem 𝓤 H A W (Declared.row
+ps·0 = (Value.pVal record { ty = Declared.row Run.the-type; one = Path'.refl; val = Laws'3.val Run.the-type Laws.the-laws; tells = Laws'3.tells Run.the-type
+    Laws.the-laws; still = Laws'3.still Run.the-type Laws.the-copy Exit.yes; row = Rows.whole (Declared.row Run.the-type); rd = λ x. x; mk = λ x. x } λ M 𝓤 H
+    A W. record { copies = Laws'3.copy Run.the-type Laws.the-copy 𝓤 H A W; lawful = Laws'3.lawful Run.the-type Laws.the-laws 𝓤 H A W; makes = Laws'3.makes
+    Run.the-type Laws.the-plain 𝓤 H A; in-mem = Local.mem-whole 𝓤 H A W (Declared.row Run.the-type); of-mem = Local.whole-mem 𝓤 H A W (Declared.row
     Run.the-type) }) ∷ (Num.pNum Syntax.w32) ∷ (Value.pVal record { ty = Declared.row NodeRecord.the-type; one = Path'.refl; val = Laws'3.val
-    NodeRecord.the-type Laws.the-laws; tells = Laws'3.tells NodeRecord.the-type Laws.the-laws; still = Laws'3.still NodeRecord.the-type Laws.the-copy
+    NodeRecord.the-type Laws'.the-laws; tells = Laws'3.tells NodeRecord.the-type Laws'.the-laws; still = Laws'3.still NodeRecord.the-type Laws'.the-copy
     Exit.yes; row = Rows.whole (Declared.row NodeRecord.the-type); rd = λ x. x; mk = λ x. x } λ M 𝓤 H A W. record { copies = Laws'3.copy NodeRecord.the-type
-    Laws.the-copy 𝓤 H A W; lawful = Laws'3.lawful NodeRecord.the-type Laws.the-laws 𝓤 H A W; makes = Laws'3.makes NodeRecord.the-type Laws.the-plain 𝓤 H A;
+    Laws'.the-copy 𝓤 H A W; lawful = Laws'3.lawful NodeRecord.the-type Laws'.the-laws 𝓤 H A W; makes = Laws'3.makes NodeRecord.the-type Laws'.the-plain 𝓤 H A;
     in-mem = Local.mem-whole 𝓤 H A W (Declared.row NodeRecord.the-type); of-mem = Local.whole-mem 𝓤 H A W (Declared.row NodeRecord.the-type) }) ∷ []
 abbrev pub r·0 : Kinds.RK 0
-r·0 = Value.rVal record { ty = Declared.row NodeRecord.the-type; one = Path'.refl; val = Laws'3.val NodeRecord.the-type Laws.the-laws; tells = Laws'3.tells
-    NodeRecord.the-type Laws.the-laws; still = Laws'3.still NodeRecord.the-type Laws.the-copy Exit.yes; row = Rows.whole (Declared.row NodeRecord.the-type);
-    rd = λ x. x; mk = λ x. x } λ M 𝓤 H A W. record { copies = Laws'3.copy NodeRecord.the-type Laws.the-copy 𝓤 H A W; lawful = Laws'3.lawful
-    NodeRecord.the-type Laws.the-laws 𝓤 H A W; makes = Laws'3.makes NodeRecord.the-type Laws.the-plain 𝓤 H A; in-mem = Local.mem-whole 𝓤 H A W (Declared.row
+r·0 = Value.rVal record { ty = Declared.row NodeRecord.the-type; one = Path'.refl; val = Laws'3.val NodeRecord.the-type Laws'.the-laws; tells = Laws'3.tells
+    NodeRecord.the-type Laws'.the-laws; still = Laws'3.still NodeRecord.the-type Laws'.the-copy Exit.yes; row = Rows.whole (Declared.row NodeRecord.the-type);
+    rd = λ x. x; mk = λ x. x } λ M 𝓤 H A W. record { copies = Laws'3.copy NodeRecord.the-type Laws'.the-copy 𝓤 H A W; lawful = Laws'3.lawful
+    NodeRecord.the-type Laws'.the-laws 𝓤 H A W; makes = Laws'3.makes NodeRecord.the-type Laws'.the-plain 𝓤 H A; in-mem = Local.mem-whole 𝓤 H A W (Declared.row
     NodeRecord.the-type); of-mem = Local.whole-mem 𝓤 H A W (Declared.row NodeRecord.the-type) }
 abbrev pub ps·1 : List (Kinds.PK 1)
 ps·1 = (MutSlice.pMutS NodeRecordT.row 0 tt) ∷ (Num.pNum Syntax.w32) ∷ (Num.pNum Syntax.w32) ∷ (Value.pVal record { ty = Declared.row NodeRecord.the-type; one
-    = Path'.refl; val = Laws'3.val NodeRecord.the-type Laws.the-laws; tells = Laws'3.tells NodeRecord.the-type Laws.the-laws; still = Laws'3.still
-    NodeRecord.the-type Laws.the-copy Exit.yes; row = Rows.whole (Declared.row NodeRecord.the-type); rd = λ x. x; mk = λ x. x } λ M 𝓤 H A W. record { copies =
-    Laws'3.copy NodeRecord.the-type Laws.the-copy 𝓤 H A W; lawful = Laws'3.lawful NodeRecord.the-type Laws.the-laws 𝓤 H A W; makes = Laws'3.makes
-    NodeRecord.the-type Laws.the-plain 𝓤 H A; in-mem = Local.mem-whole 𝓤 H A W (Declared.row NodeRecord.the-type); of-mem = Local.whole-mem 𝓤 H A W
+    = Path'.refl; val = Laws'3.val NodeRecord.the-type Laws'.the-laws; tells = Laws'3.tells NodeRecord.the-type Laws'.the-laws; still = Laws'3.still
+    NodeRecord.the-type Laws'.the-copy Exit.yes; row = Rows.whole (Declared.row NodeRecord.the-type); rd = λ x. x; mk = λ x. x } λ M 𝓤 H A W. record { copies
+    = Laws'3.copy NodeRecord.the-type Laws'.the-copy 𝓤 H A W; lawful = Laws'3.lawful NodeRecord.the-type Laws'.the-laws 𝓤 H A W; makes = Laws'3.makes
+    NodeRecord.the-type Laws'.the-plain 𝓤 H A; in-mem = Local.mem-whole 𝓤 H A W (Declared.row NodeRecord.the-type); of-mem = Local.whole-mem 𝓤 H A W
     (Declared.row NodeRecord.the-type) }) ∷ []
 abbrev pub r·1 : Kinds.RK 1
 r·1 = Unit'.rUnit
@@ -663,9 +663,9 @@ module _ (claims· : Claims) where
               (claims· .3) "work_table::store" (known .1) E (λ pos β. β) (gx g11 t1 l2) (record { pos = 12; ty = y0; ref = λ x. x }, (Num.vFld 2
               ((Syntax.field 4) ∷ []) 48 λ x. Run.struct .as-values x .1 .1 .1 .1 .0, (Num.vAt 4 λ x. x, (record { pos = 13; st = []; d = 0; at = λ x. x },
               tt)))) 10 (1 ∷ []) (Call.sub-id 𝓤 H A W ((gx g11 t1 l2) .slots)) (Reads'.as-is 𝓤 H A (Mut.mslice NodeRecordT.row y0 1), Mut.reads-mslice 𝓤 H A W
-              NodeRecordT.row y0 1, Path'.refl, ((Reads.reads-field 𝓤 H A W Run.the-type Laws'.the-laws 4 y3 48 Path'.refl, Path'.refl), ((Scalar.reads-sc 𝓤 H
+              NodeRecordT.row y0 1, Path'.refl, ((Reads.reads-field 𝓤 H A W Run.the-type Laws.the-laws 4 y3 48 Path'.refl, Path'.refl), ((Scalar.reads-sc 𝓤 H
               A W (Row.sInt Syntax.w32), Path'.refl), ((Yields.yields-copy 𝓤 H A W (λ ρ. Unit) (Declared.row NodeRecord.the-type) Path'.refl (Copies.cStruct
-              NodeRecord.the-type Laws.the-laws Laws.the-copy .copy 𝓤 H A W) (Rows.whole (Declared.row NodeRecord.the-type)) (λ x. x) (λ x. x) (λ ρ told.
+              NodeRecord.the-type Laws'.the-laws Laws'.the-copy .copy 𝓤 H A W) (Rows.whole (Declared.row NodeRecord.the-type)) (λ x. x) (λ x. x) (λ ρ told.
               Local.mem-whole 𝓤 H A W (Declared.row NodeRecord.the-type) ρ) λ ρ told. Local.whole-mem 𝓤 H A W (Declared.row NodeRecord.the-type) ρ,
               Path'.refl), tt)))) (Reads'.room-gone 𝓤 H A Syntax.tyUnit) (tt, tt) Path'.refl) d10
           d12 : Typed.Typed 𝓤 H A 𝓣 E (gx g10 t1 l2) b9 Δ1 at12
@@ -675,10 +675,10 @@ module _ (claims· : Claims) where
           d13 = Typed.s-seq 𝓤 H A W 𝓣 E (gx g9 t1 l2) (gx g10 t1 l2) b4 b9 Δ1 (Typed.both s7) at12 (Plain.t-call-plain 𝓤 H A W 𝓣 0 ps·0 r·0 (claims· .0)
               (claims· .1) "reader::record_of" (known .0) E (λ pos β. β) (gx g9 t1 l2) (record { pos = 2; st = []; d = 0; at = λ x. x }, (Num.vAt 3 λ x. x,
               (record { pos = 5; st = []; d = 0; at = λ x. x }, tt))) 13 [] (Call.sub-id 𝓤 H A W ((gx g9 t1 l2) .slots)) ((Yields.yields-copy 𝓤 H A W (λ ρ.
-              Unit) (Declared.row Run.the-type) Path'.refl (Copies.cStruct Run.the-type Laws'.the-laws Laws'.the-copy .copy 𝓤 H A W) (Rows.whole (Declared.row
+              Unit) (Declared.row Run.the-type) Path'.refl (Copies.cStruct Run.the-type Laws.the-laws Laws.the-copy .copy 𝓤 H A W) (Rows.whole (Declared.row
               Run.the-type)) (λ x. x) (λ x. x) (λ ρ told. Local.mem-whole 𝓤 H A W (Declared.row Run.the-type) ρ) λ ρ told. Local.whole-mem 𝓤 H A W
               (Declared.row Run.the-type) ρ, Path'.refl), ((Scalar.reads-sc 𝓤 H A W (Row.sInt Syntax.w32), Path'.refl), ((Yields.yields-copy 𝓤 H A W (λ ρ.
-              Unit) (Declared.row NodeRecord.the-type) Path'.refl (Copies.cStruct NodeRecord.the-type Laws.the-laws Laws.the-copy .copy 𝓤 H A W) (Rows.whole
+              Unit) (Declared.row NodeRecord.the-type) Path'.refl (Copies.cStruct NodeRecord.the-type Laws'.the-laws Laws'.the-copy .copy 𝓤 H A W) (Rows.whole
               (Declared.row NodeRecord.the-type)) (λ x. x) (λ x. x) (λ ρ told. Local.mem-whole 𝓤 H A W (Declared.row NodeRecord.the-type) ρ) λ ρ told.
               Local.whole-mem 𝓤 H A W (Declared.row NodeRecord.the-type) ρ, Path'.refl), tt))) (Reads'.room-gone 𝓤 H A y4) tt Path'.refl) d12
           d14 : Typed.Typed 𝓤 H A 𝓣 E (gx g8 t1 l2) b11 Δ1 at14
@@ -806,19 +806,19 @@ module _ (claims· : Claims) where
       module _ (κs : Lifetimes.Lfts 1) where
         pub record Args : Type 0 where
           pub t : Kinds.Den {n = 1} κs (MutSlice.pMutS NodeRecordT.row 0 tt)
-          pub r : Kinds.Den {n = 1} κs (Value.pVal record { ty = Declared.row Run.the-type; one = Path'.refl; val = Laws'3.val Run.the-type Laws'.the-laws;
-              tells = Laws'3.tells Run.the-type Laws'.the-laws; still = Laws'3.still Run.the-type Laws'.the-copy Exit.yes; row = Rows.whole (Declared.row
-              Run.the-type); rd = λ x. x; mk = λ x. x } λ M 𝓤 H A W. record { copies = Laws'3.copy Run.the-type Laws'.the-copy 𝓤 H A W; lawful = Laws'3.lawful
-              Run.the-type Laws'.the-laws 𝓤 H A W; makes = Laws'3.makes Run.the-type Laws'.the-plain 𝓤 H A; in-mem = Local.mem-whole 𝓤 H A W (Declared.row
+          pub r : Kinds.Den {n = 1} κs (Value.pVal record { ty = Declared.row Run.the-type; one = Path'.refl; val = Laws'3.val Run.the-type Laws.the-laws;
+              tells = Laws'3.tells Run.the-type Laws.the-laws; still = Laws'3.still Run.the-type Laws.the-copy Exit.yes; row = Rows.whole (Declared.row
+              Run.the-type); rd = λ x. x; mk = λ x. x } λ M 𝓤 H A W. record { copies = Laws'3.copy Run.the-type Laws.the-copy 𝓤 H A W; lawful = Laws'3.lawful
+              Run.the-type Laws.the-laws 𝓤 H A W; makes = Laws'3.makes Run.the-type Laws.the-plain 𝓤 H A; in-mem = Local.mem-whole 𝓤 H A W (Declared.row
               Run.the-type); of-mem = Local.whole-mem 𝓤 H A W (Declared.row Run.the-type) })
           pub d : Kinds.Den {n = 1} κs (Num.pNum Syntax.w32)
           pub k : Kinds.Den {n = 1} κs (Num.pNum Syntax.w32)
           pub x : Kinds.Den {n = 1} κs (Value.pVal record { ty = Declared.row NodeRecord.the-type; one = Path'.refl; val = Laws'3.val NodeRecord.the-type
-              Laws.the-laws; tells = Laws'3.tells NodeRecord.the-type Laws.the-laws; still = Laws'3.still NodeRecord.the-type Laws.the-copy Exit.yes; row =
+              Laws'.the-laws; tells = Laws'3.tells NodeRecord.the-type Laws'.the-laws; still = Laws'3.still NodeRecord.the-type Laws'.the-copy Exit.yes; row =
               Rows.whole (Declared.row NodeRecord.the-type); rd = λ x. x; mk = λ x. x } λ M 𝓤 H A W. record { copies = Laws'3.copy NodeRecord.the-type
-              Laws.the-copy 𝓤 H A W; lawful = Laws'3.lawful NodeRecord.the-type Laws.the-laws 𝓤 H A W; makes = Laws'3.makes NodeRecord.the-type Laws.the-plain
-              𝓤 H A; in-mem = Local.mem-whole 𝓤 H A W (Declared.row NodeRecord.the-type); of-mem = Local.whole-mem 𝓤 H A W (Declared.row NodeRecord.the-type)
-              })
+              Laws'.the-copy 𝓤 H A W; lawful = Laws'3.lawful NodeRecord.the-type Laws'.the-laws 𝓤 H A W; makes = Laws'3.makes NodeRecord.the-type
+              Laws'.the-plain 𝓤 H A; in-mem = Local.mem-whole 𝓤 H A W (Declared.row NodeRecord.the-type); of-mem = Local.whole-mem 𝓤 H A W (Declared.row
+              NodeRecord.the-type) })
           pub y : Kinds.Den {n = 1} κs (Value.pVal record { ty = Declared.row Taken.the-type; one = Path'.refl; val = Laws'3.val Taken.the-type
               Laws''.the-laws; tells = Laws'3.tells Taken.the-type Laws''.the-laws; still = Laws'3.still Taken.the-type Laws''.the-copy Exit.yes; row =
               Rows.whole (Declared.row Taken.the-type); rd = λ x. x; mk = λ x. x } λ M 𝓤 H A W. record { copies = Laws'3.copy Taken.the-type Laws''.the-copy 𝓤

@@ -1,5 +1,5 @@
 -- Generated: the needs of update_table at its contract, and how its theorem closes.
--- From 9ee42f47e9b6bdb7, as 0a7c55da6beaaac8.
+-- From ca16d0e1cc319667, as 0a7c55da6beaaac8.
 use borrow.Fn.Run
 use borrow.Fn.Written
 use contract.Running.{givenOf, tablesOf}

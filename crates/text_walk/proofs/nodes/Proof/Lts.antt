@@ -1,5 +1,5 @@
 -- Generated: the derivation of a body.
--- From 139ef55113660c1e, as 9a50244522abbf31.
+-- From 1d85ceb810926a93, as 12d56ebae4bdf1fe.
 use Prim.Native.Nat
 use Rattle.blocks.proofs.Block
 use Rattle.blocks.proofs.Block.Laws
@@ -89,17 +89,18 @@ y4 = Syntax.tyStruct (109 ∷ 101 ∷ 101 ∷ 116 ∷ 105 ∷ 110 ∷ 103 ∷ 58
 abbrev y5 : Syntax.Ty
 y5 = Syntax.tyStruct (101 ∷ 108 ∷ 101 ∷ 109 ∷ 101 ∷ 110 ∷ 116 ∷ 115 ∷ 58 ∷ 58 ∷ 82 ∷ 101 ∷ 102 ∷ []) (Syntax.tcons y1 (Syntax.tcons y1 Syntax.tnil))
 abbrev y6 : Syntax.Ty
-y6 = Syntax.tyStruct (114 ∷ 101 ∷ 97 ∷ 100 ∷ 101 ∷ 114 ∷ 58 ∷ 58 ∷ 80 ∷ 97 ∷ 105 ∷ 114 ∷ []) (Syntax.tcons Syntax.tyBool (Syntax.tcons y5 (Syntax.tcons y5
-    Syntax.tnil)))
+y6 = Syntax.tyStruct (99 ∷ 117 ∷ 114 ∷ 115 ∷ 111 ∷ 114 ∷ 115 ∷ 58 ∷ 58 ∷ 80 ∷ 97 ∷ 105 ∷ 114 ∷ []) (Syntax.tcons Syntax.tyBool (Syntax.tcons y5 (Syntax.tcons
+    y5 Syntax.tnil)))
 abbrev y7 : Syntax.Ty
 y7 = Syntax.tyEnum (101 ∷ 108 ∷ 101 ∷ 109 ∷ 101 ∷ 110 ∷ 116 ∷ 115 ∷ 58 ∷ 58 ∷ 67 ∷ 111 ∷ 110 ∷ 116 ∷ 101 ∷ 120 ∷ 116 ∷ []) (Syntax.ttcons Syntax.tnil
     (Syntax.ttcons Syntax.tnil (Syntax.ttcons Syntax.tnil (Syntax.ttcons Syntax.tnil (Syntax.ttcons Syntax.tnil (Syntax.ttcons Syntax.tnil (Syntax.ttcons
     Syntax.tnil Syntax.ttnil)))))))
 abbrev y8 : Syntax.Ty
-y8 = Syntax.tyStruct (114 ∷ 101 ∷ 97 ∷ 100 ∷ 101 ∷ 114 ∷ 58 ∷ 58 ∷ 82 ∷ 117 ∷ 110 ∷ []) (Syntax.tcons y5 (Syntax.tcons y6 (Syntax.tcons y0 (Syntax.tcons y0
-    (Syntax.tcons y1 (Syntax.tcons y7 (Syntax.tcons Syntax.tyBool Syntax.tnil)))))))
+y8 = Syntax.tyStruct (99 ∷ 117 ∷ 114 ∷ 115 ∷ 111 ∷ 114 ∷ 115 ∷ 58 ∷ 58 ∷ 82 ∷ 117 ∷ 110 ∷ []) (Syntax.tcons y5 (Syntax.tcons y6 (Syntax.tcons y0 (Syntax.tcons
+    y0 (Syntax.tcons y1 (Syntax.tcons y7 (Syntax.tcons Syntax.tyBool Syntax.tnil)))))))
 abbrev y9 : Syntax.Ty
-y9 = Syntax.tyStruct (114 ∷ 101 ∷ 97 ∷ 100 ∷ 101 ∷ 114 ∷ 58 ∷ 58 ∷ 67 ∷ 117 ∷ 114 ∷ 115 ∷ 111 ∷ 114 ∷ []) (Syntax.tcons y8 (Syntax.tcons y0 Syntax.tnil))
+y9 = Syntax.tyStruct (99 ∷ 117 ∷ 114 ∷ 115 ∷ 111 ∷ 114 ∷ 115 ∷ 58 ∷ 58 ∷ 67 ∷ 117 ∷ 114 ∷ 115 ∷ 111 ∷ 114 ∷ []) (Syntax.tcons y8 (Syntax.tcons y0
+    Syntax.tnil))
 abbrev y10 : Syntax.Ty
 y10 = Syntax.tyStruct (98 ∷ 108 ∷ 111 ∷ 99 ∷ 107 ∷ 115 ∷ 58 ∷ 58 ∷ 66 ∷ 108 ∷ 111 ∷ 99 ∷ 107 ∷ []) (Syntax.tcons y9 (Syntax.tcons y0 (Syntax.tcons y0
     (Syntax.tcons y1 (Syntax.tcons Syntax.tyBool (Syntax.tcons Syntax.tyBool Syntax.tnil))))))

@@ -1,5 +1,5 @@
 -- Generated: the needs of second_on at its contract, and how its theorem closes.
--- From 139ef55113660c1e, as 8340f4a7ed0066cc.
+-- From 1d85ceb810926a93, as 8340f4a7ed0066cc.
 use borrow.Fn.Run
 use borrow.Fn.Written
 use contract.Running.{givenOf, tablesOf}

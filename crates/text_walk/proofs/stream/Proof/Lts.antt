@@ -1,5 +1,5 @@
 -- Generated: the derivation of a body.
--- From 139ef55113660c1e, as 62eb5a955d54ed86.
+-- From 1d85ceb810926a93, as 70296fa8fbc3d854.
 use Prim.Native.Nat
 use Rattle.node_records.proofs.Tables.NodeRecord as NodeRecordT
 use Rattle.node_records.proofs.Tables.WriterRecord as WriterRecordT
@@ -131,17 +131,18 @@ y27 = Syntax.tyStruct (111 ∷ 112 ∷ 101 ∷ 114 ∷ 97 ∷ 110 ∷ 100 ∷ 11
 abbrev y28 : Syntax.Ty
 y28 = Syntax.tyStruct (101 ∷ 108 ∷ 101 ∷ 109 ∷ 101 ∷ 110 ∷ 116 ∷ 115 ∷ 58 ∷ 58 ∷ 82 ∷ 101 ∷ 102 ∷ []) (Syntax.tcons y5 (Syntax.tcons y5 Syntax.tnil))
 abbrev y29 : Syntax.Ty
-y29 = Syntax.tyStruct (114 ∷ 101 ∷ 97 ∷ 100 ∷ 101 ∷ 114 ∷ 58 ∷ 58 ∷ 80 ∷ 97 ∷ 105 ∷ 114 ∷ []) (Syntax.tcons Syntax.tyBool (Syntax.tcons y28 (Syntax.tcons y28
-    Syntax.tnil)))
+y29 = Syntax.tyStruct (99 ∷ 117 ∷ 114 ∷ 115 ∷ 111 ∷ 114 ∷ 115 ∷ 58 ∷ 58 ∷ 80 ∷ 97 ∷ 105 ∷ 114 ∷ []) (Syntax.tcons Syntax.tyBool (Syntax.tcons y28
+    (Syntax.tcons y28 Syntax.tnil)))
 abbrev y30 : Syntax.Ty
 y30 = Syntax.tyEnum (101 ∷ 108 ∷ 101 ∷ 109 ∷ 101 ∷ 110 ∷ 116 ∷ 115 ∷ 58 ∷ 58 ∷ 67 ∷ 111 ∷ 110 ∷ 116 ∷ 101 ∷ 120 ∷ 116 ∷ []) (Syntax.ttcons Syntax.tnil
     (Syntax.ttcons Syntax.tnil (Syntax.ttcons Syntax.tnil (Syntax.ttcons Syntax.tnil (Syntax.ttcons Syntax.tnil (Syntax.ttcons Syntax.tnil (Syntax.ttcons
     Syntax.tnil Syntax.ttnil)))))))
 abbrev y31 : Syntax.Ty
-y31 = Syntax.tyStruct (114 ∷ 101 ∷ 97 ∷ 100 ∷ 101 ∷ 114 ∷ 58 ∷ 58 ∷ 82 ∷ 117 ∷ 110 ∷ []) (Syntax.tcons y28 (Syntax.tcons y29 (Syntax.tcons y0 (Syntax.tcons y0
-    (Syntax.tcons y5 (Syntax.tcons y30 (Syntax.tcons Syntax.tyBool Syntax.tnil)))))))
+y31 = Syntax.tyStruct (99 ∷ 117 ∷ 114 ∷ 115 ∷ 111 ∷ 114 ∷ 115 ∷ 58 ∷ 58 ∷ 82 ∷ 117 ∷ 110 ∷ []) (Syntax.tcons y28 (Syntax.tcons y29 (Syntax.tcons y0
+    (Syntax.tcons y0 (Syntax.tcons y5 (Syntax.tcons y30 (Syntax.tcons Syntax.tyBool Syntax.tnil)))))))
 abbrev y32 : Syntax.Ty
-y32 = Syntax.tyStruct (114 ∷ 101 ∷ 97 ∷ 100 ∷ 101 ∷ 114 ∷ 58 ∷ 58 ∷ 67 ∷ 117 ∷ 114 ∷ 115 ∷ 111 ∷ 114 ∷ []) (Syntax.tcons y31 (Syntax.tcons y0 Syntax.tnil))
+y32 = Syntax.tyStruct (99 ∷ 117 ∷ 114 ∷ 115 ∷ 111 ∷ 114 ∷ 115 ∷ 58 ∷ 58 ∷ 67 ∷ 117 ∷ 114 ∷ 115 ∷ 111 ∷ 114 ∷ []) (Syntax.tcons y31 (Syntax.tcons y0
+    Syntax.tnil))
 abbrev y33 : Syntax.Ty
 y33 = Syntax.tyStruct (98 ∷ 108 ∷ 111 ∷ 99 ∷ 107 ∷ 115 ∷ 58 ∷ 58 ∷ 66 ∷ 108 ∷ 111 ∷ 99 ∷ 107 ∷ []) (Syntax.tcons y32 (Syntax.tcons y0 (Syntax.tcons y0
     (Syntax.tcons y5 (Syntax.tcons Syntax.tyBool (Syntax.tcons Syntax.tyBool Syntax.tnil))))))

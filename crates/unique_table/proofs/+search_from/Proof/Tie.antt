@@ -1,5 +1,5 @@
 -- Generated: how the theorem of search_from, which calls itself, closes.
--- From ad3273883a0cd883, as e6741dd850b62cb9.
+-- From 842f84d872e96147, as e6741dd850b62cb9.
 use Prim.Native.Nat.{ℕ, _<_}
 use borrow.Fn.Kinds.{In}
 use borrow.Fn.PlainCycle

@@ -1,14 +1,14 @@
 -- Generated: the needs of adopt at its contract, and how its theorem closes.
--- From ad3273883a0cd883, as 8784c69c2d0419a5.
+-- From 842f84d872e96147, as e47c8ebf69d72e5c.
 use borrow.Fn.Run
 use borrow.Fn.Written
 use contract.Running.{givenOf, tablesOf}
 use Rattle.record_tables.proofs.Lifted.get_writer_record as get-writer-record-reads
 use Rattle.record_tables.proofs.get_writer_record.Met as get-writer-record-met
 use Rattle.record_tables.proofs.get_writer_record.Symbol as get-writer-record-symbol
-use Rattle.writer_records.proofs.one_more.Reads as one-more-reads
-use Rattle.writer_records.proofs.one_more.Met as one-more-met
-use Rattle.writer_records.proofs.one_more.Symbol as one-more-symbol
+use Rattle.writer_numbers.proofs.one_more.Reads as one-more-reads
+use Rattle.writer_numbers.proofs.one_more.Met as one-more-met
+use Rattle.writer_numbers.proofs.one_more.Symbol as one-more-symbol
 use Rattle.writer_records.proofs.with_parents.Reads as with-parents-reads
 use Rattle.writer_records.proofs.with_parents.Met as with-parents-met
 use Rattle.writer_records.proofs.with_parents.Symbol as with-parents-symbol
@@ -70,7 +70,7 @@ module _ {M : Type 1} where
       Written.close 1 self.ps self.r self.Ghost self.requires self.ensures self.pre-read self.Pinned self.Owned self.post-read record { M = M; 𝓤 = 𝓤; H = H; 𝓜 = 𝓜; 𝓖 = 𝓖; 𝓡 = 𝓡 } code.env Key.name code.function (code.unfolded 𝓤 H 𝓜 𝓡)
       (λ κs a g. tt) (λ κs. self.owns κs record { M = M; 𝓤 = 𝓤; H = H; 𝓜 = 𝓜; 𝓖 = 𝓖; 𝓡 = 𝓡 }) (self.passes record { M = M; 𝓤 = 𝓤; H = H; 𝓜 = 𝓜; 𝓖 = 𝓖; 𝓡 = 𝓡 }) λ g. closed 𝓤 H (𝓖 .A) (givenOf 𝓤 H 𝓜 𝓖) (Run.Over 𝓤 H 𝓜 𝓖 𝓡 code.env)
       (get-writer-record-reads.known record { M = M; 𝓤 = 𝓤; H = H; 𝓜 = 𝓜; 𝓖 = 𝓖; 𝓡 = 𝓡 } code.env get-writer-record-symbol.name get-writer-record-symbol.routine code.calls-record-tables·get-writer-record (get-writer-record-met.met 𝓤 H 𝓜 𝓖 𝓡))
-      (one-more-reads.known record { M = M; 𝓤 = 𝓤; H = H; 𝓜 = 𝓜; 𝓖 = 𝓖; 𝓡 = 𝓡 } code.env one-more-symbol.name one-more-symbol.routine code.calls-writer-records·one-more (one-more-met.met 𝓤 H 𝓜 𝓖 𝓡))
+      (one-more-reads.known record { M = M; 𝓤 = 𝓤; H = H; 𝓜 = 𝓜; 𝓖 = 𝓖; 𝓡 = 𝓡 } code.env one-more-symbol.name one-more-symbol.routine code.calls-writer-numbers·one-more (one-more-met.met 𝓤 H 𝓜 𝓖 𝓡))
       (with-parents-reads.known record { M = M; 𝓤 = 𝓤; H = H; 𝓜 = 𝓜; 𝓖 = 𝓖; 𝓡 = 𝓡 } code.env with-parents-symbol.name with-parents-symbol.routine code.calls-writer-records·with-parents (with-parents-met.met 𝓤 H 𝓜 𝓖 𝓡))
       (put-writer-record-reads.known record { M = M; 𝓤 = 𝓤; H = H; 𝓜 = 𝓜; 𝓖 = 𝓖; 𝓡 = 𝓡 } code.env put-writer-record-symbol.name put-writer-record-symbol.routine code.calls-record-tables·put-writer-record (put-writer-record-met.met 𝓤 H 𝓜 𝓖 𝓡))
       (unlink-reads.known record { M = M; 𝓤 = 𝓤; H = H; 𝓜 = 𝓜; 𝓖 = 𝓖; 𝓡 = 𝓡 } code.env unlink-symbol.name unlink-symbol.routine code.calls-unique-table·unlink (unlink-met.met 𝓤 H 𝓜 𝓖 𝓡))

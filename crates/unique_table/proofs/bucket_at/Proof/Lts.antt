@@ -1,5 +1,5 @@
 -- Generated: the derivation of a body.
--- From ad3273883a0cd883, as 625b0abc05522150.
+-- From 842f84d872e96147, as f84c4e484a9fd9f7.
 use Prim.Native.Nat
 use Rattle.node_records.proofs.Tables.WriterRecord as WriterRecordT
 use Rattle.node_records.proofs.WriterRecord
@@ -90,7 +90,7 @@ hs = Syntax.valueLocal ∷ Syntax.valueLocal ∷ Syntax.valueLocal ∷ Syntax.va
 abbrev b0 : Syntax.Body
 b0 = Syntax.call "record_tables::get_writer_record" ((Syntax.copy (Syntax.place 1 [])) ∷ (Syntax.copy (Syntax.place 2 [])) ∷ []) (Syntax.place 3 [])
 abbrev b1 : Syntax.Body
-b1 = Syntax.call "writer_records::bucket" ((Syntax.copy (Syntax.place 3 ((Syntax.field 0) ∷ []))) ∷ (Syntax.copy (Syntax.place 3 ((Syntax.field 1) ∷ []))) ∷
+b1 = Syntax.call "writer_numbers::bucket" ((Syntax.copy (Syntax.place 3 ((Syntax.field 0) ∷ []))) ∷ (Syntax.copy (Syntax.place 3 ((Syntax.field 1) ∷ []))) ∷
     (Syntax.copy (Syntax.place 3 ((Syntax.field 2) ∷ []))) ∷ (Syntax.copy (Syntax.place 3 ((Syntax.field 3) ∷ []))) ∷ []) (Syntax.place 0 [])
 abbrev b2 : Syntax.Body
 b2 = Syntax.return
@@ -143,7 +143,7 @@ module _ (claims· : Claims) where
       abbrev pub Closed : Type 2
       Closed = (𝓤 : URA.URA M) (H : Wp.Heap 𝓤) (A : Atoms.Atoms 𝓤) (W : Kit.Given 𝓤 H A) (𝓣 : Wp.Tables 𝓤 H) (known0 : Plain.Known 𝓤 H A W 𝓣 1 ps·0 r·0
           (claims· .0) (claims· .1) "record_tables::get_writer_record") (known1 : Plain.Known 𝓤 H A W 𝓣 0 ps·1 r·1 (claims· .2) (claims· .3)
-          "writer_records::bucket") → Statement.Triple 𝓤 (Wp.WpFn 𝓤 H (𝓣 .C) (𝓣 .Λ) (Function.fnOf 1 ps r xs m hs body)) (Function.plainOf 𝓤 H A 1 ps r Pre·
+          "writer_numbers::bucket") → Statement.Triple 𝓤 (Wp.WpFn 𝓤 H (𝓣 .C) (𝓣 .Λ) (Function.fnOf 1 ps r xs m hs body)) (Function.plainOf 𝓤 H A 1 ps r Pre·
           Post·)
     module _ where
       abbrev at0 : Typed.TF T5 O0
@@ -161,7 +161,7 @@ module _ (claims· : Claims) where
       module _ {M : Type 1} (𝓤 : URA.URA M) (H : Wp.Heap 𝓤) (A : Atoms.Atoms 𝓤) (W : Kit.Given 𝓤 H A) (𝓣 : Wp.Tables 𝓤 H) where
         abbrev Knowns : Type 1
         Knowns = Plain.Known 𝓤 H A W 𝓣 1 ps·0 r·0 (claims· .0) (claims· .1) "record_tables::get_writer_record" × Plain.Known 𝓤 H A W 𝓣 0 ps·1 r·1 (claims· .2)
-            (claims· .3) "writer_records::bucket"
+            (claims· .3) "writer_numbers::bucket"
       module _ (κs : Lifetimes.Lfts 1) (qs : Lifetimes.Shares 1) where
         abbrev K0 : Row.Life
         K0 = Row.lease (κs .0) (qs .0)
@@ -195,7 +195,7 @@ module _ (claims· : Claims) where
               WriterRecord.the-type) y1 Path'.refl)) d1
           d3 : Typed.Typed 𝓤 H A 𝓣 E G2 b3 Δ0 at3
           d3 = Typed.s-seq 𝓤 H A W 𝓣 E G2 G3 b1 b2 Δ0 (Typed.both s1) at2 (Plain.t-call-plain 𝓤 H A W 𝓣 0 ps·1 r·1 (claims· .2) (claims· .3)
-              "writer_records::bucket" (known .1) E (λ pos β. β) G2 (Num.vFld 3 ((Syntax.field 0) ∷ []) 0 λ x. WriterRecord.struct .as-values x .0, (Num.vFld
+              "writer_numbers::bucket" (known .1) E (λ pos β. β) G2 (Num.vFld 3 ((Syntax.field 0) ∷ []) 0 λ x. WriterRecord.struct .as-values x .0, (Num.vFld
               3 ((Syntax.field 1) ∷ []) 4 λ x. WriterRecord.struct .as-values x .1 .0, (Num.vFld 3 ((Syntax.field 2) ∷ []) 8 λ x. WriterRecord.struct
               .as-values x .1 .1 .0, (Num.vFld 3 ((Syntax.field 3) ∷ []) 12 λ x. WriterRecord.struct .as-values x .1 .1 .1 .0, tt)))) 0 [] (Call.sub-id 𝓤 H A
               W (G2 .slots)) ((Reads.reads-field 𝓤 H A W WriterRecord.the-type Laws.the-laws 0 y0 0 Path'.refl, Path'.refl), ((Reads.reads-field 𝓤 H A W
@@ -289,6 +289,6 @@ module _ (claims· : Claims) where
               .1 } }; pre = pre }
         module _ {M : Type 1} (𝓤 : URA.URA M) (H : Wp.Heap 𝓤) (A : Atoms.Atoms 𝓤) (W : Kit.Given 𝓤 H A) (𝓣 : Wp.Tables 𝓤 H) (known0 : Plain.Known 𝓤 H A W 𝓣 1
             ps·0 r·0 (claims· .0) (claims· .1) "record_tables::get_writer_record") (known1 : Plain.Known 𝓤 H A W 𝓣 0 ps·1 r·1 (claims· .2) (claims· .3)
-            "writer_records::bucket") where
+            "writer_numbers::bucket") where
           pub spec : Statement.Triple 𝓤 (Wp.WpFn 𝓤 H (𝓣 .C) (𝓣 .Λ) (Function.fnOf 1 ps r xs m hs body)) (Function.plainOf 𝓤 H A 1 ps r Pre· Post·)
           spec = Plain.t-fn-plain 𝓤 H A W 𝓣 1 ps r xs m hs body (λ κs qs bs. Φ) (λ κs qs bs bd. typed κs qs 𝓤 H A W 𝓣 (known0, known1) bs bd) Pre· Post· asked

@@ -1,14 +1,14 @@
 -- Generated: the needs of bucket_at at its contract, and how its theorem closes.
--- From ad3273883a0cd883, as 1b2f63cae83ff237.
+-- From 842f84d872e96147, as 50bd1aa2ac21c0ce.
 use borrow.Fn.Run
 use borrow.Fn.Written
 use contract.Running.{givenOf, tablesOf}
 use Rattle.record_tables.proofs.Lifted.get_writer_record as get-writer-record-reads
 use Rattle.record_tables.proofs.get_writer_record.Met as get-writer-record-met
 use Rattle.record_tables.proofs.get_writer_record.Symbol as get-writer-record-symbol
-use Rattle.writer_records.proofs.bucket.Reads as bucket-reads
-use Rattle.writer_records.proofs.bucket.Met as bucket-met
-use Rattle.writer_records.proofs.bucket.Symbol as bucket-symbol
+use Rattle.writer_numbers.proofs.bucket.Reads as bucket-reads
+use Rattle.writer_numbers.proofs.bucket.Met as bucket-met
+use Rattle.writer_numbers.proofs.bucket.Symbol as bucket-symbol
 use Rattle.unique_table.proofs.bucket_at.Key
 use Rattle.unique_table.proofs.bucket_at.Code as code
 use Rattle.unique_table.proofs.bucket_at.Statement.{statement}
@@ -37,4 +37,4 @@ module _ {M : Type 1} where
       Written.close 1 self.ps self.r self.Ghost self.requires self.ensures self.pre-read self.Pinned self.Owned self.post-read record { M = M; 𝓤 = 𝓤; H = H; 𝓜 = 𝓜; 𝓖 = 𝓖; 𝓡 = 𝓡 } code.env Key.name code.function (code.unfolded 𝓤 H 𝓜 𝓡)
       (λ κs a g. tt) (λ κs. self.owns κs record { M = M; 𝓤 = 𝓤; H = H; 𝓜 = 𝓜; 𝓖 = 𝓖; 𝓡 = 𝓡 }) (self.passes record { M = M; 𝓤 = 𝓤; H = H; 𝓜 = 𝓜; 𝓖 = 𝓖; 𝓡 = 𝓡 }) λ g. closed 𝓤 H (𝓖 .A) (givenOf 𝓤 H 𝓜 𝓖) (Run.Over 𝓤 H 𝓜 𝓖 𝓡 code.env)
       (get-writer-record-reads.known record { M = M; 𝓤 = 𝓤; H = H; 𝓜 = 𝓜; 𝓖 = 𝓖; 𝓡 = 𝓡 } code.env get-writer-record-symbol.name get-writer-record-symbol.routine code.calls-record-tables·get-writer-record (get-writer-record-met.met 𝓤 H 𝓜 𝓖 𝓡))
-      (bucket-reads.known record { M = M; 𝓤 = 𝓤; H = H; 𝓜 = 𝓜; 𝓖 = 𝓖; 𝓡 = 𝓡 } code.env bucket-symbol.name bucket-symbol.routine code.calls-writer-records·bucket (bucket-met.met 𝓤 H 𝓜 𝓖 𝓡))
+      (bucket-reads.known record { M = M; 𝓤 = 𝓤; H = H; 𝓜 = 𝓜; 𝓖 = 𝓖; 𝓡 = 𝓡 } code.env bucket-symbol.name bucket-symbol.routine code.calls-writer-numbers·bucket (bucket-met.met 𝓤 H 𝓜 𝓖 𝓡))

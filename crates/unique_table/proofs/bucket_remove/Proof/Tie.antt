@@ -1,5 +1,5 @@
 -- Generated: the needs of bucket_remove at its contract, and how its theorem closes.
--- From ad3273883a0cd883, as 2a0ab472823f005d.
+-- From 842f84d872e96147, as 2a0ab472823f005d.
 use borrow.Fn.Run
 use borrow.Fn.Written
 use contract.Running.{givenOf, tablesOf}

@@ -1,5 +1,5 @@
 -- Generated: the derivation of a body.
--- From ad3273883a0cd883, as 25883c7bef8a2d5a.
+-- From 842f84d872e96147, as 98b0bf63c70893a6.
 use Prim.Native.Nat
 use Rattle.node_records.proofs.Tables.WriterRecord as WriterRecordT
 use Rattle.node_records.proofs.WriterRecord
@@ -115,7 +115,7 @@ abbrev pub hs : List Syntax.Home
 hs = Syntax.valueLocal ∷ Syntax.valueLocal ∷ Syntax.valueLocal ∷ Syntax.valueLocal ∷ Syntax.valueLocal ∷ Syntax.valueLocal ∷ Syntax.valueLocal ∷
     Syntax.valueLocal ∷ Syntax.valueLocal ∷ []
 abbrev b0 : Syntax.Body
-b0 = Syntax.call "writer_records::bucket" ((Syntax.copy (Syntax.place 3 [])) ∷ (Syntax.copy (Syntax.place 4 [])) ∷ (Syntax.copy (Syntax.place 5 [])) ∷
+b0 = Syntax.call "writer_numbers::bucket" ((Syntax.copy (Syntax.place 3 [])) ∷ (Syntax.copy (Syntax.place 4 [])) ∷ (Syntax.copy (Syntax.place 5 [])) ∷
     (Syntax.copy (Syntax.place 6 [])) ∷ []) (Syntax.place 8 [])
 abbrev b1 : Syntax.Body
 b1 = Syntax.call "record_tables::get_writer_record" ((Syntax.copy (Syntax.place 1 [])) ∷ (Syntax.copy (Syntax.place 8 [])) ∷ []) (Syntax.place 7 [])
@@ -211,7 +211,7 @@ module _ (claims· : Claims) where
     module _ (M : Type 1) where
       abbrev pub Closed : Type 2
       Closed = (𝓤 : URA.URA M) (H : Wp.Heap 𝓤) (A : Atoms.Atoms 𝓤) (W : Kit.Given 𝓤 H A) (𝓣 : Wp.Tables 𝓤 H) (known0 : Plain.Known 𝓤 H A W 𝓣 0 ps·0 r·0
-          (claims· .0) (claims· .1) "writer_records::bucket") (known1 : Plain.Known 𝓤 H A W 𝓣 1 ps·1 r·1 (claims· .2) (claims· .3)
+          (claims· .0) (claims· .1) "writer_numbers::bucket") (known1 : Plain.Known 𝓤 H A W 𝓣 1 ps·1 r·1 (claims· .2) (claims· .3)
           "record_tables::get_writer_record") (known2 : Plain.Known 𝓤 H A W 𝓣 1 ps·2 r·2 (claims· .4) (claims· .5) "unique_table::search_from") →
           Statement.Triple 𝓤 (Wp.WpFn 𝓤 H (𝓣 .C) (𝓣 .Λ) (Function.fnOf 1 ps r xs m hs body)) (Function.plainOf 𝓤 H A 1 ps r Pre· Post·)
     module _ where
@@ -241,7 +241,7 @@ module _ (claims· : Claims) where
       Φ = at10
       module _ {M : Type 1} (𝓤 : URA.URA M) (H : Wp.Heap 𝓤) (A : Atoms.Atoms 𝓤) (W : Kit.Given 𝓤 H A) (𝓣 : Wp.Tables 𝓤 H) where
         abbrev Knowns : Type 1
-        Knowns = Plain.Known 𝓤 H A W 𝓣 0 ps·0 r·0 (claims· .0) (claims· .1) "writer_records::bucket" × Plain.Known 𝓤 H A W 𝓣 1 ps·1 r·1 (claims· .2) (claims·
+        Knowns = Plain.Known 𝓤 H A W 𝓣 0 ps·0 r·0 (claims· .0) (claims· .1) "writer_numbers::bucket" × Plain.Known 𝓤 H A W 𝓣 1 ps·1 r·1 (claims· .2) (claims·
             .3) "record_tables::get_writer_record" × Plain.Known 𝓤 H A W 𝓣 1 ps·2 r·2 (claims· .4) (claims· .5) "unique_table::search_from"
       module _ (κs : Lifetimes.Lfts 1) (qs : Lifetimes.Shares 1) where
         abbrev K0 : Row.Life
@@ -317,7 +317,7 @@ module _ (claims· : Claims) where
               Path'.refl, ((Scalar.reads-sc 𝓤 H A W (Row.sInt Syntax.w32), Path'.refl), tt)) (Reads'.room-gone 𝓤 H A y1) (tt, tt) Path'.refl) d8
           d10 : Typed.Typed 𝓤 H A 𝓣 E G0 b6 Δ0 at10
           d10 = Typed.s-seq 𝓤 H A W 𝓣 E G0 G2 b0 b5 Δ0 (Typed.both s0) at9 (Plain.t-call-plain 𝓤 H A W 𝓣 0 ps·0 r·0 (claims· .0) (claims· .1)
-              "writer_records::bucket" (known .0) E (λ pos β. β) G0 (Num.vAt 3 λ x. x, (Num.vAt 4 λ x. x, (Num.vAt 5 λ x. x, (Num.vAt 6 λ x. x, tt)))) 8 []
+              "writer_numbers::bucket" (known .0) E (λ pos β. β) G0 (Num.vAt 3 λ x. x, (Num.vAt 4 λ x. x, (Num.vAt 5 λ x. x, (Num.vAt 6 λ x. x, tt)))) 8 []
               (Call.sub-id 𝓤 H A W (G0 .slots)) ((Scalar.reads-sc 𝓤 H A W (Row.sInt Syntax.w32), Path'.refl), ((Scalar.reads-sc 𝓤 H A W (Row.sInt Syntax.w32),
               Path'.refl), ((Scalar.reads-sc 𝓤 H A W (Row.sInt Syntax.w32), Path'.refl), ((Scalar.reads-sc 𝓤 H A W (Row.sInt Syntax.w32), Path'.refl), tt))))
               (Reads'.room-gone 𝓤 H A y0) tt Path'.refl) d9
@@ -438,7 +438,7 @@ module _ (claims· : Claims) where
               a .1 .1 .1 .1 .1 .0 }; good = good; fits = record { z = record { fits = good .1 .0 .1 }; i = record { fits = good .1 .1 .0 .1 }; a = record {
               fits = good .1 .1 .1 .0 .1 }; b = record { fits = good .1 .1 .1 .1 .0 .1 }; c = record { fits = good .1 .1 .1 .1 .1 .0 .1 } }; pre = pre }
         module _ {M : Type 1} (𝓤 : URA.URA M) (H : Wp.Heap 𝓤) (A : Atoms.Atoms 𝓤) (W : Kit.Given 𝓤 H A) (𝓣 : Wp.Tables 𝓤 H) (known0 : Plain.Known 𝓤 H A W 𝓣 0
-            ps·0 r·0 (claims· .0) (claims· .1) "writer_records::bucket") (known1 : Plain.Known 𝓤 H A W 𝓣 1 ps·1 r·1 (claims· .2) (claims· .3)
+            ps·0 r·0 (claims· .0) (claims· .1) "writer_numbers::bucket") (known1 : Plain.Known 𝓤 H A W 𝓣 1 ps·1 r·1 (claims· .2) (claims· .3)
             "record_tables::get_writer_record") (known2 : Plain.Known 𝓤 H A W 𝓣 1 ps·2 r·2 (claims· .4) (claims· .5) "unique_table::search_from") where
           pub spec : Statement.Triple 𝓤 (Wp.WpFn 𝓤 H (𝓣 .C) (𝓣 .Λ) (Function.fnOf 1 ps r xs m hs body)) (Function.plainOf 𝓤 H A 1 ps r Pre· Post·)
           spec = Plain.t-fn-plain 𝓤 H A W 𝓣 1 ps r xs m hs body (λ κs qs bs. Φ) (λ κs qs bs bd. typed κs qs 𝓤 H A W 𝓣 (known0, known1, known2) bs bd) Pre·

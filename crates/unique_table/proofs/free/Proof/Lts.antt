@@ -1,5 +1,5 @@
 -- Generated: the derivation of a body.
--- From ad3273883a0cd883, as d1804a28619444bc.
+-- From 842f84d872e96147, as 048df3619a4038bc.
 use Prim.Native.Nat
 use Rattle.node_records.proofs.Tables.WriterRecord as WriterRecordT
 use Rattle.node_records.proofs.WriterRecord
@@ -118,7 +118,7 @@ abbrev pub hs : List Syntax.Home
 hs = Syntax.valueLocal ∷ Syntax.valueLocal ∷ Syntax.valueLocal ∷ Syntax.valueLocal ∷ Syntax.valueLocal ∷ Syntax.valueLocal ∷ Syntax.valueLocal ∷
     Syntax.valueLocal ∷ Syntax.valueLocal ∷ []
 abbrev b0 : Syntax.Body
-b0 = Syntax.call "writer_records::is_free" ((Syntax.copy (Syntax.place 3 [])) ∷ (Syntax.copy (Syntax.place 4 [])) ∷ (Syntax.copy (Syntax.place 2 [])) ∷ [])
+b0 = Syntax.call "writer_numbers::is_free" ((Syntax.copy (Syntax.place 3 [])) ∷ (Syntax.copy (Syntax.place 4 [])) ∷ (Syntax.copy (Syntax.place 2 [])) ∷ [])
     (Syntax.place 6 [])
 abbrev b1 : Syntax.Body
 b1 = Syntax.assign (Syntax.place 0 []) (Syntax.rvOpd (Syntax.copy (Syntax.place 2 [])))
@@ -135,7 +135,7 @@ b6 = Syntax.call "record_tables::get_writer_record" ((Syntax.copy (Syntax.place 
 abbrev b7 : Syntax.Body
 b7 = Syntax.call "writer_records::after_of" (Syntax.opdTrue ∷ (Syntax.copy (Syntax.place 7 [])) ∷ []) (Syntax.place 5 [])
 abbrev b8 : Syntax.Body
-b8 = Syntax.call "writer_records::is_free" ((Syntax.copy (Syntax.place 3 [])) ∷ (Syntax.copy (Syntax.place 4 [])) ∷ (Syntax.copy (Syntax.place 5 [])) ∷ [])
+b8 = Syntax.call "writer_numbers::is_free" ((Syntax.copy (Syntax.place 3 [])) ∷ (Syntax.copy (Syntax.place 4 [])) ∷ (Syntax.copy (Syntax.place 5 [])) ∷ [])
     (Syntax.place 8 [])
 abbrev b9 : Syntax.Body
 b9 = Syntax.assign (Syntax.place 0 []) (Syntax.rvOpd (Syntax.copy (Syntax.place 5 [])))
@@ -325,7 +325,7 @@ module _ (claims· : Claims) where
     module _ (M : Type 1) where
       abbrev pub Closed : Type 2
       Closed = (𝓤 : URA.URA M) (H : Wp.Heap 𝓤) (A : Atoms.Atoms 𝓤) (W : Kit.Given 𝓤 H A) (𝓣 : Wp.Tables 𝓤 H) (known0 : Plain.Known 𝓤 H A W 𝓣 0 ps·0 r·0
-          (claims· .0) (claims· .1) "writer_records::is_free") (known1 : Plain.Known 𝓤 H A W 𝓣 1 ps·1 r·1 (claims· .2) (claims· .3)
+          (claims· .0) (claims· .1) "writer_numbers::is_free") (known1 : Plain.Known 𝓤 H A W 𝓣 1 ps·1 r·1 (claims· .2) (claims· .3)
           "record_tables::get_writer_record") (known2 : Plain.Known 𝓤 H A W 𝓣 0 ps·2 r·2 (claims· .4) (claims· .5) "writer_records::after_of") →
           Statement.Triple 𝓤 (Wp.WpFn 𝓤 H (𝓣 .C) (𝓣 .Λ) (Function.fnOf 1 ps r xs m hs body)) (Function.plainOf 𝓤 H A 1 ps r Pre· Post·)
     module _ where
@@ -401,7 +401,7 @@ module _ (claims· : Claims) where
       Φ = at33
       module _ {M : Type 1} (𝓤 : URA.URA M) (H : Wp.Heap 𝓤) (A : Atoms.Atoms 𝓤) (W : Kit.Given 𝓤 H A) (𝓣 : Wp.Tables 𝓤 H) where
         abbrev Knowns : Type 1
-        Knowns = Plain.Known 𝓤 H A W 𝓣 0 ps·0 r·0 (claims· .0) (claims· .1) "writer_records::is_free" × Plain.Known 𝓤 H A W 𝓣 1 ps·1 r·1 (claims· .2) (claims·
+        Knowns = Plain.Known 𝓤 H A W 𝓣 0 ps·0 r·0 (claims· .0) (claims· .1) "writer_numbers::is_free" × Plain.Known 𝓤 H A W 𝓣 1 ps·1 r·1 (claims· .2) (claims·
             .3) "record_tables::get_writer_record" × Plain.Known 𝓤 H A W 𝓣 0 ps·2 r·2 (claims· .4) (claims· .5) "writer_records::after_of"
       module _ (κs : Lifetimes.Lfts 1) (qs : Lifetimes.Shares 1) where
         abbrev K0 : Row.Life
@@ -564,7 +564,7 @@ module _ (claims· : Claims) where
           d27 = Typed.t-seq 𝓤 H A W 𝓣 E G13 G14 b13 b18 Δ0 at18 at26 d18 d26
           d28 : Typed.Typed 𝓤 H A 𝓣 E G12 b20 Δ0 at28
           d28 = Typed.s-seq 𝓤 H A W 𝓣 E G12 G13 b8 b19 Δ0 (Typed.both s10) at27 (Plain.t-call-plain 𝓤 H A W 𝓣 0 ps·0 r·0 (claims· .0) (claims· .1)
-              "writer_records::is_free" (known .0) E (λ pos β. β) G12 (Num.vAt 3 λ x. x, (Num.vAt 4 λ x. x, (Num.vAt 5 λ x. x, tt))) 8 [] (Call.sub-id 𝓤 H A W
+              "writer_numbers::is_free" (known .0) E (λ pos β. β) G12 (Num.vAt 3 λ x. x, (Num.vAt 4 λ x. x, (Num.vAt 5 λ x. x, tt))) 8 [] (Call.sub-id 𝓤 H A W
               (G12 .slots)) ((Scalar.reads-sc 𝓤 H A W (Row.sInt Syntax.w32), Path'.refl), ((Scalar.reads-sc 𝓤 H A W (Row.sInt Syntax.w32), Path'.refl),
               ((Scalar.reads-sc 𝓤 H A W (Row.sInt Syntax.w32), Path'.refl), tt))) (Reads.room-gone 𝓤 H A Syntax.tyBool) tt Path'.refl) d27
           d29 : Typed.Typed 𝓤 H A 𝓣 E G11 b20 Δ0 at29
@@ -586,7 +586,7 @@ module _ (claims· : Claims) where
           d32 = Typed.t-seq 𝓤 H A W 𝓣 E G2 G3 b5 b22 Δ0 at8 at31 d8 d31
           d33 : Typed.Typed 𝓤 H A 𝓣 E G0 b24 Δ0 at33
           d33 = Typed.s-seq 𝓤 H A W 𝓣 E G0 G2 b0 b23 Δ0 (Typed.both s0) at32 (Plain.t-call-plain 𝓤 H A W 𝓣 0 ps·0 r·0 (claims· .0) (claims· .1)
-              "writer_records::is_free" (known .0) E (λ pos β. β) G0 (Num.vAt 3 λ x. x, (Num.vAt 4 λ x. x, (Num.vAt 2 λ x. x, tt))) 6 [] (Call.sub-id 𝓤 H A W
+              "writer_numbers::is_free" (known .0) E (λ pos β. β) G0 (Num.vAt 3 λ x. x, (Num.vAt 4 λ x. x, (Num.vAt 2 λ x. x, tt))) 6 [] (Call.sub-id 𝓤 H A W
               (G0 .slots)) ((Scalar.reads-sc 𝓤 H A W (Row.sInt Syntax.w32), Path'.refl), ((Scalar.reads-sc 𝓤 H A W (Row.sInt Syntax.w32), Path'.refl),
               ((Scalar.reads-sc 𝓤 H A W (Row.sInt Syntax.w32), Path'.refl), tt))) (Reads.room-gone 𝓤 H A Syntax.tyBool) tt Path'.refl) d32
           pub typed : Typed.Typed 𝓤 H A 𝓣 E (Function.Γin 1 ps r xs m κs qs) b24 (Function.Δret 1 ps r xs m κs qs) Φ
@@ -832,7 +832,7 @@ module _ (claims· : Claims) where
           asked = λ a good pre bs. laid record { κs = κs; args = record { t = a .0; x = a .1 .0; a = a .1 .1 .0; b = a .1 .1 .1 .0 }; good = good; fits =
               record { x = record { fits = good .1 .0 .1 }; a = record { fits = good .1 .1 .0 .1 }; b = record { fits = good .1 .1 .1 .0 .1 } }; pre = pre }
         module _ {M : Type 1} (𝓤 : URA.URA M) (H : Wp.Heap 𝓤) (A : Atoms.Atoms 𝓤) (W : Kit.Given 𝓤 H A) (𝓣 : Wp.Tables 𝓤 H) (known0 : Plain.Known 𝓤 H A W 𝓣 0
-            ps·0 r·0 (claims· .0) (claims· .1) "writer_records::is_free") (known1 : Plain.Known 𝓤 H A W 𝓣 1 ps·1 r·1 (claims· .2) (claims· .3)
+            ps·0 r·0 (claims· .0) (claims· .1) "writer_numbers::is_free") (known1 : Plain.Known 𝓤 H A W 𝓣 1 ps·1 r·1 (claims· .2) (claims· .3)
             "record_tables::get_writer_record") (known2 : Plain.Known 𝓤 H A W 𝓣 0 ps·2 r·2 (claims· .4) (claims· .5) "writer_records::after_of") where
           pub spec : Statement.Triple 𝓤 (Wp.WpFn 𝓤 H (𝓣 .C) (𝓣 .Λ) (Function.fnOf 1 ps r xs m hs body)) (Function.plainOf 𝓤 H A 1 ps r Pre· Post·)
           spec = Plain.t-fn-plain 𝓤 H A W 𝓣 1 ps r xs m hs body (λ κs qs bs. Φ) (λ κs qs bs bd. typed κs qs 𝓤 H A W 𝓣 (known0, known1, known2) bs bd) Pre·

@@ -1,11 +1,11 @@
 -- Generated: the needs of free at its contract, and how its theorem closes.
--- From ad3273883a0cd883, as 05a84aba73b63f8e.
+-- From 842f84d872e96147, as 508f065c5b7f6ff8.
 use borrow.Fn.Run
 use borrow.Fn.Written
 use contract.Running.{givenOf, tablesOf}
-use Rattle.writer_records.proofs.is_free.Reads as is-free-reads
-use Rattle.writer_records.proofs.is_free.Met as is-free-met
-use Rattle.writer_records.proofs.is_free.Symbol as is-free-symbol
+use Rattle.writer_numbers.proofs.is_free.Reads as is-free-reads
+use Rattle.writer_numbers.proofs.is_free.Met as is-free-met
+use Rattle.writer_numbers.proofs.is_free.Symbol as is-free-symbol
 use Rattle.record_tables.proofs.Lifted.get_writer_record as get-writer-record-reads
 use Rattle.record_tables.proofs.get_writer_record.Met as get-writer-record-met
 use Rattle.record_tables.proofs.get_writer_record.Symbol as get-writer-record-symbol
@@ -57,6 +57,6 @@ module _ {M : Type 1} where
   close closed 𝓤 H 𝓜 𝓖 𝓡 =
       Written.close 1 self.ps self.r self.Ghost self.requires self.ensures self.pre-read self.Pinned self.Owned self.post-read record { M = M; 𝓤 = 𝓤; H = H; 𝓜 = 𝓜; 𝓖 = 𝓖; 𝓡 = 𝓡 } code.env Key.name code.function (code.unfolded 𝓤 H 𝓜 𝓡)
       (λ κs a g. tt) (λ κs. self.owns κs record { M = M; 𝓤 = 𝓤; H = H; 𝓜 = 𝓜; 𝓖 = 𝓖; 𝓡 = 𝓡 }) (self.passes record { M = M; 𝓤 = 𝓤; H = H; 𝓜 = 𝓜; 𝓖 = 𝓖; 𝓡 = 𝓡 }) λ g. closed 𝓤 H (𝓖 .A) (givenOf 𝓤 H 𝓜 𝓖) (Run.Over 𝓤 H 𝓜 𝓖 𝓡 code.env)
-      (is-free-reads.known record { M = M; 𝓤 = 𝓤; H = H; 𝓜 = 𝓜; 𝓖 = 𝓖; 𝓡 = 𝓡 } code.env is-free-symbol.name is-free-symbol.routine code.calls-writer-records·is-free (is-free-met.met 𝓤 H 𝓜 𝓖 𝓡))
+      (is-free-reads.known record { M = M; 𝓤 = 𝓤; H = H; 𝓜 = 𝓜; 𝓖 = 𝓖; 𝓡 = 𝓡 } code.env is-free-symbol.name is-free-symbol.routine code.calls-writer-numbers·is-free (is-free-met.met 𝓤 H 𝓜 𝓖 𝓡))
       (get-writer-record-reads.known record { M = M; 𝓤 = 𝓤; H = H; 𝓜 = 𝓜; 𝓖 = 𝓖; 𝓡 = 𝓡 } code.env get-writer-record-symbol.name get-writer-record-symbol.routine code.calls-record-tables·get-writer-record (get-writer-record-met.met 𝓤 H 𝓜 𝓖 𝓡))
       (after-of-reads.known record { M = M; 𝓤 = 𝓤; H = H; 𝓜 = 𝓜; 𝓖 = 𝓖; 𝓡 = 𝓡 } code.env after-of-symbol.name after-of-symbol.routine code.calls-writer-records·after-of (after-of-met.met 𝓤 H 𝓜 𝓖 𝓡))

@@ -1,5 +1,5 @@
 -- Generated: the derivation of a body.
--- From ad3273883a0cd883, as 72d78739fc80480d.
+-- From 842f84d872e96147, as cc18d45d97ba8f7b.
 use Prim.Native.Nat
 use Rattle.node_records.proofs.Tables.WriterRecord as WriterRecordT
 use Rattle.node_records.proofs.WriterRecord
@@ -278,7 +278,7 @@ b15 = Syntax.call "record_tables::put_writer_record" ((Syntax.copy (Syntax.place
 abbrev b16 : Syntax.Body
 b16 = Syntax.assign (Syntax.place 19 []) (Syntax.op2 Syntax.eq (Syntax.copy (Syntax.place 5 [])) (Syntax.int Syntax.w32 0))
 abbrev b17 : Syntax.Body
-b17 = Syntax.call "writer_records::either" ((Syntax.copy (Syntax.place 19 [])) ∷ (Syntax.copy (Syntax.place 4 [])) ∷ (Syntax.copy (Syntax.place 3
+b17 = Syntax.call "writer_numbers::either" ((Syntax.copy (Syntax.place 19 [])) ∷ (Syntax.copy (Syntax.place 4 [])) ∷ (Syntax.copy (Syntax.place 3
     ((Syntax.field 0) ∷ []))) ∷ []) (Syntax.place 18 [])
 abbrev b18 : Syntax.Body
 b18 = Syntax.assign (Syntax.place 0 []) (Syntax.aggregate ((Syntax.copy (Syntax.place 18 [])) ∷ (Syntax.copy (Syntax.place 4 [])) ∷ []))
@@ -505,7 +505,7 @@ module _ (claims· : Claims) where
           (claims· .0) (claims· .1) "record_tables::get_writer_record") (known1 : Plain.Known 𝓤 H A W 𝓣 0 ps·1 r·1 (claims· .2) (claims· .3)
           "writer_records::with_after") (known2 : Plain.Known 𝓤 H A W 𝓣 0 ps·2 r·2 (claims· .4) (claims· .5) "writer_records::with_before") (known3 :
           Plain.Known 𝓤 H A W 𝓣 1 ps·3 r·3 (claims· .6) (claims· .7) "record_tables::put_writer_record") (known4 : Plain.Known 𝓤 H A W 𝓣 0 ps·4 r·4 (claims·
-          .8) (claims· .9) "writer_records::either") → Statement.Triple 𝓤 (Wp.WpFn 𝓤 H (𝓣 .C) (𝓣 .Λ) (Function.fnOf 1 ps r xs m hs body)) (Function.plainOf 𝓤
+          .8) (claims· .9) "writer_numbers::either") → Statement.Triple 𝓤 (Wp.WpFn 𝓤 H (𝓣 .C) (𝓣 .Λ) (Function.fnOf 1 ps r xs m hs body)) (Function.plainOf 𝓤
           H A 1 ps r Pre· Post·)
     module _ where
       abbrev at0 : Typed.TF (cx t2 t1) O0
@@ -619,7 +619,7 @@ module _ (claims· : Claims) where
         Knowns = Plain.Known 𝓤 H A W 𝓣 1 ps·0 r·0 (claims· .0) (claims· .1) "record_tables::get_writer_record" × Plain.Known 𝓤 H A W 𝓣 0 ps·1 r·1 (claims· .2)
             (claims· .3) "writer_records::with_after" × Plain.Known 𝓤 H A W 𝓣 0 ps·2 r·2 (claims· .4) (claims· .5) "writer_records::with_before" × Plain.Known
             𝓤 H A W 𝓣 1 ps·3 r·3 (claims· .6) (claims· .7) "record_tables::put_writer_record" × Plain.Known 𝓤 H A W 𝓣 0 ps·4 r·4 (claims· .8) (claims· .9)
-            "writer_records::either"
+            "writer_numbers::either"
       module _ (κs : Lifetimes.Lfts 1) (qs : Lifetimes.Shares 1) where
         abbrev K0 : Row.Life
         K0 = Row.lease (κs .0) (qs .0)
@@ -748,7 +748,7 @@ module _ (claims· : Claims) where
               l0) 3 y7 (Local.room-whole 𝓤 H A W (Declared.row Ends.the-type) y7 Path'.refl)) d7
           d9 : Typed.Typed 𝓤 H A 𝓣 E (gx t3 t30 l0) b21 Δ0 at9
           d9 = Typed.s-seq 𝓤 H A W 𝓣 E (gx t3 t30 l0) (gx t3 t31 l0) b17 b20 Δ0 (Typed.both s42) at8 (Plain.t-call-plain 𝓤 H A W 𝓣 0 ps·4 r·4 (claims· .8)
-              (claims· .9) "writer_records::either" (known .4) E (λ pos β. β) (gx t3 t30 l0) (Bool.bAt 19 λ x. x, (Num.vAt 4 λ x. x, (Num.vFld 3
+              (claims· .9) "writer_numbers::either" (known .4) E (λ pos β. β) (gx t3 t30 l0) (Bool.bAt 19 λ x. x, (Num.vAt 4 λ x. x, (Num.vFld 3
               ((Syntax.field 0) ∷ []) 0 λ x. Ends.struct .as-values x .0, tt))) 18 [] (Call.sub-id 𝓤 H A W ((gx t3 t30 l0) .slots)) ((Scalar.reads-sc 𝓤 H A W
               Row.sBool, Path'.refl), ((Scalar.reads-sc 𝓤 H A W (Row.sInt Syntax.w32), Path'.refl), ((Reads.reads-field 𝓤 H A W Ends.the-type Laws'.the-laws 0
               y0 0 Path'.refl, Path'.refl), tt))) (Reads'.room-gone 𝓤 H A y0) tt Path'.refl) d8
@@ -1268,7 +1268,7 @@ module _ (claims· : Claims) where
             ps·0 r·0 (claims· .0) (claims· .1) "record_tables::get_writer_record") (known1 : Plain.Known 𝓤 H A W 𝓣 0 ps·1 r·1 (claims· .2) (claims· .3)
             "writer_records::with_after") (known2 : Plain.Known 𝓤 H A W 𝓣 0 ps·2 r·2 (claims· .4) (claims· .5) "writer_records::with_before") (known3 :
             Plain.Known 𝓤 H A W 𝓣 1 ps·3 r·3 (claims· .6) (claims· .7) "record_tables::put_writer_record") (known4 : Plain.Known 𝓤 H A W 𝓣 0 ps·4 r·4 (claims·
-            .8) (claims· .9) "writer_records::either") where
+            .8) (claims· .9) "writer_numbers::either") where
           pub spec : Statement.Triple 𝓤 (Wp.WpFn 𝓤 H (𝓣 .C) (𝓣 .Λ) (Function.fnOf 1 ps r xs m hs body)) (Function.plainOf 𝓤 H A 1 ps r Pre· Post·)
           spec = Plain.t-fn-plain 𝓤 H A W 𝓣 1 ps r xs m hs body (λ κs qs bs. Φ) (λ κs qs bs bd. typed κs qs 𝓤 H A W 𝓣 (known0, known1, known2, known3, known4)
               bs bd) Pre· Post· asked

@@ -1,5 +1,5 @@
 -- Generated: the needs of note at its contract, and how its theorem closes.
--- From ad3273883a0cd883, as ecf43fe272a148f3.
+-- From 842f84d872e96147, as ecf43fe272a148f3.
 use borrow.Fn.Run
 use borrow.Fn.Written
 use contract.Running.{givenOf, tablesOf}

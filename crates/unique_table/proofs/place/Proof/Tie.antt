@@ -1,5 +1,5 @@
 -- Generated: the needs of place at its contract, and how its theorem closes.
--- From ad3273883a0cd883, as 8f797277c31d5d28.
+-- From 842f84d872e96147, as 8f797277c31d5d28.
 use borrow.Fn.Run
 use borrow.Fn.Written
 use contract.Running.{givenOf, tablesOf}

@@ -1,5 +1,5 @@
 -- Generated: the needs of release at its contract, and how its theorem closes.
--- From ad3273883a0cd883, as 3e54a7da0319123b.
+-- From 842f84d872e96147, as 3e54a7da0319123b.
 use borrow.Fn.Run
 use borrow.Fn.Written
 use contract.Running.{givenOf, tablesOf}

@@ -1,5 +1,5 @@
 -- Generated: the derivation of a body.
--- From ad3273883a0cd883, as bb8d9c19cbcfa60f.
+-- From 842f84d872e96147, as 55a40702bcd3920c.
 use Prim.Native.Nat
 use Rattle.node_records.proofs.Tables.WriterRecord as WriterRecordT
 use Rattle.node_records.proofs.WriterRecord
@@ -314,12 +314,12 @@ b18 = Syntax.call "record_tables::put_writer_record" ((Syntax.copy (Syntax.place
 abbrev b19 : Syntax.Body
 b19 = Syntax.assign (Syntax.place 22 []) (Syntax.op2 Syntax.eq (Syntax.copy (Syntax.place 6 [])) (Syntax.int Syntax.w32 0))
 abbrev b20 : Syntax.Body
-b20 = Syntax.call "writer_records::either" ((Syntax.copy (Syntax.place 22 [])) ∷ (Syntax.copy (Syntax.place 7 [])) ∷ (Syntax.copy (Syntax.place 3
+b20 = Syntax.call "writer_numbers::either" ((Syntax.copy (Syntax.place 22 [])) ∷ (Syntax.copy (Syntax.place 7 [])) ∷ (Syntax.copy (Syntax.place 3
     ((Syntax.field 0) ∷ []))) ∷ []) (Syntax.place 21 [])
 abbrev b21 : Syntax.Body
 b21 = Syntax.assign (Syntax.place 24 []) (Syntax.op2 Syntax.eq (Syntax.copy (Syntax.place 7 [])) (Syntax.int Syntax.w32 0))
 abbrev b22 : Syntax.Body
-b22 = Syntax.call "writer_records::either" ((Syntax.copy (Syntax.place 24 [])) ∷ (Syntax.copy (Syntax.place 6 [])) ∷ (Syntax.copy (Syntax.place 3
+b22 = Syntax.call "writer_numbers::either" ((Syntax.copy (Syntax.place 24 [])) ∷ (Syntax.copy (Syntax.place 6 [])) ∷ (Syntax.copy (Syntax.place 3
     ((Syntax.field 1) ∷ []))) ∷ []) (Syntax.place 23 [])
 abbrev b23 : Syntax.Body
 b23 = Syntax.assign (Syntax.place 0 []) (Syntax.aggregate ((Syntax.copy (Syntax.place 21 [])) ∷ (Syntax.copy (Syntax.place 23 [])) ∷ []))
@@ -596,7 +596,7 @@ module _ (claims· : Claims) where
           "writer_records::before_of") (known2 : Plain.Known 𝓤 H A W 𝓣 0 ps·2 r·2 (claims· .4) (claims· .5) "writer_records::after_of") (known3 : Plain.Known
           𝓤 H A W 𝓣 0 ps·3 r·3 (claims· .6) (claims· .7) "writer_records::with_after") (known4 : Plain.Known 𝓤 H A W 𝓣 1 ps·4 r·4 (claims· .8) (claims· .9)
           "record_tables::put_writer_record") (known5 : Plain.Known 𝓤 H A W 𝓣 0 ps·5 r·5 (claims· .10) (claims· .11) "writer_records::with_before") (known6 :
-          Plain.Known 𝓤 H A W 𝓣 0 ps·6 r·6 (claims· .12) (claims· .13) "writer_records::either") → Statement.Triple 𝓤 (Wp.WpFn 𝓤 H (𝓣 .C) (𝓣 .Λ)
+          Plain.Known 𝓤 H A W 𝓣 0 ps·6 r·6 (claims· .12) (claims· .13) "writer_numbers::either") → Statement.Triple 𝓤 (Wp.WpFn 𝓤 H (𝓣 .C) (𝓣 .Λ)
           (Function.fnOf 1 ps r xs m hs body)) (Function.plainOf 𝓤 H A 1 ps r Pre· Post·)
     module _ where
       abbrev at0 : Typed.TF (cx t2 t1) O0
@@ -737,7 +737,7 @@ module _ (claims· : Claims) where
             (claims· .3) "writer_records::before_of" × Plain.Known 𝓤 H A W 𝓣 0 ps·2 r·2 (claims· .4) (claims· .5) "writer_records::after_of" × Plain.Known 𝓤 H
             A W 𝓣 0 ps·3 r·3 (claims· .6) (claims· .7) "writer_records::with_after" × Plain.Known 𝓤 H A W 𝓣 1 ps·4 r·4 (claims· .8) (claims· .9)
             "record_tables::put_writer_record" × Plain.Known 𝓤 H A W 𝓣 0 ps·5 r·5 (claims· .10) (claims· .11) "writer_records::with_before" × Plain.Known 𝓤 H
-            A W 𝓣 0 ps·6 r·6 (claims· .12) (claims· .13) "writer_records::either"
+            A W 𝓣 0 ps·6 r·6 (claims· .12) (claims· .13) "writer_numbers::either"
       module _ (κs : Lifetimes.Lfts 1) (qs : Lifetimes.Shares 1) where
         abbrev K0 : Row.Life
         K0 = Row.lease (κs .0) (qs .0)
@@ -875,7 +875,7 @@ module _ (claims· : Claims) where
               t38 l0) 3 y7 (Local.room-whole 𝓤 H A W (Declared.row Ends.the-type) y7 Path'.refl)) d9
           d11 : Typed.Typed 𝓤 H A 𝓣 E (gx t10 t37 l0) b26 Δ0 at11
           d11 = Typed.s-seq 𝓤 H A W 𝓣 E (gx t10 t37 l0) (gx t10 t38 l0) b22 b25 Δ0 (Typed.both s53) at10 (Plain.t-call-plain 𝓤 H A W 𝓣 0 ps·6 r·6 (claims·
-              .12) (claims· .13) "writer_records::either" (known .6) E (λ pos β. β) (gx t10 t37 l0) (Bool.bAt 24 λ x. x, (Num.vAt 6 λ x. x, (Num.vFld 3
+              .12) (claims· .13) "writer_numbers::either" (known .6) E (λ pos β. β) (gx t10 t37 l0) (Bool.bAt 24 λ x. x, (Num.vAt 6 λ x. x, (Num.vFld 3
               ((Syntax.field 1) ∷ []) 4 λ x. Ends.struct .as-values x .1 .0, tt))) 23 [] (Call.sub-id 𝓤 H A W ((gx t10 t37 l0) .slots)) ((Scalar.reads-sc 𝓤 H
               A W Row.sBool, Path'.refl), ((Scalar.reads-sc 𝓤 H A W (Row.sInt Syntax.w32), Path'.refl), ((Reads.reads-field 𝓤 H A W Ends.the-type
               Laws'.the-laws 1 y0 4 Path'.refl, Path'.refl), tt))) (Reads'.room-gone 𝓤 H A y0) tt Path'.refl) d10
@@ -889,7 +889,7 @@ module _ (claims· : Claims) where
               t10 t35 l0) 22 Syntax.tyBool (Scalar.room-sc 𝓤 H A W Row.sBool)) d12
           d14 : Typed.Typed 𝓤 H A 𝓣 E (gx t10 t34 l0) b28 Δ0 at14
           d14 = Typed.s-seq 𝓤 H A W 𝓣 E (gx t10 t34 l0) (gx t10 t35 l0) b20 b27 Δ0 (Typed.both s50) at13 (Plain.t-call-plain 𝓤 H A W 𝓣 0 ps·6 r·6 (claims·
-              .12) (claims· .13) "writer_records::either" (known .6) E (λ pos β. β) (gx t10 t34 l0) (Bool.bAt 22 λ x. x, (Num.vAt 7 λ x. x, (Num.vFld 3
+              .12) (claims· .13) "writer_numbers::either" (known .6) E (λ pos β. β) (gx t10 t34 l0) (Bool.bAt 22 λ x. x, (Num.vAt 7 λ x. x, (Num.vFld 3
               ((Syntax.field 0) ∷ []) 0 λ x. Ends.struct .as-values x .0, tt))) 21 [] (Call.sub-id 𝓤 H A W ((gx t10 t34 l0) .slots)) ((Scalar.reads-sc 𝓤 H A W
               Row.sBool, Path'.refl), ((Scalar.reads-sc 𝓤 H A W (Row.sInt Syntax.w32), Path'.refl), ((Reads.reads-field 𝓤 H A W Ends.the-type Laws'.the-laws 0
               y0 0 Path'.refl, Path'.refl), tt))) (Reads'.room-gone 𝓤 H A y0) tt Path'.refl) d13
@@ -1532,7 +1532,7 @@ module _ (claims· : Claims) where
             "writer_records::before_of") (known2 : Plain.Known 𝓤 H A W 𝓣 0 ps·2 r·2 (claims· .4) (claims· .5) "writer_records::after_of") (known3 :
             Plain.Known 𝓤 H A W 𝓣 0 ps·3 r·3 (claims· .6) (claims· .7) "writer_records::with_after") (known4 : Plain.Known 𝓤 H A W 𝓣 1 ps·4 r·4 (claims· .8)
             (claims· .9) "record_tables::put_writer_record") (known5 : Plain.Known 𝓤 H A W 𝓣 0 ps·5 r·5 (claims· .10) (claims· .11)
-            "writer_records::with_before") (known6 : Plain.Known 𝓤 H A W 𝓣 0 ps·6 r·6 (claims· .12) (claims· .13) "writer_records::either") where
+            "writer_records::with_before") (known6 : Plain.Known 𝓤 H A W 𝓣 0 ps·6 r·6 (claims· .12) (claims· .13) "writer_numbers::either") where
           pub spec : Statement.Triple 𝓤 (Wp.WpFn 𝓤 H (𝓣 .C) (𝓣 .Λ) (Function.fnOf 1 ps r xs m hs body)) (Function.plainOf 𝓤 H A 1 ps r Pre· Post·)
           spec = Plain.t-fn-plain 𝓤 H A W 𝓣 1 ps r xs m hs body (λ κs qs bs. Φ) (λ κs qs bs bd. typed κs qs 𝓤 H A W 𝓣 (known0, known1, known2, known3, known4,
               known5, known6) bs bd) Pre· Post· asked

@@ -1,5 +1,5 @@
 -- Generated: the derivation of a body.
--- From 1b3cca3231d934c7, as 3f9b56002c14b454.
+-- From f82ca65e0b1caaa7, as 3f9b56002c14b454.
 use Prim.Native.Nat
 use Rattle.node_records.proofs.Tables.WriterRecord as WriterRecordT
 use Rattle.pending_text.proofs.Sent

@@ -1,5 +1,5 @@
 -- Generated: the needs of stream at its contract, and how its theorem closes.
--- From 1b3cca3231d934c7, as 2d932579967e8471.
+-- From f82ca65e0b1caaa7, as 2d932579967e8471.
 use borrow.Fn.Run
 use borrow.Fn.Written
 use contract.Running.{givenOf, tablesOf}

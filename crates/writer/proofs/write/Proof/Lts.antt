@@ -1,8 +1,8 @@
 -- Generated: the derivation of a body.
--- From 1b3cca3231d934c7, as 90b26dfa8e8d07fd.
+-- From f82ca65e0b1caaa7, as 9a0e212ef615e95b.
 use Prim.Native.Nat
-use Rattle.checker.proofs.Refusal
-use Rattle.checker.proofs.Refusal.Laws
+use Rattle.answers.proofs.Refusal
+use Rattle.answers.proofs.Refusal.Laws
 use Rattle.elements.proofs.Cause
 use Rattle.elements.proofs.Cause.Laws as Laws'
 use Rattle.meeting.proofs.Ending
@@ -99,7 +99,7 @@ y4 = Syntax.tyEnum (101 ∷ 108 ∷ 101 ∷ 109 ∷ 101 ∷ 110 ∷ 116 ∷ 115 
 abbrev y5 : Syntax.Ty
 y5 = Syntax.tyInt Syntax.w32
 abbrev y6 : Syntax.Ty
-y6 = Syntax.tyStruct (99 ∷ 104 ∷ 101 ∷ 99 ∷ 107 ∷ 101 ∷ 114 ∷ 58 ∷ 58 ∷ 82 ∷ 101 ∷ 102 ∷ 117 ∷ 115 ∷ 97 ∷ 108 ∷ []) (Syntax.tcons y4 (Syntax.tcons y5
+y6 = Syntax.tyStruct (97 ∷ 110 ∷ 115 ∷ 119 ∷ 101 ∷ 114 ∷ 115 ∷ 58 ∷ 58 ∷ 82 ∷ 101 ∷ 102 ∷ 117 ∷ 115 ∷ 97 ∷ 108 ∷ []) (Syntax.tcons y4 (Syntax.tcons y5
     (Syntax.tcons y2 Syntax.tnil)))
 abbrev y7 : Syntax.Ty
 y7 = Syntax.tyRef Syntax.erased Syntax.mut WriterRecordT.behind
@@ -325,7 +325,7 @@ b0 = Syntax.assign (Syntax.place 8 []) (Syntax.op2 (Syntax.lt Syntax.unsigned) (
 abbrev b1 : Syntax.Body
 b1 = Syntax.assign (Syntax.place 10 []) (Syntax.aggregate ((Syntax.int Syntax.w8 0) ∷ []))
 abbrev b2 : Syntax.Body
-b2 = Syntax.call "checker::early" ((Syntax.copy (Syntax.place 10 [])) ∷ []) (Syntax.place 9 [])
+b2 = Syntax.call "answers::early" ((Syntax.copy (Syntax.place 10 [])) ∷ []) (Syntax.place 9 [])
 abbrev b3 : Syntax.Body
 b3 = Syntax.assign (Syntax.place 0 []) (Syntax.aggregate ((Syntax.int Syntax.w8 0) ∷ (Syntax.copy (Syntax.place 9 [])) ∷ []))
 abbrev b4 : Syntax.Body
@@ -345,7 +345,7 @@ b10 = Syntax.assign (Syntax.place 8 []) (Syntax.op2 (Syntax.lt Syntax.unsigned) 
 abbrev b11 : Syntax.Body
 b11 = Syntax.assign (Syntax.place 12 []) (Syntax.aggregate ((Syntax.int Syntax.w8 0) ∷ []))
 abbrev b12 : Syntax.Body
-b12 = Syntax.call "checker::early" ((Syntax.copy (Syntax.place 12 [])) ∷ []) (Syntax.place 11 [])
+b12 = Syntax.call "answers::early" ((Syntax.copy (Syntax.place 12 [])) ∷ []) (Syntax.place 11 [])
 abbrev b13 : Syntax.Body
 b13 = Syntax.assign (Syntax.place 0 []) (Syntax.aggregate ((Syntax.int Syntax.w8 0) ∷ (Syntax.copy (Syntax.place 11 [])) ∷ []))
 abbrev b14 : Syntax.Body
@@ -367,7 +367,7 @@ b21 = Syntax.assign (Syntax.place 8 []) (Syntax.op2 (Syntax.lt Syntax.unsigned) 
 abbrev b22 : Syntax.Body
 b22 = Syntax.assign (Syntax.place 15 []) (Syntax.aggregate ((Syntax.int Syntax.w8 2) ∷ []))
 abbrev b23 : Syntax.Body
-b23 = Syntax.call "checker::early" ((Syntax.copy (Syntax.place 15 [])) ∷ []) (Syntax.place 14 [])
+b23 = Syntax.call "answers::early" ((Syntax.copy (Syntax.place 15 [])) ∷ []) (Syntax.place 14 [])
 abbrev b24 : Syntax.Body
 b24 = Syntax.assign (Syntax.place 0 []) (Syntax.aggregate ((Syntax.int Syntax.w8 0) ∷ (Syntax.copy (Syntax.place 14 [])) ∷ []))
 abbrev b25 : Syntax.Body
@@ -389,7 +389,7 @@ b32 = Syntax.assign (Syntax.place 8 []) (Syntax.op2 (Syntax.lt Syntax.unsigned) 
 abbrev b33 : Syntax.Body
 b33 = Syntax.assign (Syntax.place 17 []) (Syntax.aggregate ((Syntax.int Syntax.w8 3) ∷ []))
 abbrev b34 : Syntax.Body
-b34 = Syntax.call "checker::early" ((Syntax.copy (Syntax.place 17 [])) ∷ []) (Syntax.place 16 [])
+b34 = Syntax.call "answers::early" ((Syntax.copy (Syntax.place 17 [])) ∷ []) (Syntax.place 16 [])
 abbrev b35 : Syntax.Body
 b35 = Syntax.assign (Syntax.place 0 []) (Syntax.aggregate ((Syntax.int Syntax.w8 0) ∷ (Syntax.copy (Syntax.place 16 [])) ∷ []))
 abbrev b36 : Syntax.Body
@@ -417,7 +417,7 @@ b46 = Syntax.assign (Syntax.place 8 []) (Syntax.op2 Syntax.ne (Syntax.copy (Synt
 abbrev b47 : Syntax.Body
 b47 = Syntax.assign (Syntax.place 22 []) (Syntax.aggregate ((Syntax.int Syntax.w8 5) ∷ []))
 abbrev b48 : Syntax.Body
-b48 = Syntax.call "checker::early" ((Syntax.copy (Syntax.place 22 [])) ∷ []) (Syntax.place 21 [])
+b48 = Syntax.call "answers::early" ((Syntax.copy (Syntax.place 22 [])) ∷ []) (Syntax.place 21 [])
 abbrev b49 : Syntax.Body
 b49 = Syntax.assign (Syntax.place 0 []) (Syntax.aggregate ((Syntax.int Syntax.w8 0) ∷ (Syntax.copy (Syntax.place 21 [])) ∷ []))
 abbrev b50 : Syntax.Body
@@ -1127,7 +1127,7 @@ module _ (claims· : Claims) where
     module _ (M : Type 1) where
       abbrev pub Closed : Type 2
       Closed = (𝓤 : URA.URA M) (H : Wp.Heap 𝓤) (A : Atoms.Atoms 𝓤) (W : Kit.Given 𝓤 H A) (𝓣 : Wp.Tables 𝓤 H) (known0 : Plain.Known 𝓤 H A W 𝓣 0 ps·0 r·0
-          (claims· .0) (claims· .1) "checker::early") (known1 : Plain.Known 𝓤 H A W 𝓣 1 ps·1 r·1 (claims· .2) (claims· .3)
+          (claims· .0) (claims· .1) "answers::early") (known1 : Plain.Known 𝓤 H A W 𝓣 1 ps·1 r·1 (claims· .2) (claims· .3)
           "record_tables::clear_writer_records") (known2 : Plain.Known 𝓤 H A W 𝓣 4 ps·2 r·2 (claims· .4) (claims· .5) "writer::stream") (known3 : Plain.Known
           𝓤 H A W 𝓣 0 ps·3 r·3 (claims· .6) (claims· .7) "writer::answer") → Statement.Triple 𝓤 (Wp.WpFn 𝓤 H (𝓣 .C) (𝓣 .Λ) (Function.fnOf 3 ps r xs m hs
           body)) (Function.plainOf 𝓤 H A 3 ps r Pre· Post·)
@@ -1404,7 +1404,7 @@ module _ (claims· : Claims) where
       Φ = λ bs. at133 bs
       module _ {M : Type 1} (𝓤 : URA.URA M) (H : Wp.Heap 𝓤) (A : Atoms.Atoms 𝓤) (W : Kit.Given 𝓤 H A) (𝓣 : Wp.Tables 𝓤 H) where
         abbrev Knowns : Type 1
-        Knowns = Plain.Known 𝓤 H A W 𝓣 0 ps·0 r·0 (claims· .0) (claims· .1) "checker::early" × Plain.Known 𝓤 H A W 𝓣 1 ps·1 r·1 (claims· .2) (claims· .3)
+        Knowns = Plain.Known 𝓤 H A W 𝓣 0 ps·0 r·0 (claims· .0) (claims· .1) "answers::early" × Plain.Known 𝓤 H A W 𝓣 1 ps·1 r·1 (claims· .2) (claims· .3)
             "record_tables::clear_writer_records" × Plain.Known 𝓤 H A W 𝓣 4 ps·2 r·2 (claims· .4) (claims· .5) "writer::stream" × Plain.Known 𝓤 H A W 𝓣 0 ps·3
             r·3 (claims· .6) (claims· .7) "writer::answer"
       module _ (κs : Lifetimes.Lfts 3) (qs : Lifetimes.Shares 3) where
@@ -1759,7 +1759,7 @@ module _ (claims· : Claims) where
               (Declared.row Cause.the-type) y4 Path'.refl)) d4
           d6 : Typed.Typed 𝓤 H A 𝓣 E G7 b6 Δ1 (at6 bs)
           d6 = Typed.s-seq 𝓤 H A W 𝓣 E G7 G8 b2 b5 Δ1 (Typed.both (s5 bs)) (at5 bs) (Plain.t-call-plain 𝓤 H A W 𝓣 0 ps·0 r·0 (claims· .0) (claims· .1)
-              "checker::early" (known .0) E (λ pos β. β) G7 (record { pos = 10; st = []; d = 0; at = λ x. x }, tt) 9 [] (Call.sub-id 𝓤 H A W (G7 .slots))
+              "answers::early" (known .0) E (λ pos β. β) G7 (record { pos = 10; st = []; d = 0; at = λ x. x }, tt) 9 [] (Call.sub-id 𝓤 H A W (G7 .slots))
               ((Yields.yields-copy 𝓤 H A W (λ ρ. Unit) (Declared.row Cause.the-type) Path'.refl (Copies.cEnum Cause.the-type Laws'.the-laws Laws'.the-copy
               .copy 𝓤 H A W) (Rows'.whole (Declared.row Cause.the-type)) (λ x. x) (λ x. x) (λ ρ told. Local.mem-whole 𝓤 H A W (Declared.row Cause.the-type) ρ)
               λ ρ told. Local.whole-mem 𝓤 H A W (Declared.row Cause.the-type) ρ, Path'.refl), tt) (Reads'.room-gone 𝓤 H A y6) tt Path'.refl) d5
@@ -1807,7 +1807,7 @@ module _ (claims· : Claims) where
               (Declared.row Cause.the-type) y4 Path'.refl)) d16
           d18 : Typed.Typed 𝓤 H A 𝓣 E G18 b16 Δ2 (at18 bs)
           d18 = Typed.s-seq 𝓤 H A W 𝓣 E G18 G19 b12 b15 Δ2 (Typed.both (s15 bs)) (at17 bs) (Plain.t-call-plain 𝓤 H A W 𝓣 0 ps·0 r·0 (claims· .0) (claims· .1)
-              "checker::early" (known .0) E (λ pos β. β) G18 (record { pos = 12; st = []; d = 0; at = λ x. x }, tt) 11 [] (Call.sub-id 𝓤 H A W (G18 .slots))
+              "answers::early" (known .0) E (λ pos β. β) G18 (record { pos = 12; st = []; d = 0; at = λ x. x }, tt) 11 [] (Call.sub-id 𝓤 H A W (G18 .slots))
               ((Yields.yields-copy 𝓤 H A W (λ ρ. Unit) (Declared.row Cause.the-type) Path'.refl (Copies.cEnum Cause.the-type Laws'.the-laws Laws'.the-copy
               .copy 𝓤 H A W) (Rows'.whole (Declared.row Cause.the-type)) (λ x. x) (λ x. x) (λ ρ told. Local.mem-whole 𝓤 H A W (Declared.row Cause.the-type) ρ)
               λ ρ told. Local.whole-mem 𝓤 H A W (Declared.row Cause.the-type) ρ, Path'.refl), tt) (Reads'.room-gone 𝓤 H A y6) tt Path'.refl) d17
@@ -1855,7 +1855,7 @@ module _ (claims· : Claims) where
               (Declared.row Cause.the-type) y4 Path'.refl)) d28
           d30 : Typed.Typed 𝓤 H A 𝓣 E G31 b27 Δ3 (at30 bs)
           d30 = Typed.s-seq 𝓤 H A W 𝓣 E G31 G32 b23 b26 Δ3 (Typed.both (s27 bs)) (at29 bs) (Plain.t-call-plain 𝓤 H A W 𝓣 0 ps·0 r·0 (claims· .0) (claims· .1)
-              "checker::early" (known .0) E (λ pos β. β) G31 (record { pos = 15; st = []; d = 0; at = λ x. x }, tt) 14 [] (Call.sub-id 𝓤 H A W (G31 .slots))
+              "answers::early" (known .0) E (λ pos β. β) G31 (record { pos = 15; st = []; d = 0; at = λ x. x }, tt) 14 [] (Call.sub-id 𝓤 H A W (G31 .slots))
               ((Yields.yields-copy 𝓤 H A W (λ ρ. Unit) (Declared.row Cause.the-type) Path'.refl (Copies.cEnum Cause.the-type Laws'.the-laws Laws'.the-copy
               .copy 𝓤 H A W) (Rows'.whole (Declared.row Cause.the-type)) (λ x. x) (λ x. x) (λ ρ told. Local.mem-whole 𝓤 H A W (Declared.row Cause.the-type) ρ)
               λ ρ told. Local.whole-mem 𝓤 H A W (Declared.row Cause.the-type) ρ, Path'.refl), tt) (Reads'.room-gone 𝓤 H A y6) tt Path'.refl) d29
@@ -1908,7 +1908,7 @@ module _ (claims· : Claims) where
               (Declared.row Cause.the-type) y4 Path'.refl)) d41
           d43 : Typed.Typed 𝓤 H A 𝓣 E G44 b38 Δ4 (at43 bs)
           d43 = Typed.s-seq 𝓤 H A W 𝓣 E G44 G45 b34 b37 Δ4 (Typed.both (s39 bs)) (at42 bs) (Plain.t-call-plain 𝓤 H A W 𝓣 0 ps·0 r·0 (claims· .0) (claims· .1)
-              "checker::early" (known .0) E (λ pos β. β) G44 (record { pos = 17; st = []; d = 0; at = λ x. x }, tt) 16 [] (Call.sub-id 𝓤 H A W (G44 .slots))
+              "answers::early" (known .0) E (λ pos β. β) G44 (record { pos = 17; st = []; d = 0; at = λ x. x }, tt) 16 [] (Call.sub-id 𝓤 H A W (G44 .slots))
               ((Yields.yields-copy 𝓤 H A W (λ ρ. Unit) (Declared.row Cause.the-type) Path'.refl (Copies.cEnum Cause.the-type Laws'.the-laws Laws'.the-copy
               .copy 𝓤 H A W) (Rows'.whole (Declared.row Cause.the-type)) (λ x. x) (λ x. x) (λ ρ told. Local.mem-whole 𝓤 H A W (Declared.row Cause.the-type) ρ)
               λ ρ told. Local.whole-mem 𝓤 H A W (Declared.row Cause.the-type) ρ, Path'.refl), tt) (Reads'.room-gone 𝓤 H A y6) tt Path'.refl) d42
@@ -1962,7 +1962,7 @@ module _ (claims· : Claims) where
               (Declared.row Cause.the-type) y4 Path'.refl)) d54
           d56 : Typed.Typed 𝓤 H A 𝓣 E G63 b52 Δ5 (at56 bs)
           d56 = Typed.s-seq 𝓤 H A W 𝓣 E G63 G64 b48 b51 Δ5 (Typed.both (s57 bs)) (at55 bs) (Plain.t-call-plain 𝓤 H A W 𝓣 0 ps·0 r·0 (claims· .0) (claims· .1)
-              "checker::early" (known .0) E (λ pos β. β) G63 (record { pos = 22; st = []; d = 0; at = λ x. x }, tt) 21 [] (Call.sub-id 𝓤 H A W (G63 .slots))
+              "answers::early" (known .0) E (λ pos β. β) G63 (record { pos = 22; st = []; d = 0; at = λ x. x }, tt) 21 [] (Call.sub-id 𝓤 H A W (G63 .slots))
               ((Yields.yields-copy 𝓤 H A W (λ ρ. Unit) (Declared.row Cause.the-type) Path'.refl (Copies.cEnum Cause.the-type Laws'.the-laws Laws'.the-copy
               .copy 𝓤 H A W) (Rows'.whole (Declared.row Cause.the-type)) (λ x. x) (λ x. x) (λ ρ told. Local.mem-whole 𝓤 H A W (Declared.row Cause.the-type) ρ)
               λ ρ told. Local.whole-mem 𝓤 H A W (Declared.row Cause.the-type) ρ, Path'.refl), tt) (Reads'.room-gone 𝓤 H A y6) tt Path'.refl) d55
@@ -3079,7 +3079,7 @@ module _ (claims· : Claims) where
           asked = λ a good pre bs. laid record { κs = κs; args = record { n = a .0; size = a .1 .0; v = a .1 .1 .0; out = a .1 .1 .1 .0; t = a .1 .1 .1 .1 .0
               }; blocks = bs; good = good; fits = record { n = record { fits = good .0 .1 }; size = record { fits = good .1 .0 .1 } }; pre = pre }
         module _ {M : Type 1} (𝓤 : URA.URA M) (H : Wp.Heap 𝓤) (A : Atoms.Atoms 𝓤) (W : Kit.Given 𝓤 H A) (𝓣 : Wp.Tables 𝓤 H) (known0 : Plain.Known 𝓤 H A W 𝓣 0
-            ps·0 r·0 (claims· .0) (claims· .1) "checker::early") (known1 : Plain.Known 𝓤 H A W 𝓣 1 ps·1 r·1 (claims· .2) (claims· .3)
+            ps·0 r·0 (claims· .0) (claims· .1) "answers::early") (known1 : Plain.Known 𝓤 H A W 𝓣 1 ps·1 r·1 (claims· .2) (claims· .3)
             "record_tables::clear_writer_records") (known2 : Plain.Known 𝓤 H A W 𝓣 4 ps·2 r·2 (claims· .4) (claims· .5) "writer::stream") (known3 :
             Plain.Known 𝓤 H A W 𝓣 0 ps·3 r·3 (claims· .6) (claims· .7) "writer::answer") where
           pub spec : Statement.Triple 𝓤 (Wp.WpFn 𝓤 H (𝓣 .C) (𝓣 .Λ) (Function.fnOf 3 ps r xs m hs body)) (Function.plainOf 𝓤 H A 3 ps r Pre· Post·)

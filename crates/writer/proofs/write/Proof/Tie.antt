@@ -1,11 +1,11 @@
 -- Generated: the needs of write at its contract, and how its theorem closes.
--- From 1b3cca3231d934c7, as 2754369004ba88ca.
+-- From f82ca65e0b1caaa7, as 3e2188eb7a275a7d.
 use borrow.Fn.Run
 use borrow.Fn.Written
 use contract.Running.{givenOf, tablesOf}
-use Rattle.checker.proofs.early.Reads as early-reads
-use Rattle.checker.proofs.early.Met as early-met
-use Rattle.checker.proofs.early.Symbol as early-symbol
+use Rattle.answers.proofs.early.Reads as early-reads
+use Rattle.answers.proofs.early.Met as early-met
+use Rattle.answers.proofs.early.Symbol as early-symbol
 use Rattle.record_tables.proofs.Lifted.clear_writer_records as clear-writer-records-reads
 use Rattle.record_tables.proofs.clear_writer_records.Met as clear-writer-records-met
 use Rattle.record_tables.proofs.clear_writer_records.Symbol as clear-writer-records-symbol
@@ -93,7 +93,7 @@ module _ {M : Type 1} where
   close closed 𝓤 H 𝓜 𝓖 𝓡 =
       Written.close 3 self.ps self.r self.Ghost self.requires self.ensures self.pre-read self.Pinned self.Owned self.post-read record { M = M; 𝓤 = 𝓤; H = H; 𝓜 = 𝓜; 𝓖 = 𝓖; 𝓡 = 𝓡 } code.env Key.name code.function (code.unfolded 𝓤 H 𝓜 𝓡)
       (λ κs a g. tt) (λ κs. self.owns κs record { M = M; 𝓤 = 𝓤; H = H; 𝓜 = 𝓜; 𝓖 = 𝓖; 𝓡 = 𝓡 }) (self.passes record { M = M; 𝓤 = 𝓤; H = H; 𝓜 = 𝓜; 𝓖 = 𝓖; 𝓡 = 𝓡 }) λ g. closed 𝓤 H (𝓖 .A) (givenOf 𝓤 H 𝓜 𝓖) (Run.Over 𝓤 H 𝓜 𝓖 𝓡 code.env)
-      (early-reads.known record { M = M; 𝓤 = 𝓤; H = H; 𝓜 = 𝓜; 𝓖 = 𝓖; 𝓡 = 𝓡 } code.env early-symbol.name early-symbol.routine code.calls-checker·early (early-met.met 𝓤 H 𝓜 𝓖 𝓡))
+      (early-reads.known record { M = M; 𝓤 = 𝓤; H = H; 𝓜 = 𝓜; 𝓖 = 𝓖; 𝓡 = 𝓡 } code.env early-symbol.name early-symbol.routine code.calls-answers·early (early-met.met 𝓤 H 𝓜 𝓖 𝓡))
       (clear-writer-records-reads.known record { M = M; 𝓤 = 𝓤; H = H; 𝓜 = 𝓜; 𝓖 = 𝓖; 𝓡 = 𝓡 } code.env clear-writer-records-symbol.name clear-writer-records-symbol.routine code.calls-record-tables·clear-writer-records (clear-writer-records-met.met 𝓤 H 𝓜 𝓖 𝓡))
       (stream-reads.known record { M = M; 𝓤 = 𝓤; H = H; 𝓜 = 𝓜; 𝓖 = 𝓖; 𝓡 = 𝓡 } code.env stream-symbol.name stream-symbol.routine code.calls-writer·stream (stream-met.met 𝓤 H 𝓜 𝓖 𝓡))
       (answer-reads.known record { M = M; 𝓤 = 𝓤; H = H; 𝓜 = 𝓜; 𝓖 = 𝓖; 𝓡 = 𝓡 } code.env answer-symbol.name answer-symbol.routine code.calls-writer·answer (answer-met.met 𝓤 H 𝓜 𝓖 𝓡))
