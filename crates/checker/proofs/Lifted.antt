@@ -1,3 +1,3 @@
 -- Generated: what callers cite of the lifted functions.
--- From 42bafd3c7e323c4b, as 4e22d98f3ed21860.
+-- From 04da2c9a72f2aa4e, as 4e22d98f3ed21860.
 pub mod check

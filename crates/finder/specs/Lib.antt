@@ -1,4 +1,5 @@
 pub mod Search
 pub mod SearchSteps
 pub mod SearchLaws
+pub mod Seeking
 pub mod FindCorrect

@@ -6,10 +6,13 @@ ghost use lib.ListN.{length, replicate};
 ghost use Rattle.theory_reading.specs.Limits.{optionLimit, openLimit, tableLimit, wordLimit};
 ghost use Rattle.theory_reading.specs.Calls.{FindsNext};
 ghost use Rattle.node_records.specs.Records.{noRecord};
+ghost use Rattle.theory_lists.specs.Lists.{differ};
 ghost use Rattle.reader.specs.OpenCells.{reachedIn};
+ghost use Rattle.blocks.specs.Blocks.{edgeAt};
 ghost use Rattle.answers.specs.Answers.{findingOf};
 ghost use Rattle.finder.specs.Search.{someIn, leastIn, startIn, fromIn};
-ghost use Rattle.finder.specs.FindCorrect.{soughtAt, Seeks, endedBy, foundBy};
+ghost use Rattle.finder.specs.Seeking.{soughtAt, Seeks};
+ghost use Rattle.finder.specs.FindCorrect.{endedBy, foundBy};
 use answers::Finding;
 use answers::NextWord;
 use answers::Refusal;
@@ -26,11 +29,13 @@ use node_records::NodeRecord;
 use node_records::OPTION_LIMIT;
 use node_records::TABLE_LIMIT;
 use node_records::WORD_LIMIT;
+use node_records::differs;
 use node_records::first_edge;
 use node_records::second_edge;
 use node_records::some_yes;
 use reader::Reached;
 use reader::read_on;
+use reader::search_on;
 use record_tables::clear_records;
 use work_table::get;
 
@@ -137,31 +142,47 @@ fn covered_of(r: Reached) -> u64
     q.covered
 }
 
-// Reads on to a word from w on that is yes. o: the open nodes, as reading leaves them
+// Whether an odd number of open nodes turns about, where reading stands.
+fn odd_of(r: Reached, o: &[[u32; 4]; OPEN_LIMIT]) -> bool
+    ensures { λ x. ⌜ x ≡ differ (edgeAt (reachedIn r (now (o .entry))) .complement) (r .run .complement) ⌝ }
+{
+    let q = r.run;
+    let e = edge_of(r, o);
+    differs(e.complement, q.complement)
+}
+
+// Reads on to a word from w on that is yes: to w, and past the words that are no. o: the open nodes, as reading leaves them
 fn seek(n: u32, s: &[u8], t: &mut [NodeRecord], o: &mut [[u32; 4]; OPEN_LIMIT], w: u64) -> Sought
     requires { ⌜ (n ≤ optionLimit) × ((tableLimit ≤ length (now t)) × ((w < 2 ^ n) × (now o ≡ replicate openLimit (replicate 4 0)))) ⌝ }
     ensures { λ x. ⌜ Seeks n (now (s .entry)) w (reachedIn (x .reached) (now (o .exit))) (x .word) (now (t .exit)) (length (now (t .entry))) ⌝ }
 {
-    let mut c = first_cursor();
-    let mut v = w;
-    loop {
-        let r = read_on(n, s, t, o, c, v);
-        let h = r.halted;
-        if h {
-            return Sought {
-                reached: r,
-                word: 0,
-            };
-        }
-        let u = word_at(t, o, n, r, v);
-        if u < covered_of(r) {
-            return Sought {
-                reached: r,
-                word: u,
-            };
-        }
-        c = cursor_of(r);
-        v = u;
+    let r = read_on(n, s, t, o, first_cursor(), w);
+    let h = r.halted;
+    if h {
+        return Sought {
+            reached: r,
+            word: 0,
+        };
+    }
+    let u = word_at(t, o, n, r, w);
+    if u < covered_of(r) {
+        return Sought {
+            reached: r,
+            word: u,
+        };
+    }
+    let x = search_on(n, s, t, o, cursor_of(r), odd_of(r, o));
+    let g = x.halted;
+    if g {
+        return Sought {
+            reached: x,
+            word: 0,
+        };
+    }
+    let v = word_at(t, o, n, x, x.from);
+    Sought {
+        reached: x,
+        word: v,
     }
 }
 

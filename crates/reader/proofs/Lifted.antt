@@ -1,7 +1,10 @@
 -- Generated: what callers cite of the lifted functions.
--- From ca16d0e1cc319667, as 6d1ea162123c682d.
+-- From e3279c059057b5eb, as ed3d81d8c560d983.
 pub mod barred
 pub mod update_table
 pub mod iterate
+pub mod stop_after
+pub mod goal_after
 pub mod run_on
 pub mod read_on
+pub mod search_on

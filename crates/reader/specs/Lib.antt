@@ -8,3 +8,6 @@ pub mod Iterating
 pub mod OpenCells
 pub mod Loop
 pub mod ReadOn
+pub mod RunOn
+pub mod OpenParity
+pub mod Searched

@@ -8,13 +8,12 @@ use native.Mathlib.Omega.{arith}
 use lib.ListN.{length, replicate, length-replicate}
 use Rattle.theory_reading.specs.Limits.{optionLimit, openLimit, tableLimit, wordLimit}
 use Rattle.theory_reading.specs.Reading.{State, isStart}
-use Rattle.theory_reading.specs.Reaching.{At, at-start, at-next, at-covered, at-stamp}
-use Rattle.elements.specs.Abstraction.{contextOf, insideOpen, terminalRef, temporaryRef, opensOf}
+use Rattle.theory_reading.specs.Reaching.{At, at-start, at-next, at-covered, at-grows, at-stamp}
+use Rattle.elements.specs.Abstraction.{contextOf, insideOpen, opensOf}
 use Rattle.elements.specs.declared.Cause.the-variants.{WrongByte}
 use Rattle.elements.specs.declared.Open.{Open}
 use Rattle.elements.specs.declared.Opens.{Opens}
 use Rattle.elements.specs.declared.Context.{Context}
-use Rattle.elements.specs.declared.Context.the-variants.{Start}
 use Rattle.cursors.specs.Cursors.{firstRun}
 use Rattle.cursors.specs.declared.Run.{Run}
 use Rattle.reader.specs.declared.Iteration.{Iteration}
@@ -122,6 +121,13 @@ module _ (n : ℕ) (bytes : List ℕ) (few : n ≤ optionLimit) (r : Run) (o : O
         later = went e .1 .1 .1 .1;
       });
     }
+
+    -- It covers no less.
+    pub grows-here : y .went ≡ true → r .covered ≤ y .run .covered
+    grows-here e =
+        let s′ = stateAt (y .run) (opensTo o (y .depth) (y .low)) u in
+        at-grows n bytes (h .steps) (suc (h .steps)) (stateAt r o t) s′ (omega arith) (h .here)
+        (at-next n bytes (h .steps) (stateAt r o t) s′ (h .here) (went e .0))
 
     -- It moves on.
     pub ahead-here : y .went ≡ true → length bytes - y .run .at < length bytes - r .at

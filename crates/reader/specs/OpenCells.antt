@@ -1,7 +1,7 @@
 -- The open nodes as code lends them, four cells to a node, and what the loop and a cursor are with them. A cell that is a yes or a no is
 -- not 0 or 0, so that any cells are open nodes. Assumes nothing.
 use mathlib.Core.Path.{_≡_, refl, sym, ap, ap₂, _∙_}
-use mathlib.Core.Bool.{Bool, true, false, cond, not}
+use mathlib.Core.Bool.{Bool, cond, not}
 use mathlib.Core.List.{List, [], _∷_, map}
 use Prim.Native.Nat.{ℕ, zero, suc}
 use lib.Dec.{eqb}

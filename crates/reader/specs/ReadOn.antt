@@ -14,12 +14,11 @@ use Rattle.theory_reading.specs.Limits.{optionLimit, openLimit, tableLimit, wor
 use Rattle.elements.specs.declared.Cause.{Cause}
 use Rattle.elements.specs.declared.Cause.the-variants.{WrongByte}
 use Rattle.cursors.specs.declared.Cursor.{Cursor}
-use Rattle.elements.specs.declared.Open.{Open}
 use Rattle.elements.specs.declared.Opens.{Opens}
 use Rattle.cursors.specs.declared.Run.{Run}
 use Rattle.reader.specs.declared.Iteration.{Iteration}
-use Rattle.reader.specs.Advance.{lowOf, nodesTo, opensTo, Iterates}
-use Rattle.reader.specs.Iterating.{Iterated, iterationIn, iteration-in, iteration-made, iteration-ahead}
+use Rattle.reader.specs.Advance.{lowOf, opensTo, Iterates}
+use Rattle.reader.specs.Iterating.{Iterated, iterationIn, iteration-in, iteration-made}
 use Rattle.reader.specs.OpenCells.{ReadReached, ReadCursor, cursorIn}
 use Rattle.cursors.specs.Cursors.{firstRun, startCursor}
 use Rattle.reader.specs.Loop.{firstOpens, Stands, stands-first, ReachedBy, Running, goes-here, halts-here, ahead-here}
@@ -170,62 +169,6 @@ pub read-reaches : (n : ℕ) (bytes : List ℕ) → n ≤ optionLimit → (stop 
 read-reaches n bytes few stop r o t h l = read-running (suc (length bytes)) n bytes few stop r o 0 0 t (record { stands = h; past = inl l })
     (omega arith)
 
--- ---- The code's loop -------------------------------------------------------------------------
-
--- What the loop keeps, whatever the state: it leads to what the function comes to.
-pub record Leads (z : ReadTo) (n : ℕ) (bytes : List ℕ) (stop : ℕ) (r : Run) (o : Opens) (from deep : ℕ) (t : List NodeRecord) : Type 0 where
-  pub fuel : ℕ
-  pub enough : length bytes - r .at < suc fuel
-  pub same : readOn (suc fuel) n bytes stop r o from deep t ≡ z
-  pub shallow : o .depth ≤ openLimit
-
--- So at the start.
-pub leads-first : (n : ℕ) (bytes : List ℕ) (stop : ℕ) (r : Run) (o : Opens) (t : List NodeRecord) → o .depth ≤ openLimit
-    → Leads (readAll n bytes stop r o t) n bytes stop r o 0 0 t
-leads-first n bytes stop r o t h = record { fuel = length bytes; enough = omega arith; same = refl; shallow = h }
-
-module _ (z : ReadTo) (n : ℕ) (bytes : List ℕ) (stop : ℕ) (r : Run) (o : Opens) (from deep : ℕ) (t : List NodeRecord)
-    (h : Leads z n bytes stop r o from deep t) where
-  -- Past its stop the loop is done.
-  pub leads-past : stop < r .covered → record { reached = passedAt r o from deep; table = t } ≡ z
-  leads-past l = sym (read-past (h .fuel) n bytes stop r o from deep t l) ∙ h .same
-
-  -- low: the innermost entry, as code reads it
-  module _ (l : r .covered ≤ stop) (low : Open) (lowest : low ≡ lowOf o) (y : Iteration) (u : List NodeRecord)
-      (made : Iterates n bytes r (o .depth) low t y u) where
-    iterates-low : Iterates n bytes r (o .depth) (lowOf o) t y u
-    iterates-low = subst (λ (x : Open). Iterates n bytes r (o .depth) x t y u) lowest made
-
-    -- It halts at an iteration that does not go on.
-    pub leads-halts : y .went ≡ false → record { reached = haltedAt r o from deep (y .faulty) (y .cause) (y .byte); table = u } ≡ z
-    leads-halts e = sym (read-halts (h .fuel) n bytes stop r o from deep t y u iterates-low l e) ∙ h .same
-
-    module _ (e : y .went ≡ true) where
-      ahead : (r .at < length bytes) × ((r .at < y .run .at) × (y .depth ≤ openLimit))
-      ahead = iteration-ahead n bytes r (o .depth) (lowOf o) t y u iterates-low e
-
-      -- Another moves on in the bytes,
-      pub leads-moves : length bytes - y .run .at < length bytes - r .at
-      leads-moves = omega (arith, ahead .0, ahead .1 .0)
-
-      leads-on : (f : ℕ) → length bytes - r .at < suc f → readOn (suc f) n bytes stop r o from deep t ≡ z
-          → Leads z n bytes stop (y .run) (opensTo o (y .depth) (y .low)) (r .covered) (o .depth) u
-      leads-on zero m k = absurd (omega (arith, m, ahead .0))
-      leads-on (suc f) m k = record {
-        fuel = f;
-        enough = omega (arith, m, leads-moves);
-        same = sym
-            (read-goes (suc f) n bytes stop r o from deep t y u iterates-low l e) ∙ k;
-        shallow = ahead .1 .1;
-      }
-
-      -- and leads on; ns: the entries, as code stores them.
-      pub leads-goes : (ns : List Open) → ns ≡ nodesTo (o .nodes) (o .depth) (y .low)
-          → Leads z n bytes stop (y .run) (record { nodes = ns; depth = y .depth }) (r .covered) (o .depth) u
-      leads-goes ns k =
-          subst (λ (ns : List Open). Leads z n bytes stop (y .run) (record { nodes = ns; depth = y .depth }) (r .covered) (o .depth) u) (sym k)
-          (leads-on (h .fuel) (h .enough) (h .same))
-
 -- ---- Reading on from a cursor ----------------------------------------------------------------
 
 -- where reading begins
@@ -276,7 +219,7 @@ within n d stop = go (ltb optionLimit n) refl (ltb openLimit d) refl (ltb wordLi
     go false e false f false g h = (ltb-false optionLimit n e, (ltb-false openLimit d f, ltb-false wordLimit stop g))
 
 -- and one that keeps to them is not past them
-not-off : (n d stop : ℕ) → n ≤ optionLimit → d ≤ openLimit → stop ≤ wordLimit → offBy n d stop ≡ false
+pub not-off : (n d stop : ℕ) → n ≤ optionLimit → d ≤ openLimit → stop ≤ wordLimit → offBy n d stop ≡ false
 not-off n d stop h k l = rw (le-ltb optionLimit n h, le-ltb openLimit d k, le-ltb wordLimit stop l) refl
 
 -- The loop reads on from a cursor that stands where reading does.

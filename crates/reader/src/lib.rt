@@ -7,7 +7,8 @@ ghost use Rattle.reader.specs.Taking.{goesOf, failsOf, movedTo, passedTo
 ghost use Rattle.reader.specs.Taking.{nextStamp, storedTo, takenOf};
 ghost use Rattle.reader.specs.Advance.{barredBy, recordTo, updatedTo, lowOf, nodesTo, stayed, wentBy, Iterates};
 ghost use Rattle.reader.specs.OpenCells.{nodesIn, opensIn, reachedIn, cursorIn};
-ghost use Rattle.reader.specs.ReadOn.{readAll, offBy, readFrom};
+ghost use Rattle.reader.specs.ReadOn.{offBy, readFrom};
+ghost use Rattle.reader.specs.RunOn.{complementIn, parityTo, lastEdge, stopTo, goalTo, goalOf, restingOf, runAll, searchFrom};
 ghost use Rattle.reader.specs.Tokens.{elementIn, isFault, isOut};
 use cursors::Cursor;
 use cursors::Pair;
@@ -22,11 +23,14 @@ use elements::Ref;
 use elements::is_context;
 use elements::spots_of;
 use kinds::kinds;
+use node_records::Edge;
 use node_records::NodeRecord;
 use node_records::OPTION_LIMIT;
 use node_records::TABLE_LIMIT;
 use node_records::WORD_LIMIT;
 use node_records::bit;
+use node_records::differs;
+use node_records::some_yes;
 use record_tables::clear_records;
 use scanner::BLANK;
 use scanner::COLON;
@@ -566,7 +570,79 @@ fn put_open(o: &mut [[u32; 4]; OPEN_LIMIT], d: usize, e: Open)
     o[i] = a;
 }
 
-// Reads on while no more than `stop` words are covered, inside the open nodes o, of which there are `around`.
+// ---- The loop's goal
+
+// The loop reads on while no more than `stop` words are covered. odd: whether an odd number of open nodes turns about, if it seeks words that are yes
+struct Goal {
+    stop: u64,
+    odd: bool,
+}
+
+// The place is in the second child, and the edge to it is complemented.
+fn complements(e: Open) -> bool
+    ensures { λ r. ⌜ r ≡ complementIn e ⌝ }
+{
+    let two = e.second;
+    if two { e.complement } else { false }
+}
+
+// Whether an odd number of open nodes turns about, after the iteration x. p: before it; d, low: how many are open before it, and the innermost
+fn parity_on(p: bool, d: usize, low: Open, x: Iteration) -> bool
+    ensures { λ r. ⌜ r ≡ parityTo p d low x ⌝ }
+{
+    if d == 0 {
+        return false;
+    }
+    let q = differs(complements(low), p);
+    if x.depth < d {
+        return q;
+    }
+    let l = x.low;
+    differs(complements(l), q)
+}
+
+// What ended last, turned about by the open nodes if p.
+fn last_edge(r: Run, p: bool) -> Edge
+    ensures { λ e. ⌜ e ≡ lastEdge r p ⌝ }
+{
+    let l = r.last;
+    Edge {
+        number: l.number,
+        complement: differs(p, r.complement),
+    }
+}
+
+// The stop after an element, for a search: behind the words that it passed, if none of them is yes. p: an odd number of open nodes turns about
+fn stop_after(t: &[NodeRecord], r: Run, stop: u64, p: bool) -> u64
+    ensures { λ x. ⌜ x ≡ stopTo (now (t .entry)) r stop p ⌝ }
+{
+    if r.covered <= stop {
+        return stop;
+    }
+    if WORD_LIMIT < r.covered {
+        return stop;
+    }
+    let e = last_edge(r, p);
+    if some_yes(get(t, r.size, e.number), e) {
+        return stop;
+    }
+    r.covered
+}
+
+// The goal after the iteration x, which stays unless the loop seeks. d, low: how many nodes are open before it, and the innermost
+fn goal_after(t: &[NodeRecord], seeks: bool, g: Goal, d: usize, low: Open, x: Iteration) -> Goal
+    ensures { λ y. ⌜ y ≡ goalTo seeks (now (t .entry)) g d low x ⌝ }
+{
+    if !seeks {
+        return g;
+    }
+    let p = parity_on(g.odd, d, low, x);
+    let r = x.run;
+    let v = stop_after(t, r, g.stop, p);
+    Goal { stop: v, odd: p }
+}
+
+// Reads on to the goal, inside the open nodes o, of which there are `around`.
 fn run_on(
     k: &[u8; 256],
     n: u32,
@@ -575,17 +651,19 @@ fn run_on(
     o: &mut [[u32; 4]; OPEN_LIMIT],
     first: Run,
     around: usize,
-    stop: u64,
+    seeks: bool,
+    goal: Goal,
 ) -> Reached
-    requires { ⌜ (now k ≡ kindTable) × ((n ≤ optionLimit) × ((around ≤ openLimit) × (stop ≤ wordLimit))) ⌝ }
+    requires { ⌜ (now k ≡ kindTable) × ((n ≤ optionLimit) × ((around ≤ openLimit) × (goal .stop ≤ wordLimit))) ⌝ }
     ensures { λ y. ⌜ record { reached = reachedIn y (now (o .exit)); table = now (t .exit) }
-        ≡ readAll n (now (s .entry)) stop first (opensIn (now (o .entry)) around) (now (t .entry)) ⌝ }
+        ≡ runAll n (now (s .entry)) seeks goal first (opensIn (now (o .entry)) around) (now (t .entry)) ⌝ }
 {
     let mut run = first;
     let mut depth = around;
     let mut from = 0;
     let mut deep = 0;
-    while run.covered <= stop {
+    let mut g = goal;
+    while run.covered <= g.stop {
         let d = depth;
         let low = open_at(o, d);
         let x = iterate(k, n, s, t, run, d, low);
@@ -603,6 +681,7 @@ fn run_on(
                 byte: x.byte,
             };
         }
+        g = goal_after(t, seeks, g, d, low, x);
         from = run.covered;
         deep = d;
         let q = x.run;
@@ -638,6 +717,32 @@ fn is_off(n: u32, d: usize, stop: u64) -> bool
     WORD_LIMIT < stop
 }
 
+fn goal_of(stop: u64, odd: bool) -> Goal
+    ensures { λ g. ⌜ g ≡ goalOf stop odd ⌝ }
+{
+    Goal {
+        stop: stop,
+        odd: odd,
+    }
+}
+
+// Where nothing is read.
+fn resting(c: Cursor) -> Reached
+    ensures { λ r. ⌜ r ≡ restingOf c ⌝ }
+{
+    let q = c.run;
+    Reached {
+        run: q,
+        depth: c.depth,
+        from: 0,
+        deep: 0,
+        halted: true,
+        faulty: false,
+        cause: Cause::WrongByte,
+        byte: 0,
+    }
+}
+
 // READING ON while no more than `stop` words are covered. o: the open nodes, as reading left them
 pub fn read_on(
     n: u32,
@@ -652,17 +757,28 @@ pub fn read_on(
 {
     let q = c.run;
     if is_off(n, c.depth, stop) {
-        return Reached {
-            run: q,
-            depth: c.depth,
-            from: 0,
-            deep: 0,
-            halted: true,
-            faulty: false,
-            cause: Cause::WrongByte,
-            byte: 0,
-        };
+        return resting(c);
     }
     let k = kinds();
-    run_on(&k, n, s, t, o, q, c.depth, stop)
+    run_on(&k, n, s, t, o, q, c.depth, false, goal_of(stop, false))
+}
+
+// SEARCHING ON: reads on until words are passed of which some is yes. o: the open nodes, as reading left them; odd: an odd number of them turns about
+pub fn search_on(
+    n: u32,
+    s: &[u8],
+    t: &mut [NodeRecord],
+    o: &mut [[u32; 4]; OPEN_LIMIT],
+    c: Cursor,
+    odd: bool,
+) -> Reached
+    ensures { λ y. ⌜ record { reached = reachedIn y (now (o .exit)); table = now (t .exit) }
+        ≡ searchFrom n (now (s .entry)) (cursorIn c (now (o .entry))) odd (now (t .entry)) ⌝ }
+{
+    let q = c.run;
+    if is_off(n, c.depth, q.covered) {
+        return resting(c);
+    }
+    let k = kinds();
+    run_on(&k, n, s, t, o, q, c.depth, true, goal_of(q.covered, odd))
 }

@@ -1,5 +1,5 @@
 -- Generated: what callers cite of the lifted functions.
--- From 1d85ceb810926a93, as 139f5d5741d92fdb.
+-- From 7d371e1a9383305f, as 139f5d5741d92fdb.
 pub mod first_on
 pub mod second_on
 pub mod texts

@@ -1,2 +1,2 @@
 # crates/finder/src/lib.rt
-s/^        if u < covered_of(r) {/        if u <= covered_of(r) {/
+s/^    if u < covered_of(r) {/    if u <= covered_of(r) {/

@@ -1,2 +1,2 @@
-# crates/finder/src/lib.rt
-s/^        v = u;/        v = u + 1;/
+# crates/reader/src/lib.rt
+/^fn stop_after/,/^}/s/^    r.covered$/    r.covered + 1/

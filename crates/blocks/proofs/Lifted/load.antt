@@ -1,5 +1,5 @@
 -- Generated: what callers cite of load.
--- From d64a6d5617382004, as e8563fc83e51ef9c.
+-- From 3b26d2a4295ec3b1, as e8563fc83e51ef9c.
 use Rattle.blocks.proofs.Loaded
 use Rattle.blocks.proofs.Loaded.Laws
 use Rattle.node_records.proofs.Tables.NodeRecord as NodeRecordT

@@ -1,5 +1,5 @@
 -- Generated: what callers cite of next_block.
--- From d64a6d5617382004, as 15b7e094f4d25a97.
+-- From 3b26d2a4295ec3b1, as 15b7e094f4d25a97.
 use Rattle.blocks.proofs.Block
 use Rattle.blocks.proofs.Block.Laws
 use Rattle.cursors.proofs.Cursor

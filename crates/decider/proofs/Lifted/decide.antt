@@ -1,5 +1,5 @@
 -- Generated: what callers cite of decide.
--- From a836c20be02a443c, as 36f070e2b4b9ed58.
+-- From 83051e63fbdf9f20, as 36f070e2b4b9ed58.
 use Rattle.answers.proofs.Deciding
 use Rattle.answers.proofs.Deciding.Laws
 use Rattle.node_records.proofs.Tables.NodeRecord as NodeRecordT

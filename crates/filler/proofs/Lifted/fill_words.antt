@@ -1,5 +1,5 @@
 -- Generated: what callers cite of fill_words.
--- From f5a38dbcc6d8e36e, as 30d434372ffe0b6d.
+-- From 328527b0f9fca93f, as 30d434372ffe0b6d.
 use Rattle.node_records.proofs.Tables.NodeRecord as NodeRecordT
 use borrow.Fn.Kinds
 use borrow.Kind.MutSlice

@@ -1,5 +1,5 @@
 -- Generated: what callers cite of start_word.
--- From 90a438c920363d05, as 91b6388c8d353473.
+-- From 3797fdcb77939f72, as 91b6388c8d353473.
 use Rattle.node_records.proofs.Edge
 use Rattle.node_records.proofs.Edge.Laws
 use Rattle.node_records.proofs.Tables.NodeRecord as NodeRecordT

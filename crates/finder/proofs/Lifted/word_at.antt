@@ -1,5 +1,5 @@
 -- Generated: what callers cite of word_at.
--- From 90a438c920363d05, as 11024fa66d61c08b.
+-- From 3797fdcb77939f72, as 11024fa66d61c08b.
 use Rattle.node_records.proofs.Tables.NodeRecord as NodeRecordT
 use Rattle.reader.proofs.Reached
 use Rattle.reader.proofs.Reached.Laws

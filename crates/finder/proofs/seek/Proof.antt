@@ -1,131 +1,161 @@
--- Each iteration reads until the word v is passed and searches from it on (`seeks-found`); if nothing is found it goes on behind what was passed (`seeking-on`);
--- where reading halts there is no word (`seeks-ended`). Assumes nothing.
+-- Reading passes w (`read-first`): a word from w on is found there (`seeks-found`), or the search goes on behind what was passed (`searches`) and finds
+-- one (`search-found`). Where reading halts there is no word (`seeks-ended`, `search-ended`). Assumes nothing.
 mod Lts
 mod Tie
-use mathlib.Core.Path.{_≡_, refl, ap, _∙_}
-use Prim.Native.Nat.{_-_, _≤_, _^_}
+use mathlib.Core.Path.{_∙_}
 use native.Mathlib.Omega.{arith}
-use lib.ListN.{length}
-use Rattle.theory_reading.specs.Limits.{optionLimit}
-use Rattle.cursors.specs.declared.Cursor.{Cursor}
-use Rattle.reader.specs.OpenCells.{opensIn}
-use Rattle.finder.specs.FindCorrect.{Seeking, seeking-begun, seeks-ended, seeks-bounds, seeks-found, seeking-again, seeking-less}
+use Rattle.finder.specs.Seeking.{none-first, read-first, passed-bounds, seeks-ended, seeks-found, searches, search-ended, search-bounds, search-found}
 use borrow.Author.Needs.{needs}
 use Rattle.finder.proofs.seek.Statement.{statement}
 use Rattle.finder.proofs.seek.Proof.Tie as tie
 
-abbrev Inv-loop : tie.InvT-loop
-Inv-loop = λ n s t₀ o₀ w c₀ v₀ t o c v. (n ≤ optionLimit) × ((length t ≡ length t₀) × Seeking n s w (c .run) (opensIn o (c .depth)) t v)
-
-abbrev μ-loop : tie.MeasureT-loop
-μ-loop = λ n s t₀ o₀ w c₀ v₀ t o c v. 2 ^ n - c .run .covered
-
-first-cursor-requires : tie.Need-first-cursor-requires Inv-loop μ-loop
+first-cursor-requires : tie.Need-first-cursor-requires
 first-cursor-requires c κs = search needs
 
-loop-holds : tie.Need-loop-holds Inv-loop μ-loop
-loop-holds c =
-    let c2 = c .before .before in
-    let p = c2 .pre in
-    let a = c2 .args in (
-      p .0,
-      (
-        refl,
-        seeking-begun (a .n) (a .s .now) (a .w) (a .t .now) (a .o .now) (c .first-cursor .result) (p .1 .0) (p .1 .1 .0)
-            (p .1 .1 .1) (c .first-cursor .ensures),
-      ),
-    )
-
-read-on-requires : tie.Need-read-on-requires Inv-loop μ-loop
+read-on-requires : tie.Need-read-on-requires
 read-on-requires c κs = search needs
 
-same-length : tie.Need-same-length Inv-loop μ-loop
+same-length : tie.Need-same-length
 same-length c = search needs
 
-returns : tie.Need-returns Inv-loop μ-loop
+returns : tie.Need-returns
 returns c =
     let c1 = c .before in
     let c2 = c1 .before in
-    let c5 = c2 .before .before .before in
-    let c8 = c5 .before .before .before in
-    let l = c5 .loop in
-    let a = c8 .args in
-    seeks-ended (a .n) (a .s .now) (a .w) (l .c .run) (opensIn (l .o) (l .c .depth)) (l .t) (l .v) (l .inv .1 .1) (l .inv .0) _ _
-    (c2 .read-on .ensures) 0 _ (c .if1 .taken) (c1 .t .given ∙ l .inv .1 .0)
+    let c3 = c2 .before in
+    let c7 = c3 .before .before .before .before in
+    let a = c7 .args in
+    let p = c7 .pre in
+    let first = read-first (a .n) (a .s .now) (p .0) (a .w) (a .t .now) (a .o .now) (c3 .first-cursor .result) _ _ (p .1 .0) (p .1 .1 .0) (p .1 .1 .1)
+    (c3 .first-cursor .ensures) (c2 .read-on .ensures) in
+    seeks-ended (a .n) (a .s .now) (a .w) _ _ first (a .w) (none-first (a .n) (a .s .now) (p .0) (a .w) .1) 0 _ (c .if1 .taken) (c1 .t .given)
 
-word-at-requires : tie.Need-word-at-requires Inv-loop μ-loop
+word-at-requires : tie.Need-word-at-requires
 word-at-requires c κs =
     let c2 = c .before .before in
     let c4 = c2 .before .before in
-    let c7 = c4 .before .before .before in
-    let c10 = c7 .before .before .before in
-    let l = c7 .loop in
-    let a = c10 .args in
-    seeks-bounds (a .n) (a .s .now) (a .w) (l .c .run) (opensIn (l .o) (l .c .depth)) (l .t) (l .v) (l .inv .1 .1) (l .inv .0) _ _
-    (c4 .read-on .ensures) (c2 .if1 .left)
+    let c5 = c4 .before in
+    let c9 = c5 .before .before .before .before in
+    let a = c9 .args in
+    let p = c9 .pre in
+    let first = read-first (a .n) (a .s .now) (p .0) (a .w) (a .t .now) (a .o .now) (c5 .first-cursor .result) _ _ (p .1 .0) (p .1 .1 .0) (p .1 .1 .1)
+    (c5 .first-cursor .ensures) (c4 .read-on .ensures) in
+    passed-bounds (a .n) (a .s .now) (p .0) (a .w) _ _ first (c2 .if1 .left)
 
-covered-of-requires : tie.Need-covered-of-requires Inv-loop μ-loop
+covered-of-requires : tie.Need-covered-of-requires
 covered-of-requires c κs = search needs
 
-same-length-2 : tie.Need-same-length-2 Inv-loop μ-loop
+same-length-2 : tie.Need-same-length-2
 same-length-2 c = search needs
 
-returns-2 : tie.Need-returns-2 Inv-loop μ-loop
+returns-2 : tie.Need-returns-2
 returns-2 c =
     let c1 = c .before in
     let c2 = c1 .before in
     let c5 = c2 .before .before .before in
     let c6 = c5 .before in
     let c7 = c6 .before in
-    let c10 = c7 .before .before .before in
-    let c13 = c10 .before .before .before in
-    let l = c10 .loop in
-    let a = c13 .args in
-    seeks-found (a .n) (a .s .now) (a .w) (l .c .run) (opensIn (l .o) (l .c .depth)) (l .t) (l .v) (l .inv .1 .1) (l .inv .0) _ _
-    (c7 .read-on .ensures) (c5 .if1 .left) (c2 .word-at .result) _ (c2 .word-at .ensures)
-    (omega (arith, c .if2 .taken, c1 .covered-of .ensures)) (c6 .t .given ∙ l .inv .1 .0)
+    let c8 = c7 .before in
+    let c12 = c8 .before .before .before .before in
+    let a = c12 .args in
+    let p = c12 .pre in
+    let first = read-first (a .n) (a .s .now) (p .0) (a .w) (a .t .now) (a .o .now) (c8 .first-cursor .result) _ _ (p .1 .0) (p .1 .1 .0) (p .1 .1 .1)
+    (c8 .first-cursor .ensures) (c7 .read-on .ensures) in
+    let none = none-first (a .n) (a .s .now) (p .0) (a .w) in
+    seeks-found (a .n) (a .s .now) (p .0) (a .w) _ _ first (c5 .if1 .left) (a .w) (none .0) (none .1) (c2 .word-at .result) _ (c2 .word-at .ensures)
+    (omega (arith, c .if2 .taken, c1 .covered-of .ensures)) (c6 .t .given)
 
-cursor-of-requires : tie.Need-cursor-of-requires Inv-loop μ-loop
+cursor-of-requires : tie.Need-cursor-of-requires
 cursor-of-requires c κs = search needs
 
-loop-less : tie.Need-loop-less Inv-loop μ-loop
-loop-less c =
-    let c6 = c .before .before .before .before .before .before in
-    let c8 = c6 .before .before in
-    let c11 = c8 .before .before .before in
-    let c14 = c11 .before .before .before in
-    let l = c11 .loop in
-    let a = c14 .args in
-    omega (
-      arith,
-      ap (λ (c : Cursor). c .run .covered) (c .cursor-of .ensures),
-      seeking-less (a .n) (a .s .now) (a .w) (l .c .run)
-          (opensIn (l .o) (l .c .depth)) (l .t) (l .v) (l .inv .1 .1) (l .inv .0) _ _ (c8 .read-on .ensures) (c6 .if1 .left),
-    )
+odd-of-requires : tie.Need-odd-of-requires
+odd-of-requires c κs = search needs
 
-loop-again : tie.Need-loop-again Inv-loop μ-loop
-loop-again c =
+search-on-requires : tie.Need-search-on-requires
+search-on-requires c κs = search needs
+
+same-length-3 : tie.Need-same-length-3
+same-length-3 c =
+    let c1 = c .before in
+    let c14 = c1 .before .before .before .before .before .before .before .before .before .before .before .before .before in
+    c1 .t2 .given ∙ c14 .t .given
+
+returns-3 : tie.Need-returns-3
+returns-3 c =
     let c1 = c .before in
     let c2 = c1 .before in
     let c3 = c2 .before in
-    let c6 = c3 .before .before .before in
-    let c7 = c6 .before in
-    let c8 = c7 .before in
+    let c5 = c3 .before .before in
+    let c8 = c5 .before .before .before in
+    let c9 = c8 .before in
+    let c10 = c9 .before in
+    let c13 = c10 .before .before .before in
+    let c14 = c13 .before in
+    let c15 = c14 .before in
+    let c16 = c15 .before in
+    let c20 = c16 .before .before .before .before in
+    let a = c20 .args in
+    let p = c20 .pre in
+    let first = read-first (a .n) (a .s .now) (p .0) (a .w) (a .t .now) (a .o .now) (c16 .first-cursor .result) _ _ (p .1 .0) (p .1 .1 .0) (p .1 .1 .1)
+    (c16 .first-cursor .ensures) (c15 .read-on .ensures) in
+    let found = searches (a .n) (a .s .now) (p .0) (a .w) (c15 .read-on .result) (c15 .read-on .last .1 .1 .1 .0) _ first (c13 .if1 .left) (c10 .word-at .result)
+    (c10 .word-at .ensures) (omega (arith, c8 .if2 .left, c9 .covered-of .ensures)) (c5 .cursor-of .result) (c5 .cursor-of .ensures) (c3 .odd-of .result)
+    (c3 .odd-of .ensures) _ _ (c2 .search-on .ensures) in
+    search-ended (a .n) (a .s .now) (p .0) (a .w) _ _ found 0 _ (c .if3 .taken) (c1 .t2 .given ∙ c14 .t .given)
+
+word-at-requires-2 : tie.Need-word-at-requires-2
+word-at-requires-2 c κs =
+    let c2 = c .before .before in
+    let c4 = c2 .before .before in
+    let c5 = c4 .before in
+    let c7 = c5 .before .before in
+    let c10 = c7 .before .before .before in
+    let c11 = c10 .before in
+    let c12 = c11 .before in
+    let c15 = c12 .before .before .before in
+    let c17 = c15 .before .before in
+    let c18 = c17 .before in
+    let c22 = c18 .before .before .before .before in
+    let a = c22 .args in
+    let p = c22 .pre in
+    let first = read-first (a .n) (a .s .now) (p .0) (a .w) (a .t .now) (a .o .now) (c18 .first-cursor .result) _ _ (p .1 .0) (p .1 .1 .0) (p .1 .1 .1)
+    (c18 .first-cursor .ensures) (c17 .read-on .ensures) in
+    let found = searches (a .n) (a .s .now) (p .0) (a .w) (c17 .read-on .result) (c17 .read-on .last .1 .1 .1 .0) _ first (c15 .if1 .left) (c12 .word-at .result)
+    (c12 .word-at .ensures) (omega (arith, c10 .if2 .left, c11 .covered-of .ensures)) (c7 .cursor-of .result) (c7 .cursor-of .ensures) (c5 .odd-of .result)
+    (c5 .odd-of .ensures) _ _ (c4 .search-on .ensures) in
+    search-bounds (a .n) (a .s .now) (p .0) (a .w) _ _ found (c2 .if3 .left)
+
+same-length-4 : tie.Need-same-length-4
+same-length-4 c =
+    let c4 = c .before .before .before .before in
+    let c17 = c4 .before .before .before .before .before .before .before .before .before .before .before .before .before in
+    c4 .t2 .given ∙ c17 .t .given
+
+returns-4 : tie.Need-returns-4
+returns-4 c =
+    let c3 = c .before .before .before in
+    let c4 = c3 .before in
+    let c5 = c4 .before in
+    let c6 = c5 .before in
+    let c8 = c6 .before .before in
     let c11 = c8 .before .before .before in
-    let c14 = c11 .before .before .before in
-    let l = c11 .loop in
-    let a = c14 .args in (
-      l .inv .0,
-      (
-        c7 .t .given ∙ l .inv .1 .0,
-        seeking-again (a .n) (a .s .now) (a .w) (l .c .run) (opensIn (l .o) (l .c .depth)) (l .t)
-            (l .v) (l .inv .1 .1) (l .inv .0) _ _ (c8 .read-on .ensures) (c6 .if1 .left) (c8 .read-on .result) (c8 .read-on .last .1 .1 .1 .0) refl
-            (c .cursor-of .result) (c .cursor-of .ensures) (c3 .word-at .result) (c3 .word-at .ensures)
-            (omega (arith, c1 .if2 .left, c2 .covered-of .ensures)),
-      ),
-    )
+    let c12 = c11 .before in
+    let c13 = c12 .before in
+    let c16 = c13 .before .before .before in
+    let c17 = c16 .before in
+    let c18 = c17 .before in
+    let c19 = c18 .before in
+    let c23 = c19 .before .before .before .before in
+    let a = c23 .args in
+    let p = c23 .pre in
+    let first = read-first (a .n) (a .s .now) (p .0) (a .w) (a .t .now) (a .o .now) (c19 .first-cursor .result) _ _ (p .1 .0) (p .1 .1 .0) (p .1 .1 .1)
+    (c19 .first-cursor .ensures) (c18 .read-on .ensures) in
+    let found = searches (a .n) (a .s .now) (p .0) (a .w) (c18 .read-on .result) (c18 .read-on .last .1 .1 .1 .0) _ first (c16 .if1 .left) (c13 .word-at .result)
+    (c13 .word-at .ensures) (omega (arith, c11 .if2 .left, c12 .covered-of .ensures)) (c8 .cursor-of .result) (c8 .cursor-of .ensures) (c6 .odd-of .result)
+    (c6 .odd-of .ensures) _ _ (c5 .search-on .ensures) in
+    search-found (a .n) (a .s .now) (p .0) (a .w) _ _ found (c3 .if3 .left) (c .word-at2 .result) _ (c .word-at2 .ensures) (c4 .t2 .given ∙ c17 .t .given)
 
 pub seek-spec : {M : Type 1} → statement M
 seek-spec =
-    tie.close (tie.spec Inv-loop μ-loop first-cursor-requires loop-holds read-on-requires same-length returns word-at-requires
-    covered-of-requires same-length-2 returns-2 cursor-of-requires loop-less loop-again)
+    tie.close (tie.spec first-cursor-requires read-on-requires same-length returns word-at-requires covered-of-requires same-length-2 returns-2
+    cursor-of-requires odd-of-requires search-on-requires same-length-3 returns-3 word-at-requires-2 same-length-4 returns-4)

@@ -1,5 +1,5 @@
 -- Generated: what callers cite of barred.
--- From ca16d0e1cc319667, as 2ca2a01fab411d2e.
+-- From e3279c059057b5eb, as 2ca2a01fab411d2e.
 use Rattle.cursors.proofs.Run
 use Rattle.cursors.proofs.Run.Laws
 use Rattle.node_records.proofs.Tables.NodeRecord as NodeRecordT

@@ -1,5 +1,5 @@
 -- Generated: what callers cite of iterate.
--- From ca16d0e1cc319667, as abb1ab60e415ee56.
+-- From e3279c059057b5eb, as abb1ab60e415ee56.
 use Rattle.cursors.proofs.Run
 use Rattle.cursors.proofs.Run.Laws
 use Rattle.elements.proofs.Open

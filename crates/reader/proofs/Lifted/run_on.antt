@@ -1,10 +1,12 @@
 -- Generated: what callers cite of run_on.
--- From ca16d0e1cc319667, as 0d8d79a7420c1918.
+-- From e3279c059057b5eb, as 7c91ad32661d0f40.
 use Rattle.cursors.proofs.Run
 use Rattle.cursors.proofs.Run.Laws
 use Rattle.node_records.proofs.Tables.NodeRecord as NodeRecordT
+use Rattle.reader.proofs.Goal
+use Rattle.reader.proofs.Goal.Laws as Laws'
 use Rattle.reader.proofs.Reached
-use Rattle.reader.proofs.Reached.Laws as Laws'
+use Rattle.reader.proofs.Reached.Laws as Laws''
 use borrow.Fn.Kinds
 use borrow.Kind.MutSlice
 use borrow.Kind.ShrSlice
@@ -15,7 +17,7 @@ use borrow.Table.Rows
 use denote.Array
 use denote.Exit
 use denote.Struct.Declared
-use denote.Struct.Laws as Laws''
+use denote.Struct.Laws as Laws'3
 use mathlib.Core.List
 use mathlib.Core.Path as Path'
 use mir.Syntax
@@ -31,9 +33,9 @@ use denote.Triple.Clauses
 use Rattle.reader.proofs.run_on as own
 
 abbrev pub ps : List.List (Kinds.PK 4)
-ps = List._∷_ (Kinds.pShr (Array.Array (Referent.rtF (Referent.fInt Syntax.w8)) 256) 0 tt) (List._∷_ (Kinds.pNum Syntax.w32) (List._∷_ (ShrSlice.pShrS (Referent.rtF (Referent.fInt Syntax.w8)) 1 tt) (List._∷_ (MutSlice.pMutS NodeRecordT.row 2 tt) (List._∷_ (Kinds.pMut (Array.Array (Array.Array (Referent.rtF (Referent.fInt Syntax.w32)) 4) 32) 3 tt) (List._∷_ (Value.pVal record { ty = Declared.row Run.the-type; one = Path'.refl; val = Laws''.val Run.the-type Laws.the-laws; tells = Laws''.tells Run.the-type Laws.the-laws; still = Laws''.still Run.the-type Laws.the-copy Exit.yes; row = Rows.whole (Declared.row Run.the-type); rd = λ x. x; mk = λ x. x } λ M 𝓤 H A W. record { copies = Laws''.copy Run.the-type Laws.the-copy 𝓤 H A W; lawful = Laws''.lawful Run.the-type Laws.the-laws 𝓤 H A W; makes = Laws''.makes Run.the-type Laws.the-plain 𝓤 H A; in-mem = Local.mem-whole 𝓤 H A W (Declared.row Run.the-type); of-mem = Local.whole-mem 𝓤 H A W (Declared.row Run.the-type) }) (List._∷_ (Kinds.pNum Syntax.w64) (List._∷_ (Kinds.pNum Syntax.w64) List.[])))))))
+ps = List._∷_ (Kinds.pShr (Array.Array (Referent.rtF (Referent.fInt Syntax.w8)) 256) 0 tt) (List._∷_ (Kinds.pNum Syntax.w32) (List._∷_ (ShrSlice.pShrS (Referent.rtF (Referent.fInt Syntax.w8)) 1 tt) (List._∷_ (MutSlice.pMutS NodeRecordT.row 2 tt) (List._∷_ (Kinds.pMut (Array.Array (Array.Array (Referent.rtF (Referent.fInt Syntax.w32)) 4) 32) 3 tt) (List._∷_ (Value.pVal record { ty = Declared.row Run.the-type; one = Path'.refl; val = Laws'3.val Run.the-type Laws.the-laws; tells = Laws'3.tells Run.the-type Laws.the-laws; still = Laws'3.still Run.the-type Laws.the-copy Exit.yes; row = Rows.whole (Declared.row Run.the-type); rd = λ x. x; mk = λ x. x } λ M 𝓤 H A W. record { copies = Laws'3.copy Run.the-type Laws.the-copy 𝓤 H A W; lawful = Laws'3.lawful Run.the-type Laws.the-laws 𝓤 H A W; makes = Laws'3.makes Run.the-type Laws.the-plain 𝓤 H A; in-mem = Local.mem-whole 𝓤 H A W (Declared.row Run.the-type); of-mem = Local.whole-mem 𝓤 H A W (Declared.row Run.the-type) }) (List._∷_ (Kinds.pNum Syntax.w64) (List._∷_ Kinds.pBool (List._∷_ (Value.pVal record { ty = Declared.row Goal.the-type; one = Path'.refl; val = Laws'3.val Goal.the-type Laws'.the-laws; tells = Laws'3.tells Goal.the-type Laws'.the-laws; still = Laws'3.still Goal.the-type Laws'.the-copy Exit.yes; row = Rows.whole (Declared.row Goal.the-type); rd = λ x. x; mk = λ x. x } λ M 𝓤 H A W. record { copies = Laws'3.copy Goal.the-type Laws'.the-copy 𝓤 H A W; lawful = Laws'3.lawful Goal.the-type Laws'.the-laws 𝓤 H A W; makes = Laws'3.makes Goal.the-type Laws'.the-plain 𝓤 H A; in-mem = Local.mem-whole 𝓤 H A W (Declared.row Goal.the-type); of-mem = Local.whole-mem 𝓤 H A W (Declared.row Goal.the-type) }) List.[]))))))))
 abbrev pub r : Kinds.RK 4
-r = Value.rVal record { ty = Declared.row Reached.the-type; one = Path'.refl; val = Laws''.val Reached.the-type Laws'.the-laws; tells = Laws''.tells Reached.the-type Laws'.the-laws; still = Laws''.still Reached.the-type Laws'.the-copy Exit.yes; row = Rows.whole (Declared.row Reached.the-type); rd = λ x. x; mk = λ x. x } λ M 𝓤 H A W. record { copies = Laws''.copy Reached.the-type Laws'.the-copy 𝓤 H A W; lawful = Laws''.lawful Reached.the-type Laws'.the-laws 𝓤 H A W; makes = Laws''.makes Reached.the-type Laws'.the-plain 𝓤 H A; in-mem = Local.mem-whole 𝓤 H A W (Declared.row Reached.the-type); of-mem = Local.whole-mem 𝓤 H A W (Declared.row Reached.the-type) }
+r = Value.rVal record { ty = Declared.row Reached.the-type; one = Path'.refl; val = Laws'3.val Reached.the-type Laws''.the-laws; tells = Laws'3.tells Reached.the-type Laws''.the-laws; still = Laws'3.still Reached.the-type Laws''.the-copy Exit.yes; row = Rows.whole (Declared.row Reached.the-type); rd = λ x. x; mk = λ x. x } λ M 𝓤 H A W. record { copies = Laws'3.copy Reached.the-type Laws''.the-copy 𝓤 H A W; lawful = Laws'3.lawful Reached.the-type Laws''.the-laws 𝓤 H A W; makes = Laws'3.makes Reached.the-type Laws''.the-plain 𝓤 H A; in-mem = Local.mem-whole 𝓤 H A W (Declared.row Reached.the-type); of-mem = Local.whole-mem 𝓤 H A W (Declared.row Reached.the-type) }
 abbrev pub Ghost : Type 0
 Ghost = Unit {0}
 

@@ -1,5 +1,5 @@
 -- Generated: the derivation of a body.
--- From a836c20be02a443c, as a857b4362db662f4.
+-- From 83051e63fbdf9f20, as a857b4362db662f4.
 use Prim.Native.Nat
 use Rattle.answers.proofs.Deciding
 use Rattle.answers.proofs.Deciding.Laws

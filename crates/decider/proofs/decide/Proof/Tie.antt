@@ -1,5 +1,5 @@
 -- Generated: the needs of decide at its contract, and how its theorem closes.
--- From a836c20be02a443c, as 5cf818b73cd0b1e1.
+-- From 83051e63fbdf9f20, as 5cf818b73cd0b1e1.
 use borrow.Fn.Run
 use borrow.Fn.Written
 use contract.Running.{givenOf, tablesOf}

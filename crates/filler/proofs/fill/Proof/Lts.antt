@@ -1,5 +1,5 @@
 -- Generated: the derivation of a body.
--- From f5a38dbcc6d8e36e, as dac940402e969344.
+-- From 328527b0f9fca93f, as dac940402e969344.
 use Prim.Native.Nat
 use Rattle.answers.proofs.Filling
 use Rattle.answers.proofs.Filling.Laws

@@ -1,5 +1,5 @@
 -- Generated: the derivation of a body.
--- From f5a38dbcc6d8e36e, as e08123d553e36301.
+-- From 328527b0f9fca93f, as e08123d553e36301.
 use Prim.Native.Nat
 use Rattle.cursors.proofs.Cursor
 use Rattle.cursors.proofs.Cursor.Laws

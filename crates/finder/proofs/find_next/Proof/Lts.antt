@@ -1,5 +1,5 @@
 -- Generated: the derivation of a body.
--- From 90a438c920363d05, as 0410b513dc14055d.
+-- From 3797fdcb77939f72, as 0410b513dc14055d.
 use Prim.Native.Nat
 use Rattle.answers.proofs.Finding
 use Rattle.answers.proofs.Finding.Laws

@@ -1,5 +1,5 @@
 -- Generated: the derivation of a body.
--- From 90a438c920363d05, as 2754ab36151a69a3.
+-- From 3797fdcb77939f72, as 2754ab36151a69a3.
 use Prim.Native.Nat
 use Rattle.node_records.proofs.Edge
 use Rattle.node_records.proofs.Edge.Laws

@@ -1,5 +1,5 @@
 -- Generated: the derivation of a body.
--- From 90a438c920363d05, as 2f17c195faf63b2d.
+-- From 3797fdcb77939f72, as 2f17c195faf63b2d.
 use Prim.Native.Nat
 use Rattle.cursors.proofs.Run
 use Rattle.cursors.proofs.Run.Laws

@@ -1,5 +1,5 @@
 -- Generated: the derivation of a body.
--- From 563b33430e11fb72, as b3e894c570143545.
+-- From 25a83058a0259458, as b3e894c570143545.
 use Prim.Native.Nat
 use Rattle.answers.proofs.Finding
 use Rattle.answers.proofs.Finding.Laws

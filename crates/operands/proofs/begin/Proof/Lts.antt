@@ -1,5 +1,5 @@
 -- Generated: the derivation of a body.
--- From 69fbee6aad42fdc1, as ed9e844c2564d8d8.
+-- From 65d198cedebcf8fe, as ed9e844c2564d8d8.
 use Prim.Native.Nat
 use Rattle.blocks.proofs.Block
 use Rattle.blocks.proofs.Block.Laws

@@ -1,5 +1,5 @@
 -- Generated: the derivation of a body.
--- From 69fbee6aad42fdc1, as 8df5db362f1dc2f9.
+-- From 65d198cedebcf8fe, as 8df5db362f1dc2f9.
 use Prim.Native.Nat
 use Rattle.blocks.proofs.Block
 use Rattle.blocks.proofs.Block.Laws

@@ -1,5 +1,5 @@
 -- Generated: the derivation of a body.
--- From 69fbee6aad42fdc1, as 7ee13eb3b9b97cdf.
+-- From 65d198cedebcf8fe, as 7ee13eb3b9b97cdf.
 use Prim.Native.Nat
 use Rattle.blocks.proofs.Block
 use Rattle.blocks.proofs.Block.Laws

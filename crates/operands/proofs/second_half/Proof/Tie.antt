@@ -1,5 +1,5 @@
 -- Generated: the needs of second_half at its contract, and how its theorem closes.
--- From 69fbee6aad42fdc1, as d817edfe39431864.
+-- From 65d198cedebcf8fe, as d817edfe39431864.
 use borrow.Fn.Run
 use borrow.Fn.Written
 use contract.Running.{givenOf, tablesOf}

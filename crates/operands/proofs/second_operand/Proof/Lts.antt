@@ -1,5 +1,5 @@
 -- Generated: the derivation of a body.
--- From 69fbee6aad42fdc1, as f1dc5afb657e8ce7.
+-- From 65d198cedebcf8fe, as f1dc5afb657e8ce7.
 use Prim.Native.Nat
 use Rattle.blocks.proofs.Block
 use Rattle.blocks.proofs.Block.Laws

@@ -1,5 +1,5 @@
 -- Generated: the needs of barred at its contract, and how its theorem closes.
--- From ca16d0e1cc319667, as f7857992d9cdac8e.
+-- From e3279c059057b5eb, as f7857992d9cdac8e.
 use borrow.Fn.Run
 use borrow.Fn.Written
 use contract.Running.{givenOf, tablesOf}

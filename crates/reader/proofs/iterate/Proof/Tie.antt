@@ -1,5 +1,5 @@
 -- Generated: the needs of iterate at its contract, and how its theorem closes.
--- From ca16d0e1cc319667, as 82cb143cf147a94e.
+-- From e3279c059057b5eb, as 82cb143cf147a94e.
 use borrow.Fn.Run
 use borrow.Fn.Written
 use contract.Running.{givenOf, tablesOf}

@@ -1,0 +1,2 @@
+# crates/finder/src/lib.rt
+s/^    differs(e.complement, q.complement)/    e.complement/
