@@ -4,7 +4,7 @@
  * and the ratio. Then of finding the next word from word 0 on in a chain of 31 stored constant nodes with 32 options, beside two other streams of its
  * length: a chain in which a word is found, and one without stored nodes in which none is. At last of finding the next word and of deciding word 0 where
  * no word is admitted and each is a constant of its own, so that all are tried, with 16 and with 32 options. Both run in turns of a short while; the best
- * turn of each counts. Each call has to clear its work table of 1,024 records, and that is in its time.
+ * turn of each counts. Each call has to clear its work table of RULE_RECORDS records, and that is in its time.
  */
 #define _POSIX_C_SOURCE 199309L
 #include "parser.h"

@@ -1,4 +1,5 @@
 #include "buddy.h"
+#include "rule.h"
 
 #include <stdio.h>
 #include <stdlib.h>
@@ -322,7 +323,7 @@ size_t buddy_print(BDD f, uint8_t *text, size_t room)
     numbers = 0;
     to = text;
     end = text + room;
-    put_number(1024);
+    put_number(RULE_RECORDS);
     put('\n');
     if (is_turned(f))
         put('~');

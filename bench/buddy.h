@@ -32,7 +32,7 @@ BDD buddy_node(uint32_t level, BDD first, BDD second);
 /*
  * Prints the stream of a diagram; gives its length, or exits if it is over `room`. Every two-child node is printed once, with a number, and by
  * number from then on; numbers are given out in turn as nodes end, and none is given out again. So it is the stream that document 01 has written if
- * the nodes fit their table. The declared size is 1,024.
+ * the nodes fit their table. The declared size is RULE_RECORDS.
  */
 size_t buddy_print(BDD f, uint8_t *text, size_t room);
 

@@ -384,11 +384,11 @@ static void show_all_growth(void)
     double before[2];
     uint32_t n, count;
     size_t i;
-    printf("as options double, size 1024:\n");
+    printf("as options double, size %d:\n", RULE_RECORDS);
     for (i = 0; i < FAMILIES; i++)
         for (n = 8, before[0] = before[1] = 0; n <= 32; n *= 2)
             show_growth(families[i](n), before);
-    printf("as terms double, size 1024:\n");
+    printf("as terms double, size %d:\n", RULE_RECORDS);
     for (count = 2, before[0] = before[1] = 0; count <= 16; count *= 2)
         show_growth(near_terms(count), before);
     for (count = 2, before[0] = before[1] = 0; count <= 16; count *= 2)
@@ -429,7 +429,7 @@ static void show_all_pace(void)
 
 int main(int count, char **words)
 {
-    static const uint32_t sizes[] = {1024, 256, 64};
+    static const uint32_t sizes[] = {RULE_RECORDS, 256, 64};
     struct sigaction action;
     size_t i;
     if (count > 1)

@@ -65,7 +65,7 @@ static void show(job j, uint32_t size)
 
 int main(void)
 {
-    static const uint32_t sizes[] = {1024, 256, 64};
+    static const uint32_t sizes[] = {RULE_RECORDS, 256, 64};
     uint32_t i, k;
     for (i = 0; i < 2; i++)
         must((places[i] = malloc(ROOM)) != NULL, "no memory");

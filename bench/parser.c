@@ -5,7 +5,7 @@
 #include <string.h>
 
 #define MOST_OPTIONS 32
-#define MOST_SIZE 1024
+#define MOST_SIZE RULE_RECORDS
 
 /* What a temporary node stands for; 0 is the constant. */
 #define TEMPORARY UINT32_MAX

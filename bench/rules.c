@@ -1,5 +1,6 @@
 #include "rules.h"
 #include "buddy.h"
+#include "rule.h"
 
 #include <stdarg.h>
 #include <stdio.h>
@@ -43,7 +44,7 @@ static void add(job *j, BDD f)
 {
     static uint8_t bytes[ROOM];
     size_t length = buddy_print(f, bytes, sizeof bytes);
-    must(buddy_numbers() <= 1024, "a rule has too many nodes");
+    must(buddy_numbers() <= RULE_RECORDS, "a rule has too many nodes");
     add_text(j, bytes, length);
 }
 
@@ -285,7 +286,7 @@ static uint64_t stir(uint32_t k, uint64_t v)
 static uint32_t bucket_of(uint32_t level, uint32_t first, uint32_t second, uint32_t turn)
 {
     uint64_t x = (((uint64_t)first * 2048 + second) * 64 + level) * 2 + turn;
-    return (uint32_t)(stir(UINT32_C(2246822519), stir(UINT32_C(2654435769), x)) % 1024);
+    return (uint32_t)(stir(UINT32_C(2246822519), stir(UINT32_C(2654435769), x)) % RULE_RECORDS);
 }
 
 /* All nodes of the bucket at one level whose children are among the first `count` numbers; gives how many there are now. */

@@ -206,7 +206,7 @@ static void put_many(text *t, const char *bytes, uint32_t count)
         put(t, bytes);
 }
 
-static void put_stored(text *t, const char *form, uint32_t one, uint32_t other)
+static void put_numbers(text *t, const char *form, uint32_t one, uint32_t other)
 {
     char bytes[40];
     snprintf(bytes, sizeof bytes, form, (unsigned)one, (unsigned)other);
@@ -226,11 +226,11 @@ static void odd(text *t)
         constant(t);
         return;
     }
-    put(t, "1024\n");
+    put_numbers(t, "%u\n", RULE_RECORDS, 0);
     put_many(t, "(", n);
     put(t, "0~0):1");
     for (i = 1; i < n; i++)
-        put_stored(t, "~%u):%u", i, i + 1);
+        put_numbers(t, "~%u):%u", i, i + 1);
     put(t, ".");
 }
 
@@ -311,7 +311,7 @@ static void make_truths(int kind)
 
 static depth over_truths(void)
 {
-    static const uint32_t sizes[] = {0, 3, 1024};
+    static const uint32_t sizes[] = {0, 3, RULE_RECORDS};
     depth worst = {0, 0, 0};
     int kind, i;
     for (kind = 0; kind < 3; kind++)
@@ -326,7 +326,7 @@ static depth over_truths(void)
 
 static depth over_pairs(void)
 {
-    static const uint32_t sizes[] = {0, 3, 1024}, ops[] = {6, 8, 14};
+    static const uint32_t sizes[] = {0, 3, RULE_RECORDS}, ops[] = {6, 8, 14};
     depth worst = {0, 0, 0};
     size_t i, k, s, o;
     for (i = 0; i < STREAMS; i++)

@@ -1,7 +1,7 @@
 /*
  * write: the time of writing a truth table of 16 options, a random one with several table sizes, parity, whose second halves are the first ones
  * turned about, and a constant one: microseconds for a call, and nanoseconds for each two-child node written out. Beside it the time of checking the stream that was written, and the ratio. Both run in turns; the
- * best turn of each counts. Each call has to clear its work table of 1,024 records, and that is in its time.
+ * best turn of each counts. Each call has to clear its work table of RULE_RECORDS records, and that is in its time.
  */
 #define _POSIX_C_SOURCE 199309L
 #include "rule.h"
@@ -83,7 +83,7 @@ static void measure(const char *name, uint32_t size)
 
 int main(void)
 {
-    static const uint32_t sizes[] = {16, 64, 256, 1024};
+    static const uint32_t sizes[] = {16, 64, 256, RULE_RECORDS};
     uint64_t state = 1;
     size_t i;
     for (i = 0; i < TRUTH_BYTES; i++) {
@@ -100,8 +100,8 @@ int main(void)
             odd ^= bits & 1;
         truths[i] = odd ? 0x69 : 0x96;
     }
-    measure("parity", 1024);
+    measure("parity", RULE_RECORDS);
     memset(truths, 0xff, TRUTH_BYTES);
-    measure("constant", 1024);
+    measure("constant", RULE_RECORDS);
     return 0;
 }

@@ -70,6 +70,7 @@ typedef struct {
     uint32_t tail;
 } rule_node;
 
+/* The largest table size, and the fewest records of a work table. */
 #define RULE_RECORDS 1024
 
 /* ---- Why a call is refused */
@@ -84,12 +85,12 @@ enum {
     RULE_DONE = 0,
     RULE_OPTION_COUNT = 1,  /* n above 32; for a truth table, n not 3 to 16 */
     RULE_OPERATOR = 2,      /* operator above 15 */
-    RULE_SIZE_TO_WRITE = 3, /* size to write above 1,024 */
-    RULE_WORK_TABLE = 4,    /* a work table under 1,024 records */
+    RULE_SIZE_TO_WRITE = 3, /* size to write above RULE_RECORDS */
+    RULE_WORK_TABLE = 4,    /* a work table under RULE_RECORDS records */
     RULE_WORD = 5,          /* word 2^n or more */
     RULE_TRUTH_TABLE = 6,   /* truth table not 2^n / 8 bytes */
     RULE_WRONG_BYTE = 7,    /* byte not allowed there: that byte */
-    RULE_DECLARED_SIZE = 8, /* declared size above 1,024: its first digit */
+    RULE_DECLARED_SIZE = 8, /* declared size above RULE_RECORDS: its first digit */
     RULE_TOO_DEEP = 9,      /* bracket deeper than n: the bracket */
     RULE_NOT_IN_TABLE = 10, /* number not in the table: its first digit */
     RULE_OTHER_LEVEL = 11,  /* number at another level: its first digit */
@@ -192,7 +193,7 @@ typedef struct {
 /* ---- Writing the stream of a truth table */
 
 /*
- * Writes the stream of a truth table of 2^n / 8 bytes, n from 3 to 16, with the table size `size`, 0 to 1,024. Tests causes 1, 3, 4 and 6. If the
+ * Writes the stream of a truth table of 2^n / 8 bytes, n from 3 to 16, with the table size `size`, 0 to RULE_RECORDS. Tests causes 1, 3, 4 and 6. If the
  * output is shorter than the stream, it gets the stream's first bytes and the ending is RULE_OUTPUT_FULL; that is no refusal. If the call is refused,
  * the output is as it was. The truth table is only read. Changes nothing but the output and the work table.
  */
@@ -203,11 +204,11 @@ rule_written rule_write(uint32_t n, uint32_t size, const uint8_t *truths, size_t
 
 /*
  * Combines two streams by an operator, 0 to 15: on a word for which stream 1 decides a and stream 2 decides b, it gives binary digit 2a + b of the
- * operator, digit 0 lowest (AND 8, OR 14, XOR 6; NOT 3 is that of stream 1). Writes a stream with the table size `size`, 0 to 1,024. Tests causes 1
+ * operator, digit 0 lowest (AND 8, OR 14, XOR 6; NOT 3 is that of stream 1). Writes a stream with the table size `size`, 0 to RULE_RECORDS. Tests causes 1
  * to 4, then all of stream 1, then all of stream 2. Streams may be cut: the covered count is the smaller of theirs; if it is not 2^n, the output gets
  * the beginning that later bytes of the streams can't change, and the ending is RULE_INPUT_ENDED. If the output is shorter than the text, it gets the
  * text's first bytes and the ending is RULE_OUTPUT_FULL. Neither is a refusal. If the call is refused, the output is as it was. `table1` and `table2`
- * are for reading stream 1 and stream 2, `table3` is for writing: each of 1,024 records or more. Changes nothing but the output and the tables.
+ * are for reading stream 1 and stream 2, `table3` is for writing: each of RULE_RECORDS records or more. Changes nothing but the output and the tables.
  */
 rule_written rule_combine(uint32_t n, uint32_t op, uint32_t size, const uint8_t *stream1, size_t stream1_bytes, const uint8_t *stream2,
                           size_t stream2_bytes, uint8_t *output, size_t output_bytes, rule_record *table1, size_t records1, rule_record *table2,

@@ -1,2 +1,2 @@
 # crates/combiner/src/lib.rt
-/^pub fn combine/,/^}/s/^    if t\.len() < TABLE_LIMIT {/    if t.len() < 1023 {/
+/^pub fn combine/,/^}/s/^    if t\.len() < TABLE_LIMIT {/    if t.len() < TABLE_LIMIT - 1 {/

@@ -1,2 +1,2 @@
 # crates/record_tables/src/lib.rt
-s/^    let e = least(m, t.len());/    let e = least(m, 1024);/
+s/^    let e = least(m, t.len());/    let e = least(m, node_records::TABLE_LIMIT);/

@@ -1,2 +1,2 @@
 # crates/record_tables/src/lib.rt
-/^pub fn clear_writer_records(/,/^}/s/^    while i < e {/    while i < 1024 {/
+/^pub fn clear_writer_records(/,/^}/s/^    while i < e {/    while i < node_records::TABLE_LIMIT {/

@@ -4,11 +4,12 @@
 //! Nothing depends on it but time; it is only printed.
 
 use std::collections::HashSet;
+use walk::limits::MOST_SIZE;
 use walk::random::Random;
 use walk::reader::{Element, Reader, Step};
 
 /// The number of buckets.
-const BUCKETS: usize = 1024;
+const BUCKETS: usize = MOST_SIZE as usize;
 
 /// Families by chance that are searched.
 const FAMILIES: usize = 40_000;
@@ -25,7 +26,7 @@ pub struct Node {
 /// The bucket of a node, from 1 on: the library's `bucketOf`.
 pub fn bucket(node: Node) -> usize {
     let x = ((node.first * 2048 + node.second) * 64 + node.level) * 2 + node.turn;
-    (stir(2_246_822_519, stir(2_654_435_769, x)) % 1024 + 1) as usize
+    (stir(2_246_822_519, stir(2_654_435_769, x)) % MOST_SIZE + 1) as usize
 }
 
 /// One round of mixing: the library's `stir`.
@@ -155,7 +156,7 @@ fn searched(seed: u64) -> [Family; 2] {
         for second in low {
             for level in [0, 1, 2, 5] {
                 for turn in 0..2 {
-                    for start in [[1, 0, 0, 0], [17, 1, 2, 1], [32, 1024, 512, 0]] {
+                    for start in [[1, 0, 0, 0], [17, 1, 2, 1], [32, MOST_SIZE, 512, 0]] {
                         family(&mut worst, start, [level, first, second, turn]);
                     }
                 }
@@ -163,11 +164,11 @@ fn searched(seed: u64) -> [Family; 2] {
         }
     }
     for place in 0..FAMILIES {
-        let most = random.pick(&[4, 33, 1025]);
+        let most = random.pick(&[4, 33, MOST_SIZE + 1]);
         let level = if place % 2 == 0 { 0 } else { random.below(32) };
         let [first, second] = [(); 2].map(|()| random.below(most));
         let step = [level, first, second, random.below(2)];
-        let start = [32, 1025, 1025, 2].map(|most| random.below(most));
+        let start = [32, MOST_SIZE + 1, MOST_SIZE + 1, 2].map(|most| random.below(most));
         family(&mut worst, start, step);
     }
     worst
@@ -183,8 +184,8 @@ fn family(worst: &mut [Family; 2], start: [u64; 4], step: [u64; 4]) {
             [0, 1, 2, 3].map(|at: usize| start[at] + index * step[at]);
         let node = Node {
             level: level % 32 + 1,
-            first: first % 1025,
-            second: second % 1025,
+            first: first % (MOST_SIZE + 1),
+            second: second % (MOST_SIZE + 1),
             turn: turn % 2,
         };
         if *seen.get_or_insert(node) == node && index > 0 {

@@ -4,6 +4,7 @@
 
 use crate::case::{Call, Case, Combine};
 use crate::streams::{changed, long_stream, stream_of, valid};
+use walk::limits::{LEAST_RECORDS, MOST_SIZE};
 use walk::random::Random;
 use walk::reading::read;
 use walk::run::combined_text;
@@ -107,12 +108,12 @@ impl Combines {
         self.with_tables(case)
     }
 
-    /// Work tables of 1,024 records mostly.
+    /// Work tables of the least number of records mostly.
     fn with_tables(&mut self, mut case: Case) -> Case {
         let mut records = || match self.random.below(40) {
-            0 => self.random.pick(&[0, 1, 1023]),
-            1..=2 => self.random.pick(&[1025, 1100]),
-            _ => 1024,
+            0 => self.random.pick(&[0, 1, LEAST_RECORDS - 1]),
+            1..=2 => self.random.pick(&[LEAST_RECORDS + 1, LEAST_RECORDS + 100]),
+            _ => LEAST_RECORDS,
         };
         case.records = records();
         if let Call::Combine(of) = &mut case.call {
@@ -180,7 +181,7 @@ impl Combines {
     fn refusals(&mut self) {
         for n in [&[3, 32][..], &WRONG_OPTIONS].concat() {
             for op in [&[0, 15][..], &WRONG_OPERATORS].concat() {
-                for size in [0, 1024, 1025, self.random.pick(&WRONG_SIZES)] {
+                for size in [0, MOST, MOST + 1, self.random.pick(&WRONG_SIZES)] {
                     for records in TABLES {
                         let right = n.min(3);
                         let streams = [(); 2].map(|()| self.stream(right));
@@ -234,10 +235,10 @@ impl Combines {
             patterns[at % patterns.len()] >> (word % 8) & 1 == 1
         };
         let streams = [
-            write_words(n, 1024, function).text,
+            write_words(n, MOST_SIZE, function).text,
             shaped(&mut self.random, n, None),
         ];
-        for size in [1024, 30, 3] {
+        for size in [MOST, 30, 3] {
             let op = self.random.pick(&[6, 8, 14, 9, 3]);
             let output = self.output(text(n, op, size, &streams));
             self.ready
@@ -306,18 +307,22 @@ const WRONG_OPTIONS: [u32; 5] = [33, 64, (1 << 16) + 3, 1 << 31, u32::MAX];
 /// Operators that there are not.
 const WRONG_OPERATORS: [u32; 6] = [16, 17, 255, (1 << 16) + 8, 1 << 31, u32::MAX];
 
+/// The largest size that is written.
+pub const MOST: u32 = MOST_SIZE as u32;
+
 /// Sizes that are not written.
-const WRONG_SIZES: [u32; 5] = [1025, 1026, (1 << 16) + 2, 1 << 31, u32::MAX];
+const WRONG_SIZES: [u32; 5] = [MOST + 1, MOST + 2, (1 << 16) + 2, 1 << 31, u32::MAX];
 
 /// Work tables, one or more of them too short but for the first and the last row.
+const SHORT: usize = LEAST_RECORDS - 1;
 const TABLES: [[usize; 3]; 7] = [
-    [1024, 1024, 1024],
-    [1023, 1024, 1024],
-    [1024, 1023, 1024],
-    [1024, 1024, 1023],
-    [1023, 1023, 1023],
+    [LEAST_RECORDS; 3],
+    [SHORT, LEAST_RECORDS, LEAST_RECORDS],
+    [LEAST_RECORDS, SHORT, LEAST_RECORDS],
+    [LEAST_RECORDS, LEAST_RECORDS, SHORT],
+    [SHORT; 3],
     [0, 1, 0],
-    [1100, 1024, 1025],
+    [LEAST_RECORDS + 100, LEAST_RECORDS, LEAST_RECORDS + 1],
 ];
 
 pub fn combine(n: u32, op: u32, size: u32, streams: [Vec<u8>; 2], output: usize) -> Case {
@@ -327,11 +332,11 @@ pub fn combine(n: u32, op: u32, size: u32, streams: [Vec<u8>; 2], output: usize)
             op,
             size,
             output,
-            others: [1024; 2],
+            others: [LEAST_RECORDS; 2],
             second,
         }),
         n,
-        records: 1024,
+        records: LEAST_RECORDS,
         stream,
     }
 }

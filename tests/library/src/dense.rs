@@ -3,11 +3,12 @@
 //! again, cuts of both streams, outputs of any length up to 65,536 bytes, faults.
 
 use crate::case::Case;
-use crate::combines::{combine, output_for};
+use crate::combines::{combine, output_for, MOST};
 use crate::streams::changed;
 use std::ops::RangeInclusive;
 use walk::dense::{remainder_of_count, rule, selected, stream, stream_of_size, SIZES};
 use walk::diagrams::{Diagrams, Edge};
+use walk::limits::MOST_SIZE;
 use walk::random::Random;
 use walk::reading::read;
 use walk::run::combined_text;
@@ -111,7 +112,7 @@ impl Dense {
     fn link(&mut self, n: u32, result: Vec<u8>, left: usize) -> Case {
         let (op, size) = (
             self.random.pick(&[1, 3, 4, 6, 7, 8, 9, 14]),
-            self.random.pick(&[64, 256, 1023, 1024]),
+            self.random.pick(&[64, 256, MOST - 1, MOST]),
         );
         let mut streams = [result, self.stream(n)];
         if self.random.chance(1, 2) {
@@ -199,9 +200,9 @@ impl Dense {
 
     fn size(&mut self) -> u32 {
         let size = match self.random.below(4) {
-            0 => self.random.below(1025),
+            0 => self.random.below(MOST_SIZE + 1),
             1 => self.random.pick(&SIZES),
-            _ => self.random.pick(&[64, 256, 1023, 1024]),
+            _ => self.random.pick(&[64, 256, MOST_SIZE - 1, MOST_SIZE]),
         };
         size as u32
     }

@@ -5,6 +5,7 @@ use crate::case::{self, Call, Case};
 use crate::streams::{changed, long_stream, stream_of};
 use walk::deciding::truth_digit;
 use walk::generate::cases;
+use walk::limits::{LEAST_RECORDS, MOST_SIZE};
 use walk::random::Random;
 use walk::reading::read;
 use walk::writing::write_words;
@@ -237,7 +238,7 @@ impl Draw {
             };
             nodes = nodes.chunks(2).map(pair).collect();
         }
-        let text = format!("1024\n{}.", nodes.concat()).into_bytes();
+        let text = format!("{MOST_SIZE}\n{}.", nodes.concat()).into_bytes();
         let check = self.check(n, text.clone());
         let decide = self.decide(n, text.clone());
         let next = self.next(n, text.clone());
@@ -248,7 +249,7 @@ impl Draw {
     /// The stream of a random truth table of 16 options, by every call.
     fn widest(&mut self) {
         let truth = self.random.garbage(1 << 13);
-        let stream = write_words(16, 1024, |word| truth_digit(&truth, word)).text;
+        let stream = write_words(16, MOST_SIZE, |word| truth_digit(&truth, word)).text;
         for end in [stream.len(), stream.len() / 2] {
             let cut = stream[..end].to_vec();
             let check = self.check(16, cut.clone());
@@ -302,9 +303,9 @@ impl Draw {
 
     fn records(&mut self) -> usize {
         match self.random.below(16) {
-            0 => self.random.pick(&[0, 1, 1023]),
-            1 => self.random.pick(&[1025, 1100]),
-            _ => 1024,
+            0 => self.random.pick(&[0, 1, LEAST_RECORDS - 1]),
+            1 => self.random.pick(&[LEAST_RECORDS + 1, LEAST_RECORDS + 100]),
+            _ => LEAST_RECORDS,
         }
     }
 

@@ -158,7 +158,9 @@ impl Eq for Place {}
 
 impl Debug for Place {
     fn fmt(&self, formatter: &mut Formatter) -> std::fmt::Result {
-        let Place { at, context, last, .. } = self;
+        let Place {
+            at, context, last, ..
+        } = self;
         let Ref { number, stamp } = last;
         let open = self.open();
         write!(

@@ -9,6 +9,7 @@ use crate::streams::{changed, valid};
 use walk::cached::whole_text;
 use walk::diagrams::{constant, Diagrams, Edge};
 use walk::generate::constant_chain;
+use walk::limits::{LEAST_RECORDS, MOST_SIZE};
 use walk::random::Random;
 use walk::reading::read;
 use walk::shapes::cut;
@@ -65,7 +66,7 @@ fn next(n: u32, stream: Vec<u8>, word: u64) -> Case {
     Case {
         call: Call::Next { word },
         n,
-        records: 1024,
+        records: LEAST_RECORDS,
         stream,
     }
 }
@@ -157,7 +158,7 @@ fn few_words(random: &mut Random, n: u32) -> (Vec<u64>, Edge, Diagrams) {
 }
 
 fn sparse_stream(random: &mut Random, n: u32, diagrams: &Diagrams, edge: Edge) -> Vec<u8> {
-    let size = random.pick(&[0, 3, 40, 1024]);
+    let size = random.pick(&[0, 3, 40, MOST_SIZE]);
     whole_text(diagrams, n, size, edge, 1 << 16)
 }
 

@@ -10,6 +10,7 @@ use crate::streams::valid;
 use std::ops::RangeInclusive;
 use walk::dense::{rule, selected, stream, stream_of_size, SIZES};
 use walk::diagrams::Diagrams;
+use walk::limits::LEAST_RECORDS;
 use walk::random::Random;
 use walk::run::operate;
 use walk::shapes::{cut, small_size};
@@ -136,7 +137,7 @@ fn decided(case: &Case, run: &Run, word: u64) -> Result<Option<bool>, String> {
 
 /// What `rule_decide` says: none if it refuses, none inside if it is not yet decided.
 fn verdict(n: u32, bytes: &[u8], word: u64) -> Option<Option<bool>> {
-    let mut records: Vec<Record> = vec![[0; 8]; 1024];
+    let mut records: Vec<Record> = vec![[0; 8]; LEAST_RECORDS];
     let stream = Stream {
         bytes: bytes.as_ptr(),
         length: bytes.len(),

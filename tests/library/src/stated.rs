@@ -2,7 +2,7 @@
 //! with more words than can be walked.
 
 use crate::case::{Call, Case};
-use crate::combines::combine;
+use crate::combines::{combine, MOST};
 use crate::compare::{combined, same, same_bytes, same_tables};
 use crate::foreign::Written;
 use crate::lent::Memory;
@@ -35,6 +35,7 @@ impl Stated {
 pub fn stated() -> Vec<Stated> {
     let mut all: Vec<Stated> = WRITTEN.into_iter().map(written).collect();
     all.extend(REFUSED.into_iter().map(refused));
+    all.extend(last_numbers());
     all.extend(many_options());
     all
 }
@@ -54,7 +55,7 @@ type Row = (
     u32,
 );
 
-const WRITTEN: [Row; 26] = [
+const WRITTEN: [Row; 24] = [
     ("P1", [0, 8, 0], ["0/0.", "0/0."], "0/0.", 1, WHOLE),
     (
         "P2",
@@ -233,22 +234,6 @@ const WRITTEN: [Row; 26] = [
         INPUT_ENDED,
     ),
     (
-        "the last number of stream 1",
-        [2, 12, 1024],
-        ["1024/((0~0):1024 1024).", "0/0."],
-        "1024/((0~0):1).",
-        4,
-        WHOLE,
-    ),
-    (
-        "the last number of stream 2",
-        [2, 10, 1024],
-        ["0/0.", "1024/((0~0):1024 1024)."],
-        "1024/((0~0):1).",
-        4,
-        WHOLE,
-    ),
-    (
         "no turn without a node",
         [3, 12, 4],
         ["1/~((0~", "0/0."],
@@ -262,9 +247,9 @@ const WRITTEN: [Row; 26] = [
 type Refused = (&'static str, [u32; 3], [&'static str; 2], [u32; 3]);
 
 const REFUSED: [Refused; 9] = [
-    ("33 options", [33, 16, 1025], ["x", "x"], [1, 0, 0]),
-    ("operator 16", [32, 16, 1025], ["x", "x"], [2, 0, 0]),
-    ("size 1,025", [32, 15, 1025], ["x", "x"], [3, 0, 0]),
+    ("33 options", [33, 16, MOST + 1], ["x", "x"], [1, 0, 0]),
+    ("operator 16", [32, 16, MOST + 1], ["x", "x"], [2, 0, 0]),
+    ("size too large", [32, 15, MOST + 1], ["x", "x"], [3, 0, 0]),
     ("P9", [1, 8, 1], ["1/(1~0).", "x"], [10, 1, 3]),
     (
         "P10 as stream 2",
@@ -330,6 +315,20 @@ fn whole_answer(
     }
 }
 
+/// The last number of the largest table, in either stream.
+fn last_numbers() -> [Stated; 2] {
+    let last = format!("{MOST}/((0~0):{MOST} {MOST}).");
+    let state = |name, op, streams: [&str; 2]| {
+        let text = shown(&format!("{MOST}/((0~0):1)."));
+        let case = combine(2, op, MOST, streams.map(shown), text.len() + 3);
+        whole_answer(name, case, text, 4, WHOLE)
+    };
+    [
+        state("the last number of stream 1", 12, [&last, "0/0."]),
+        state("the last number of stream 2", 10, ["0/0.", &last]),
+    ]
+}
+
 /// With 32 options, where the word-by-word walk would not come to an end.
 fn many_options() -> Vec<Stated> {
     let (no, yes) = (shown("0/0."), shown("0/~0."));
@@ -345,10 +344,10 @@ fn many_options() -> Vec<Stated> {
         state("odd OR yes", [14, 5], [&odd, &yes], shown("5/~0.")),
         state("odd BUT yes", [4, 5], [&odd, &yes], shown("5/0.")),
         state(
-            "no IMP odd, stored at size 1,024",
-            [11, 1024],
+            "no IMP odd, at the largest size",
+            [11, MOST],
             [&no, &odd],
-            shown("1024/~0."),
+            shown(&format!("{MOST}/~0.")),
         ),
         state(
             "all set, at size 0",

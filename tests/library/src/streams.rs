@@ -2,6 +2,7 @@
 
 use walk::functions::random_function;
 use walk::generate::{nested, staircase};
+use walk::limits::MOST_SIZE;
 use walk::random::Random;
 use walk::reading::read;
 use walk::shapes::{cut, damaged, shaped};
@@ -53,7 +54,7 @@ pub fn long_stream(random: &mut Random) -> (u32, Vec<u8>) {
         0 => (0..1 << n).map(|_| random.chance(1, 2)).collect(),
         _ => random_function(random, n),
     };
-    let size = random.pick(&[1024, 1024, 1023, 500, 100]);
+    let size = random.pick(&[MOST_SIZE, MOST_SIZE, MOST_SIZE - 1, 500, 100]);
     (n, write_words(n, size, |word| function[word as usize]).text)
 }
 
@@ -61,7 +62,7 @@ pub fn long_stream(random: &mut Random) -> (u32, Vec<u8>) {
 fn written(random: &mut Random, n: u32) -> Vec<u8> {
     let function = random_function(random, n);
     let size = match random.below(4) {
-        0 => random.below(1025),
+        0 => random.below(MOST_SIZE + 1),
         1 => random.below(40),
         _ => random.below(7),
     };

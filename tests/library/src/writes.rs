@@ -2,8 +2,10 @@
 //! with outputs of every length, refusals, wide tables, then random ones.
 
 use crate::case::{Call, Case};
+use crate::combines::MOST;
 use walk::deciding::{truth_digit, truth_table};
 use walk::functions::{busy_function, random_function};
+use walk::limits::{LEAST_RECORDS, MOST_SIZE};
 use walk::random::Random;
 use walk::writing::{write_words, WholeStream};
 
@@ -88,8 +90,8 @@ impl Writes {
         }
         let records = match self.random.below(16) {
             0 => self.random.pick(&WRONG_RECORDS),
-            1 => self.random.pick(&[1025, 1100]),
-            _ => 1024,
+            1 => self.random.pick(&[LEAST_RECORDS + 1, LEAST_RECORDS + 100]),
+            _ => LEAST_RECORDS,
         };
         write(n, records, size, output, truths)
     }
@@ -97,15 +99,15 @@ impl Writes {
     /// A table to outputs of every length up to the text's and two more.
     fn every_output(&mut self, n: u32, size: u32, truths: Vec<u8>) {
         let length = text(n, size, &truths).text.len();
-        let case = |output| write(n, 1024, size, output, truths.clone());
+        let case = |output| write(n, LEAST_RECORDS, size, output, truths.clone());
         self.ready.extend((0..=length + 2).map(case));
     }
 
     /// Every set of causes that the call can meet at once, in all sorts.
     fn refusals(&mut self) {
         for n in [&[4, 5][..], &WRONG_OPTIONS].concat() {
-            for size in [&[2, 1024][..], &WRONG_SIZES].concat() {
-                for records in [&[1024, 1025][..], &WRONG_RECORDS].concat() {
+            for size in [&[2, MOST][..], &WRONG_SIZES].concat() {
+                for records in [&[LEAST_RECORDS, LEAST_RECORDS + 1][..], &WRONG_RECORDS].concat() {
                     let right = (1 << n.min(17)) / 8;
                     for length in [&[right][..], &wrong_lengths(right)].concat() {
                         let truths = self.random.garbage(length);
@@ -122,14 +124,18 @@ impl Writes {
     fn wide(&mut self, n: u32) {
         for turn in 0..WIDE {
             let (size, truths) = match turn {
-                0 => (1024, self.random.garbage((1 << n) / 8)),
-                1 => (1024, self.sparse(n)),
-                2 => (1024, self.patterns(n)),
-                3 => (1024, self.truths(n, 1024)),
-                _ => (self.random.below(1024) as u32, self.truths(n, 1024)),
+                0 => (MOST, self.random.garbage((1 << n) / 8)),
+                1 => (MOST, self.sparse(n)),
+                2 => (MOST, self.patterns(n)),
+                3 => (MOST, self.truths(n, MOST)),
+                _ => (self.random.below(MOST_SIZE) as u32, self.truths(n, MOST)),
             };
             let length = text(n, size, &truths).text.len();
-            let (short, records) = (self.output(length), self.random.pick(&[1024, 1025, 1500]));
+            let (short, records) = (
+                self.output(length),
+                self.random
+                    .pick(&[LEAST_RECORDS, LEAST_RECORDS + 1, 2 * LEAST_RECORDS]),
+            );
             for output in [length, short] {
                 let case = write(n, records, size, output, truths.clone());
                 self.ready.push(case);
@@ -142,8 +148,8 @@ impl Writes {
     /// 0 to 40, low ones more often, now and then the largest or some other.
     fn small_size(&mut self) -> u32 {
         let size = match self.random.below(10) {
-            0 => 1024,
-            1 => self.random.below(1025),
+            0 => MOST_SIZE,
+            1 => self.random.below(MOST_SIZE + 1),
             2..=5 => self.random.below(8),
             _ => self.random.below(41),
         };
@@ -152,14 +158,14 @@ impl Writes {
 
     /// About as many numbers as the table has nodes, or some fewer.
     fn fitting_size(&mut self, n: u32, truths: &[u8]) -> u32 {
-        let nodes = text(n, 1024, truths).nodes.len() as u64;
+        let nodes = text(n, MOST, truths).nodes.len() as u64;
         let size = match self.random.below(5) {
             0 => nodes,
             1 => nodes + 1,
             2 => nodes.saturating_sub(1),
             _ => self.random.below(nodes),
         };
-        size.min(1024) as u32
+        size.min(MOST_SIZE) as u32
     }
 
     /// An output for a text of some length: empty, about as long as the size with its LF, too short, just
@@ -265,17 +271,17 @@ const WRONG_OPTIONS: [u32; 10] = [0, 1, 2, 17, 18, 32, 33, (1 << 16) + 4, 1 << 3
 
 /// Sizes that are not written.
 const WRONG_SIZES: [u32; 7] = [
-    1025,
-    1026,
+    MOST + 1,
+    MOST + 2,
     2048,
     (1 << 16) + 2,
     1 << 31,
-    (1 << 31) + 1024,
+    (1 << 31) + MOST,
     u32::MAX,
 ];
 
 /// Work tables that are too short.
-const WRONG_RECORDS: [usize; 3] = [0, 1, 1023];
+const WRONG_RECORDS: [usize; 3] = [0, 1, LEAST_RECORDS - 1];
 
 /// Lengths beside the right one.
 fn wrong_lengths(right: usize) -> [usize; 4] {

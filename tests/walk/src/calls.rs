@@ -3,7 +3,7 @@
 //!
 //! A lent work table is a row of records; one number stands for each record here, since the walk
 //! needs none of them. "Past cause 6 all work table records are zero on return", those beyond
-//! 1,024 too; before that they are left as they were.
+//! the least number too; before that they are left as they were.
 
 use crate::deciding::{truth_digit, truth_table};
 use crate::limits::*;
@@ -171,7 +171,7 @@ fn options_of_truth_table(n: u64) -> Result<u32, Refusal> {
     }
 }
 
-/// Cause 3: "size to write above 1,024".
+/// Cause 3: a size to write that is too large.
 fn size_to_write(size: u64) -> Result<(), Refusal> {
     if size > MOST_SIZE {
         return Err(Refusal::of_call(3));
@@ -179,7 +179,7 @@ fn size_to_write(size: u64) -> Result<(), Refusal> {
     Ok(())
 }
 
-/// Cause 4: "a work table under 1,024 records".
+/// Cause 4: a work table of too few records.
 fn enough_records(tables: &[&WorkTable]) -> Result<(), Refusal> {
     if tables.iter().any(|table| table.len() < LEAST_RECORDS) {
         return Err(Refusal::of_call(4));

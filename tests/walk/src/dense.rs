@@ -3,6 +3,7 @@
 
 use crate::cached::whole_text;
 use crate::diagrams::{constant, Diagrams, Edge, Function, CONSTANT};
+use crate::limits::MOST_SIZE;
 use crate::random::Random;
 use crate::table::Standing;
 use crate::writing::{ends_in_digit, heading};
@@ -197,7 +198,7 @@ fn few_options(random: &mut Random, diagrams: &mut Diagrams, least: u32, n: u32)
 // ---- Streams
 
 /// The sizes that are written and declared.
-pub const SIZES: [u64; 7] = [0, 1, 5, 64, 256, 1023, 1024];
+pub const SIZES: [u64; 7] = [0, 1, 5, 64, 256, MOST_SIZE - 1, MOST_SIZE];
 
 /// A valid stream of a function of at most so many bytes; one that would be longer is cut there.
 pub fn stream(
@@ -213,9 +214,9 @@ pub fn stream(
         1 => functions.saturating_sub(random.below(8)),
         2 => functions / 2,
         3 => functions + random.below(20),
-        _ => 1024,
+        _ => MOST_SIZE,
     };
-    stream_of_size(random, diagrams, n, edge, size.min(1024), most)
+    stream_of_size(random, diagrams, n, edge, size.min(MOST_SIZE), most)
 }
 
 /// The same with a size.

@@ -5,7 +5,7 @@ use crate::case::Case;
 use crate::deciding::truth_table;
 use crate::functions::{busy_function, nine_symmetric, random_function};
 use crate::join::{parse, OPERATORS};
-use crate::limits::MOST_JOB;
+use crate::limits::{LEAST_RECORDS, MOST_JOB, MOST_SIZE};
 use crate::random::Random;
 use crate::reading::read;
 use crate::shapes::{cut, damaged, shaped, small_size, written};
@@ -62,7 +62,7 @@ pub const MARKED: [(u64, &str); 12] = [
 pub const JOB: &str = "3 OR 4/4/(0(0~0):1):2./4/(((0~0):1))./";
 
 /// The readings of document 01 that are settled, and their neighbours: option count and stream.
-pub const SETTLED: [(u64, &str); 62] = [
+pub const SETTLED: [(u64, &str); 60] = [
     // Cause 12 at a `:` waits for nothing.
     (2, "1/((0~0)0):"),
     (2, "1/((0~0)0):x"),
@@ -93,8 +93,6 @@ pub const SETTLED: [(u64, &str); 62] = [
     (1, "2000/"),
     (1, "02000/"),
     (1, "00/"),
-    (1, "1024/"),
-    (1, "1025/x"),
     (1, "/0."),
     (1, "~"),
     // A number to store.
@@ -153,14 +151,14 @@ pub fn staircase(size: u64, count: usize) -> Vec<u8> {
 }
 
 fn check(n: u64, stream: Vec<u8>) -> Case {
-    let records = 1024;
+    let records = LEAST_RECORDS;
     Case::Check { n, records, stream }
 }
 
 fn decide(n: u64, stream: Vec<u8>, word: u64) -> Case {
     Case::Decide {
         n,
-        records: 1024,
+        records: LEAST_RECORDS,
         stream,
         word,
     }
@@ -169,7 +167,7 @@ fn decide(n: u64, stream: Vec<u8>, word: u64) -> Case {
 fn next(n: u64, stream: Vec<u8>, word: u64) -> Case {
     Case::Next {
         n,
-        records: 1024,
+        records: LEAST_RECORDS,
         stream,
         word,
     }
@@ -178,7 +176,7 @@ fn next(n: u64, stream: Vec<u8>, word: u64) -> Case {
 fn fill(n: u64, stream: Vec<u8>) -> Case {
     Case::Fill {
         n,
-        records: 1024,
+        records: LEAST_RECORDS,
         stream,
         truth: vec![85; (1 << n) / 8],
     }
@@ -188,7 +186,7 @@ fn write(n: u64, size: u64, truth: Vec<u8>, output: usize) -> Case {
     Case::Write {
         n,
         size,
-        records: 1024,
+        records: LEAST_RECORDS,
         truth,
         output: vec![170; output],
     }
@@ -199,7 +197,7 @@ fn combine(n: u64, operator: u64, size: u64, one: Vec<u8>, two: Vec<u8>, output:
         n,
         operator,
         size,
-        records: [1024; 3],
+        records: [LEAST_RECORDS; 3],
         streams: [one, two],
         output: vec![170; output],
     }
@@ -289,7 +287,7 @@ fn settled_cases() -> Vec<Case> {
     cases
 }
 
-/// "n 32 taken, 33 refused; size 1,024 taken, 1,025 refused", work tables, long digit strings.
+/// "n 32 taken, 33 refused", the largest size taken, one more refused, work tables, long digit strings.
 fn limit_cases() -> Vec<Case> {
     let mut cases = Vec::new();
     for n in [16, 31, 32, 33] {
@@ -315,7 +313,14 @@ fn limit_cases() -> Vec<Case> {
         let stream = staircase(0, count);
         cases.push(Case::Reader { stream });
     }
-    for records in [0, 1, 1023, 1024, 1025, 1100] {
+    for records in [
+        0,
+        1,
+        LEAST_RECORDS - 1,
+        LEAST_RECORDS,
+        LEAST_RECORDS + 1,
+        LEAST_RECORDS + 100,
+    ] {
         let stream = shown("1/(0~0):1.");
         cases.push(Case::Check {
             n: 1,
@@ -342,18 +347,18 @@ fn limit_cases() -> Vec<Case> {
         });
         cases.push(Case::Write {
             n: 3,
-            size: 1024,
+            size: MOST_SIZE,
             records,
             truth: vec![0x96],
             output: vec![170; 30],
         });
         for table in 0..3 {
-            let mut all = [1024; 3];
+            let mut all = [LEAST_RECORDS; 3];
             all[table] = records;
             cases.push(Case::Combine {
                 n: 1,
                 operator: 6,
-                size: 1024,
+                size: MOST_SIZE,
                 records: all,
                 streams: [stream.clone(), stream.clone()],
                 output: vec![170; 12],
@@ -361,6 +366,7 @@ fn limit_cases() -> Vec<Case> {
         }
     }
     let long = "1".repeat(30);
+    let (most, above) = (MOST_SIZE, MOST_SIZE + 1);
     for text in [
         format!("{long}/0."),
         long.clone(),
@@ -371,12 +377,14 @@ fn limit_cases() -> Vec<Case> {
         "18446744073709551617/0.".to_string(),
         "4/(18446744073709551617~0).".to_string(),
         "4/(4294967297~0).".to_string(),
-        "1024/(0~0):1024.".to_string(),
-        "1024/(0~0):1025.".to_string(),
+        format!("{most}/"),
+        format!("{above}/x"),
+        format!("{most}/(0~0):{most}."),
+        format!("{most}/(0~0):{above}."),
     ] {
         cases.push(check(1, shown(&text)));
     }
-    for size in [1023, 1024, 1025, 65536] {
+    for size in [most - 1, most, above, 65536] {
         cases.push(write(3, size, vec![0x96], 30));
         cases.push(combine(1, 6, size, shown("0/0."), shown("0/(0~0)."), 20));
     }
@@ -395,8 +403,8 @@ fn order_cases() -> Vec<Case> {
         let n = if meets(1) { 33 } else { 3 };
         let truth_n = if meets(1) { 2 } else { 3 };
         let operator = if meets(2) { 16 } else { 6 };
-        let size = if meets(3) { 1025 } else { 1024 };
-        let records = if meets(4) { 1023 } else { 1024 };
+        let size = MOST_SIZE + u64::from(meets(3));
+        let records = LEAST_RECORDS - usize::from(meets(4));
         let word = if meets(5) { 1 << n } else { 0 };
         let truth = vec![85; if meets(6) { 2 } else { (1 << truth_n) / 8 }];
         let (stream, output) = (faulty.clone(), vec![170; 9]);
@@ -440,7 +448,7 @@ fn order_cases() -> Vec<Case> {
                 n,
                 operator,
                 size,
-                records: [1024, records, 1024],
+                records: [LEAST_RECORDS, records, LEAST_RECORDS],
                 streams: [stream.clone(), stream],
                 output,
             });
@@ -558,7 +566,7 @@ fn job_cases() -> Vec<Case> {
 
 /// First lines that are malformed, or refused, or just allowed.
 fn first_lines(n: u64, name: &str, size: u64) -> Vec<String> {
-    let lower = name.to_lowercase();
+    let (lower, above) = (name.to_lowercase(), MOST_SIZE + 1);
     vec![
         format!("{n} {lower} {size}"),
         format!("{n} {name}X {size}"),
@@ -580,9 +588,9 @@ fn first_lines(n: u64, name: &str, size: u64) -> Vec<String> {
         format!("{n} {name} 10000"),
         format!("{n} {name} 9999"),
         format!("9999 {name} {size}"),
-        format!("{n} {name} 1025"),
+        format!("{n} {name} {above}"),
         format!("33 {name} {size}"),
-        format!("33 {name} 1025"),
+        format!("33 {name} {above}"),
         format!("-{n} {name} {size}"),
         format!("+{n} {name} {size}"),
         format!("{n}\t{name}\t{size}"),
@@ -648,15 +656,16 @@ impl Draw {
 
     fn records(&mut self) -> usize {
         if self.random.chance(9, 10) {
-            1024
+            LEAST_RECORDS
         } else {
-            self.random.pick(&[0, 1023, 1025, 1100])
+            self.random
+                .pick(&[0, LEAST_RECORDS - 1, LEAST_RECORDS + 1, LEAST_RECORDS + 100])
         }
     }
 
     fn size(&mut self) -> u64 {
         if self.random.chance(1, 25) {
-            1025 + self.random.below(3)
+            MOST_SIZE + 1 + self.random.below(3)
         } else {
             small_size(&mut self.random)
         }
@@ -826,7 +835,7 @@ impl Draw {
             _ => self.random.below(16),
         };
         let size = self.size();
-        let mut records = [1024; 3];
+        let mut records = [LEAST_RECORDS; 3];
         if self.random.chance(1, 8) {
             let table = self.random.index(3);
             records[table] = self.records();

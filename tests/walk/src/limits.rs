@@ -9,8 +9,8 @@ pub const MOST_OPEN: usize = 32;
 /// "declared size above 1,024", "size to write above 1,024" (Turned down, causes 8 and 3).
 pub const MOST_SIZE: u64 = 1024;
 
-/// "a work table under 1,024 records" (Turned down, cause 4).
-pub const LEAST_RECORDS: usize = 1024;
+/// "a work table under 1,024 records" (Turned down, cause 4): as many as the largest size.
+pub const LEAST_RECORDS: usize = MOST_SIZE as usize;
 
 /// "Truth tables: n from 3 to 16" (The written stream).
 pub const LEAST_TRUTH_OPTIONS: u64 = 3;

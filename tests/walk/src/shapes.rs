@@ -2,6 +2,7 @@
 //! break one rule, damaged ones, cut ones.
 
 use crate::functions::random_function;
+use crate::limits::MOST_SIZE;
 use crate::random::Random;
 use crate::table::{Standing, Stored, Table};
 use crate::writing::write_words;
@@ -58,10 +59,10 @@ pub fn cut(random: &mut Random, mut bytes: Vec<u8>) -> Vec<u8> {
     bytes
 }
 
-/// 0 to 10, low ones more often, now and then 1,024.
+/// 0 to 10, low ones more often, now and then the largest.
 pub fn small_size(random: &mut Random) -> u64 {
     match random.below(12) {
-        0 => 1024,
+        0 => MOST_SIZE,
         1..=6 => random.below(5),
         _ => random.below(11),
     }
@@ -70,8 +71,8 @@ pub fn small_size(random: &mut Random) -> u64 {
 /// The size that the stream declares.
 fn declared_size(random: &mut Random, breaking: Option<u64>) -> u64 {
     match breaking {
-        Some(8) if random.chance(1, 2) => 1025,
-        Some(8) => 1025 + random.below(100_000),
+        Some(8) if random.chance(1, 2) => MOST_SIZE + 1,
+        Some(8) => MOST_SIZE + 1 + random.below(100_000),
         // These need numbers.
         Some(11..=13) => 1 + random.below(5),
         _ => small_size(random),

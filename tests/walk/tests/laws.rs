@@ -6,6 +6,7 @@ use walk::calls::combine;
 use walk::case::Case;
 use walk::functions::random_function;
 use walk::generate::cases;
+use walk::limits::LEAST_RECORDS;
 use walk::random::Random;
 use walk::reader::{Reader, Step};
 use walk::reading::{read, Reading};
@@ -268,7 +269,7 @@ fn run(
     length: usize,
 ) -> Option<(Vec<u8>, Written)> {
     let mut output = vec![170; length];
-    let [mut one, mut two, mut three] = [(); 3].map(|()| vec![7; 1024]);
+    let [mut one, mut two, mut three] = [(); 3].map(|()| vec![7; LEAST_RECORDS]);
     let tables = [&mut one[..], &mut two[..], &mut three[..]];
     let written = combine(n.into(), operator, size, streams, &mut output, tables).ok()?;
     assert!(output[written.bytes..].iter().all(|&byte| byte == 170));

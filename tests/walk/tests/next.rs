@@ -3,13 +3,14 @@
 
 use walk::calls::{next, Next};
 use walk::generate::{constant_chain, shown, staircase};
+use walk::limits::LEAST_RECORDS;
 use walk::random::Random;
 use walk::reading::read;
 use walk::refusal::Refusal;
 use walk::shapes::{cut, shaped, written};
 
 fn asked(n: u64, text: &str, word: u64) -> Next {
-    next(n, &shown(text), word, &mut vec![7; 1024]).expect("taken")
+    next(n, &shown(text), word, &mut vec![7; LEAST_RECORDS]).expect("taken")
 }
 
 #[test]
@@ -30,7 +31,7 @@ fn settled_readings() {
 
 #[test]
 fn refusals_in_order() {
-    let (mut short, mut enough) = (vec![7; 1023], vec![7; 1100]);
+    let (mut short, mut enough) = (vec![7; LEAST_RECORDS - 1], vec![7; LEAST_RECORDS + 100]);
     let call = |cause| Err(Refusal::of_call(cause));
     assert_eq!(next(33, b"x", 1 << 33, &mut short), call(1));
     assert_eq!(next(1, b"x", 2, &mut short), call(4));
@@ -48,7 +49,7 @@ fn refusals_in_order() {
 fn words_and_functions() {
     let mut random = Random::new(21);
     let (mut words, mut none) = (0, 0);
-    for _ in 0..1500 {
+    for _ in 0..2 * LEAST_RECORDS {
         let n = random.below(8) as u32;
         let stream = match random.below(3) {
             0 if n <= 5 => written(&mut random, n),

@@ -5,6 +5,7 @@ use walk::deciding::truth_table;
 use walk::functions::nine_symmetric;
 use walk::generate::{nested, shown, staircase, JOB, MARKED, PASSED_OVER};
 use walk::join::join;
+use walk::limits::{LEAST_RECORDS, MOST_SIZE};
 use walk::reader::{Element, Reader, Step};
 use walk::reading::read;
 use walk::refusal::{Fault, Refusal};
@@ -36,7 +37,11 @@ fn show(bytes: &[u8]) -> String {
 fn run(n: u64, operator: u64, size: u64, one: &str, two: &str) -> (String, u64, Ending) {
     let mut output = vec![1; 1000];
     let (one, two) = (shown(one), shown(two));
-    let mut tables = [vec![7; 1024], vec![7; 1024], vec![7; 1024]];
+    let mut tables = [
+        vec![7; LEAST_RECORDS],
+        vec![7; LEAST_RECORDS],
+        vec![7; LEAST_RECORDS],
+    ];
     let [first, second, third] = &mut tables;
     let lent = [&mut first[..], &mut second[..], &mut third[..]];
     let written = combine(n, operator, size, [&one, &two], &mut output, lent).expect("taken");
@@ -76,7 +81,7 @@ fn marked_read() {
 
 #[test]
 fn limits() {
-    let mut table = vec![7; 1024];
+    let mut table = vec![7; LEAST_RECORDS];
     let chain = nested(32, "0");
     let answer = check(32, &chain, &mut table).expect("taken");
     assert_eq!(answer.covered, 1 << 32);
@@ -95,12 +100,12 @@ fn limits() {
     assert_eq!(decide(32, &stairs, last - 1, &mut table), Ok(Decision::No));
     let past = decide(32, &stairs, last + 1, &mut table);
     assert_eq!(past, Err(Refusal::of_call(5)));
-    assert_eq!(reads(1, "1024/0."), (1024, 2, true));
-    assert_eq!(fault(1, "1025/0."), (8, 0));
+    assert_eq!(reads(1, &format!("{MOST_SIZE}/0.")), (MOST_SIZE, 2, true));
+    assert_eq!(fault(1, &format!("{}/0.", MOST_SIZE + 1)), (8, 0));
     let mut output = [0; 40];
-    let taken = write(3, 1024, &[0x96], &mut output, &mut table);
+    let taken = write(3, MOST_SIZE, &[0x96], &mut output, &mut table);
     assert!(taken.is_ok());
-    let refused = write(3, 1025, &[0x96], &mut output, &mut table);
+    let refused = write(3, MOST_SIZE + 1, &[0x96], &mut output, &mut table);
     assert_eq!(refused, Err(Refusal::of_call(3)));
     // Above what a machine number holds.
     assert_eq!(fault(1, "18446744073709551617/0."), (8, 0));
@@ -171,7 +176,10 @@ fn jobs() {
     assert_eq!(join_shown("3 OR 4/4/0./4"), bad);
     assert_eq!(join_shown("33 OR 4/////"), "refused 1 0 0\n");
     assert_eq!(join_shown("9999 OR 9999/////"), "refused 1 0 0\n");
-    assert_eq!(join_shown("3 OR 1025/////"), "refused 3 0 0\n");
+    assert_eq!(
+        join_shown(&format!("3 OR {}/////", MOST_SIZE + 1)),
+        "refused 3 0 0\n"
+    );
     assert_eq!(join_shown("3 OR 4/////"), "refused 7 1 0\n");
     assert_eq!(join_shown("3 OR 4////"), "refused 7 1 0\n");
     assert_eq!(join_shown("3 OR 4/4/0.///"), "refused 7 2 0\n");
@@ -276,8 +284,8 @@ fn covered_without_point() {
 #[test]
 fn refusals_in_order() {
     let mut truth = vec![9; 2];
-    let mut short = vec![7; 1023];
-    let mut enough = vec![7; 1100];
+    let mut short = vec![7; LEAST_RECORDS - 1];
+    let mut enough = vec![7; LEAST_RECORDS + 100];
     let call = |cause| Refusal::of_call(cause);
     assert_eq!(check(33, b"x", &mut short), Err(call(1)));
     assert_eq!(check(32, b"x", &mut short), Err(call(4)));
@@ -291,14 +299,14 @@ fn refusals_in_order() {
     let truth_of = |n, size, table: &mut [u64], output: &mut [u8]| {
         write(n, size, &[0; 2], output, table).expect_err("refused")
     };
-    assert_eq!(truth_of(2, 1025, &mut short, &mut output), call(1));
-    assert_eq!(truth_of(3, 1025, &mut short, &mut output), call(3));
-    assert_eq!(truth_of(3, 1024, &mut short, &mut output), call(4));
-    assert_eq!(truth_of(3, 1024, &mut enough, &mut output), call(6));
+    assert_eq!(truth_of(2, MOST_SIZE + 1, &mut short, &mut output), call(1));
+    assert_eq!(truth_of(3, MOST_SIZE + 1, &mut short, &mut output), call(3));
+    assert_eq!(truth_of(3, MOST_SIZE, &mut short, &mut output), call(4));
+    assert_eq!(truth_of(3, MOST_SIZE, &mut enough, &mut output), call(6));
     // Left as they were so far.
     assert!(short.iter().chain(&enough).all(|&record| record == 7));
     assert_eq!((&truth[..], output), (&[9, 9][..], [5; 9]));
-    // Past cause 6 all records are zero, those beyond 1,024 too; the truth table is left.
+    // Past cause 6 all records are zero, those beyond the least number too; the truth table is left.
     let refused = fill(4, b"x", &mut truth, &mut enough);
     let (cause, stream, byte) = (7, 1, 0);
     assert_eq!(
@@ -316,7 +324,11 @@ fn refusals_in_order() {
 #[test]
 fn refusals_of_combine_in_order() {
     let refusal = |n, operator, size, records: usize, one: &[u8], two: &[u8]| {
-        let mut tables = [vec![7; 1024], vec![7; records], vec![7; 1024]];
+        let mut tables = [
+            vec![7; LEAST_RECORDS],
+            vec![7; records],
+            vec![7; LEAST_RECORDS],
+        ];
         let [first, second, third] = &mut tables;
         let lent = [&mut first[..], &mut second[..], &mut third[..]];
         let mut output = [5; 9];
@@ -327,12 +339,21 @@ fn refusals_of_combine_in_order() {
         assert_eq!(output, [5; 9]);
         (refused.cause, refused.stream, refused.byte)
     };
-    assert_eq!(refusal(33, 16, 1025, 9, b"x", b"y"), (1, 0, 0));
-    assert_eq!(refusal(32, 16, 1025, 9, b"x", b"y"), (2, 0, 0));
-    assert_eq!(refusal(32, 15, 1025, 9, b"x", b"y"), (3, 0, 0));
-    assert_eq!(refusal(32, 15, 1024, 1023, b"x", b"y"), (4, 0, 0));
-    assert_eq!(refusal(32, 15, 1024, 1024, b"0x", b"y"), (7, 1, 1));
-    assert_eq!(refusal(32, 15, 1024, 1024, b"0", b"y"), (7, 2, 0));
+    assert_eq!(refusal(33, 16, MOST_SIZE + 1, 9, b"x", b"y"), (1, 0, 0));
+    assert_eq!(refusal(32, 16, MOST_SIZE + 1, 9, b"x", b"y"), (2, 0, 0));
+    assert_eq!(refusal(32, 15, MOST_SIZE + 1, 9, b"x", b"y"), (3, 0, 0));
+    assert_eq!(
+        refusal(32, 15, MOST_SIZE, LEAST_RECORDS - 1, b"x", b"y"),
+        (4, 0, 0)
+    );
+    assert_eq!(
+        refusal(32, 15, MOST_SIZE, LEAST_RECORDS, b"0x", b"y"),
+        (7, 1, 1)
+    );
+    assert_eq!(
+        refusal(32, 15, MOST_SIZE, LEAST_RECORDS, b"0", b"y"),
+        (7, 2, 0)
+    );
 }
 
 #[test]
@@ -352,7 +373,7 @@ fn released_text() {
 
 #[test]
 fn outputs() {
-    let mut table = vec![7; 1024];
+    let mut table = vec![7; LEAST_RECORDS];
     let text = shown(MARKED[4].1);
     for length in 0..=text.len() + 2 {
         let mut output = vec![170; length];
@@ -379,7 +400,7 @@ fn outputs() {
 
 #[test]
 fn truth_tables() {
-    let mut table = vec![7; 1024];
+    let mut table = vec![7; LEAST_RECORDS];
     let mut truth = [255];
     let cut = shown(MARKED[7].1);
     assert_eq!(fill(3, &cut, &mut truth, &mut table), Ok(4));
