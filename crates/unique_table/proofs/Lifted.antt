@@ -1,6 +1,7 @@
 -- Generated: what callers cite of the lifted functions.
--- From 842f84d872e96147, as 940547a0de86cccf.
-pub mod unlink
+-- From 571437443e71fe5c, as de1ec5371e506a08.
+pub mod queue_unlink
+pub mod bucket_unlink
 pub mod link_last
 pub mod free
 pub mod bucket_at

@@ -1,7 +1,7 @@
 // The unique table and its recycling queue in lent records.
 ghost use mathlib.Core.Path.{_≡_};
 ghost use Rattle.theory_engine.specs.Cells.{cell};
-ghost use Rattle.writer_records.specs.Fields.{levelField, stampField};
+ghost use Rattle.writer_records.specs.Fields.{levelField, stampField, queueField, bucketField};
 ghost use Rattle.theory_engine.specs.Recycling.{unlinkIn, linkIn, freeOf, bucketAt, searchIn, findIn, insertIn, removeIn};
 ghost use Rattle.theory_engine.specs.Recycling.{fewerIn, orphanIn, orphansIn, releaseIn, adoptIn, noteIn, placeIn, storeIn, nextIn};
 ghost use Rattle.writer_records.specs.Records.{laneField};
@@ -30,16 +30,33 @@ pub struct Ends {
     pub last: u32,
 }
 
-// k leaves the queue, or its bucket.
-fn unlink(t: &mut [WriterRecord], queue: bool, e: Ends, k: u32) -> Ends
+// k leaves the queue. There is a function for each list: one that had to ask which list it is would not be taken into its callers by the compiler, and
+// texts of many nodes would take a twentieth longer.
+fn queue_unlink(t: &mut [WriterRecord], e: Ends, k: u32) -> Ends
     ensures { λ r. ⌜ record { table = now (t .exit); first = r .first; last = r .last }
-        ≡ unlinkIn (now (t .entry)) (laneField queue) (e .first) (e .last) k ⌝ }
+        ≡ unlinkIn (now (t .entry)) queueField (e .first) (e .last) k ⌝ }
 {
     let r = get_writer_record(t, k);
-    let p = before_of(queue, r);
-    let x = after_of(queue, r);
-    put_writer_record(t, p, with_after(queue, get_writer_record(t, p), x));
-    put_writer_record(t, x, with_before(queue, get_writer_record(t, x), p));
+    let p = before_of(true, r);
+    let x = after_of(true, r);
+    put_writer_record(t, p, with_after(true, get_writer_record(t, p), x));
+    put_writer_record(t, x, with_before(true, get_writer_record(t, x), p));
+    Ends {
+        first: either(p == 0, x, e.first),
+        last: either(x == 0, p, e.last),
+    }
+}
+
+// k leaves its bucket.
+fn bucket_unlink(t: &mut [WriterRecord], e: Ends, k: u32) -> Ends
+    ensures { λ r. ⌜ record { table = now (t .exit); first = r .first; last = r .last }
+        ≡ unlinkIn (now (t .entry)) bucketField (e .first) (e .last) k ⌝ }
+{
+    let r = get_writer_record(t, k);
+    let p = before_of(false, r);
+    let x = after_of(false, r);
+    put_writer_record(t, p, with_after(false, get_writer_record(t, p), x));
+    put_writer_record(t, x, with_before(false, get_writer_record(t, x), p));
     Ends {
         first: either(p == 0, x, e.first),
         last: either(x == 0, p, e.last),
@@ -137,9 +154,8 @@ fn bucket_remove(t: &mut [WriterRecord], k: u32)
 {
     let h = bucket_at(t, k);
     let x = get_writer_record(t, h);
-    let e = unlink(
+    let e = bucket_unlink(
         t,
-        false,
         Ends {
             first: x.head,
             last: x.tail,
@@ -190,7 +206,7 @@ fn orphans(t: &mut [WriterRecord], e: Ends, x: u32, y: u32) -> Ends
 fn release(t: &mut [WriterRecord], e: Ends, k: u32) -> Ends
     ensures { λ r. ⌜ record { table = now (t .exit); first = r .first; last = r .last } ≡ releaseIn (now (t .entry)) (e .first) (e .last) k ⌝ }
 {
-    let f = unlink(t, true, e, k);
+    let f = queue_unlink(t, e, k);
     bucket_remove(t, k);
     let x = get_writer_record(t, k);
     orphans(t, f, x.first, x.second)
@@ -208,7 +224,7 @@ fn adopt(t: &mut [WriterRecord], e: Ends, c: u32) -> Ends
     if x.parents != 0 {
         return e;
     }
-    unlink(t, true, e, c)
+    queue_unlink(t, e, c)
 }
 
 // The record of number k gets a node.

@@ -1,5 +1,5 @@
 -- Generated: what callers cite of is_barred.
--- From 3f3eb5e44809b88c, as e2ed8e7d6ceb9baa.
+-- From a7d717dae89b606c, as e2ed8e7d6ceb9baa.
 use Rattle.meeting.proofs.Half
 use Rattle.meeting.proofs.Half.Laws
 use Rattle.node_records.proofs.Tables.WriterRecord as WriterRecordT

@@ -1,5 +1,5 @@
 -- Generated: what callers cite of is_stale.
--- From 3f3eb5e44809b88c, as d27f7e7a560e906e.
+-- From a7d717dae89b606c, as d27f7e7a560e906e.
 use Rattle.meeting.proofs.Half
 use Rattle.meeting.proofs.Half.Laws
 use Rattle.node_records.proofs.Tables.WriterRecord as WriterRecordT

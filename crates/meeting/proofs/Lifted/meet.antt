@@ -1,5 +1,5 @@
 -- Generated: what callers cite of meet.
--- From 3f3eb5e44809b88c, as 94dd884ebe80d30e.
+-- From a7d717dae89b606c, as 94dd884ebe80d30e.
 use Rattle.meeting.proofs.Half
 use Rattle.meeting.proofs.Half.Laws
 use Rattle.meeting.proofs.Progress

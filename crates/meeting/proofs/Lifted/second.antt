@@ -1,5 +1,5 @@
 -- Generated: what callers cite of second.
--- From 3f3eb5e44809b88c, as 60e703b29e2f619c.
+-- From a7d717dae89b606c, as 60e703b29e2f619c.
 use Rattle.meeting.proofs.Half
 use Rattle.meeting.proofs.Half.Laws
 use Rattle.meeting.proofs.Walked

@@ -87,8 +87,7 @@ loop-again c =
     let c15 = c12 .before .before .before in
     let c17 = c15 .before .before in
     let a = c17 .args in
-    let l = c15 .loop in
-    (
+    let l = c15 .loop in (
       l .inv .0,
       (
         l .inv .1 .0,

@@ -1,5 +1,5 @@
 -- Generated: what callers cite of level_of.
--- From 842f84d872e96147, as 95323eefec98a0bd.
+-- From 571437443e71fe5c, as 95323eefec98a0bd.
 use Rattle.node_records.proofs.Tables.WriterRecord as WriterRecordT
 use borrow.Fn.Kinds
 use borrow.Kind.ShrSlice

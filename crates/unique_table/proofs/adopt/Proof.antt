@@ -59,8 +59,8 @@ returns-2 c =
     ∙ adopt-kept (a .t .now) (a .e .first) (a .e .last) (a .c) (c2 .if1 .left)
     (λ e. c .if2 .taken (got-field (a .t .now) parentsField (a .c) (c8 .get-writer-record .ensures) refl ∙ e))
 
-unlink-requires : tie.Need-unlink-requires
-unlink-requires c κs = search needs
+queue-unlink-requires : tie.Need-queue-unlink-requires
+queue-unlink-requires c κs = search needs
 
 same-length-3 : tie.Need-same-length-3
 same-length-3 c = search needs
@@ -78,7 +78,7 @@ returns-3 c =
     let a = c13 .args in
     let m = put-one-more (a .t .now) (a .c) (c11 .get-writer-record .ensures) (c9 .one-more .ensures) (c8 .with-parents .ensures)
     (c7 .put-writer-record .ensures) in
-    c1 .unlink .ensures ∙ ap (λ (u : List WriterRecord). unlinkIn u queueField (a .e .first) (a .e .last) (a .c)) m
+    c1 .queue-unlink .ensures ∙ ap (λ (u : List WriterRecord). unlinkIn u queueField (a .e .first) (a .e .last) (a .c)) m
     ∙ adopt-leaves (a .t .now) (a .e .first) (a .e .last) (a .c) (c5 .if1 .left)
     (sym (got-field (a .t .now) parentsField (a .c) (c11 .get-writer-record .ensures) refl) ∙ c3 .if2 .left)
 
@@ -94,6 +94,6 @@ adopt-spec =
     returns
     same-length-2
     returns-2
-    unlink-requires
+    queue-unlink-requires
     same-length-3
     returns-3)

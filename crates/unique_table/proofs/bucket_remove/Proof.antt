@@ -16,8 +16,8 @@ bucket-at-requires c κs = search needs
 get-writer-record-requires : tie.Need-get-writer-record-requires
 get-writer-record-requires c κs = search needs
 
-unlink-requires : tie.Need-unlink-requires
-unlink-requires c κs = search needs
+bucket-unlink-requires : tie.Need-bucket-unlink-requires
+bucket-unlink-requires c κs = search needs
 
 get-writer-record-requires-2 : tie.Need-get-writer-record-requires-2
 get-writer-record-requires-2 c κs = search needs
@@ -43,10 +43,10 @@ returns c =
     let c13 = c11 .before .before in
     let a = c13 .args in
     let h = c11 .bucket-at .result in
-    put-ends (c7 .unlink .last .0) h (c7 .unlink .result .first) (c7 .unlink .result .last) (c3 .get-writer-record2 .ensures)
+    put-ends (c7 .bucket-unlink .last .0) h (c7 .bucket-unlink .result .first) (c7 .bucket-unlink .result .last) (c3 .get-writer-record2 .ensures)
     (c2 .with-ends .ensures)
     (c1 .put-writer-record .ensures)
-    ∙ ap (endsTo h) (c7 .unlink .ensures)
+    ∙ ap (endsTo h) (c7 .bucket-unlink .ensures)
     ∙ rw (
       got-field (a .t .now) headField h (c9 .get-writer-record .ensures) refl,
       got-field (a .t .now) tailField h (c9 .get-writer-record .ensures) refl,
@@ -59,7 +59,7 @@ bucket-remove-spec =
     (tie.spec
     bucket-at-requires
     get-writer-record-requires
-    unlink-requires
+    bucket-unlink-requires
     get-writer-record-requires-2
     with-ends-requires
     put-writer-record-requires

@@ -10,8 +10,8 @@ use mathlib.Core.Path.{refl, ap}
 use Rattle.unique_table.proofs.release.Statement.{statement}
 use Rattle.unique_table.proofs.release.Proof.Tie as tie
 
-unlink-requires : tie.Need-unlink-requires
-unlink-requires c κs = search needs
+queue-unlink-requires : tie.Need-queue-unlink-requires
+queue-unlink-requires c κs = search needs
 
 bucket-remove-requires : tie.Need-bucket-remove-requires
 bucket-remove-requires c κs = search needs
@@ -39,10 +39,10 @@ returns c =
       got-field u firstField (a .k) (c3 .get-writer-record .ensures) refl,
       got-field u secondField (a .k) (c3 .get-writer-record .ensures) refl,
       c6 .bucket-remove .ensures,
-      ap (λ (x : Lane). x .table) (c9 .unlink .ensures),
-      ap (λ (x : Lane). x .first) (c9 .unlink .ensures),
-      ap (λ (x : Lane). x .last) (c9 .unlink .ensures),
+      ap (λ (x : Lane). x .table) (c9 .queue-unlink .ensures),
+      ap (λ (x : Lane). x .first) (c9 .queue-unlink .ensures),
+      ap (λ (x : Lane). x .last) (c9 .queue-unlink .ensures),
     ) refl
 
 pub release-spec : {M : Type 1} → statement M
-release-spec = tie.close (tie.spec unlink-requires bucket-remove-requires get-writer-record-requires orphans-requires same-length returns)
+release-spec = tie.close (tie.spec queue-unlink-requires bucket-remove-requires get-writer-record-requires orphans-requires same-length returns)

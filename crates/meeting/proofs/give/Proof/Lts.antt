@@ -1,5 +1,5 @@
 -- Generated: the derivation of a body.
--- From 3f3eb5e44809b88c, as dd3e6eb2149d740a.
+-- From a7d717dae89b606c, as dd3e6eb2149d740a.
 use Prim.Native.Nat
 use Rattle.meeting.proofs.Half
 use Rattle.meeting.proofs.Half.Laws

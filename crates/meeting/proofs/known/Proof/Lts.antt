@@ -1,5 +1,5 @@
 -- Generated: the derivation of a body.
--- From 3f3eb5e44809b88c, as 7d8897025b87575e.
+-- From a7d717dae89b606c, as 7d8897025b87575e.
 use Prim.Native.Nat
 use Rattle.meeting.proofs.Half
 use Rattle.meeting.proofs.Half.Laws

@@ -1,5 +1,5 @@
 -- Generated: the derivation of a body.
--- From ee92856c029ce089, as bc1dee5f771729c7.
+-- From 82a28d5d05acc190, as bc1dee5f771729c7.
 use Prim.Native.Nat
 use Rattle.node_records.proofs.Tables.WriterRecord as WriterRecordT
 use Rattle.operation_cache.proofs.Key

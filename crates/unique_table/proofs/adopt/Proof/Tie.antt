@@ -1,5 +1,5 @@
 -- Generated: the needs of adopt at its contract, and how its theorem closes.
--- From 842f84d872e96147, as e47c8ebf69d72e5c.
+-- From 571437443e71fe5c, as 1a3614a0bd0c3048.
 use borrow.Fn.Run
 use borrow.Fn.Written
 use contract.Running.{givenOf, tablesOf}
@@ -15,9 +15,9 @@ use Rattle.writer_records.proofs.with_parents.Symbol as with-parents-symbol
 use Rattle.record_tables.proofs.Lifted.put_writer_record as put-writer-record-reads
 use Rattle.record_tables.proofs.put_writer_record.Met as put-writer-record-met
 use Rattle.record_tables.proofs.put_writer_record.Symbol as put-writer-record-symbol
-use Rattle.unique_table.proofs.Lifted.unlink as unlink-reads
-use Rattle.unique_table.proofs.unlink.Met as unlink-met
-use Rattle.unique_table.proofs.unlink.Symbol as unlink-symbol
+use Rattle.unique_table.proofs.Lifted.queue_unlink as queue-unlink-reads
+use Rattle.unique_table.proofs.queue_unlink.Met as queue-unlink-met
+use Rattle.unique_table.proofs.queue_unlink.Symbol as queue-unlink-symbol
 use Rattle.unique_table.proofs.adopt.Key
 use Rattle.unique_table.proofs.adopt.Code as code
 use Rattle.unique_table.proofs.adopt.Statement.{statement}
@@ -25,7 +25,7 @@ use Rattle.unique_table.proofs.adopt.Proof.Lts as lts
 use Rattle.unique_table.proofs.Lifted.adopt as self
 
 abbrev callees : lts.Claims
-callees = (get-writer-record-reads.Asked, get-writer-record-reads.Learnt, one-more-reads.Asked, one-more-reads.Learnt, with-parents-reads.Asked, with-parents-reads.Learnt, put-writer-record-reads.Asked, put-writer-record-reads.Learnt, unlink-reads.Asked, unlink-reads.Learnt)
+callees = (get-writer-record-reads.Asked, get-writer-record-reads.Learnt, one-more-reads.Asked, one-more-reads.Learnt, with-parents-reads.Asked, with-parents-reads.Learnt, put-writer-record-reads.Asked, put-writer-record-reads.Learnt, queue-unlink-reads.Asked, queue-unlink-reads.Learnt)
 
 abbrev pub Need-get-writer-record-requires : Type 0
 Need-get-writer-record-requires = lts.Need-get-writer-record-requires callees self.Pre self.Post
@@ -51,8 +51,8 @@ Need-same-length-2 = lts.Need-same-length-2 callees self.Pre self.Post
 abbrev pub Need-returns-2 : Type 0
 Need-returns-2 = lts.Need-returns-2 callees self.Pre self.Post
 
-abbrev pub Need-unlink-requires : Type 0
-Need-unlink-requires = lts.Need-unlink-requires callees self.Pre self.Post
+abbrev pub Need-queue-unlink-requires : Type 0
+Need-queue-unlink-requires = lts.Need-queue-unlink-requires callees self.Pre self.Post
 
 abbrev pub Need-same-length-3 : Type 0
 Need-same-length-3 = lts.Need-same-length-3 callees self.Pre self.Post
@@ -61,7 +61,7 @@ abbrev pub Need-returns-3 : Type 0
 Need-returns-3 = lts.Need-returns-3 callees self.Pre self.Post
 
 module _ {M : Type 1} where
-  pub spec : Need-get-writer-record-requires → Need-one-more-requires → Need-with-parents-requires → Need-put-writer-record-requires → Need-same-length → Need-returns → Need-same-length-2 → Need-returns-2 → Need-unlink-requires → Need-same-length-3 → Need-returns-3 → lts.Closed callees self.Pre self.Post M
+  pub spec : Need-get-writer-record-requires → Need-one-more-requires → Need-with-parents-requires → Need-put-writer-record-requires → Need-same-length → Need-returns → Need-same-length-2 → Need-returns-2 → Need-queue-unlink-requires → Need-same-length-3 → Need-returns-3 → lts.Closed callees self.Pre self.Post M
   spec n0 n1 n2 n3 n4 n5 n6 n7 n8 n9 n10 = lts.spec callees self.Pre self.Post n0 n1 n2 n3 n4 n5 n6 n7 n8 n9 n10
 
   pub close : lts.Closed callees self.Pre self.Post M → statement M
@@ -73,4 +73,4 @@ module _ {M : Type 1} where
       (one-more-reads.known record { M = M; 𝓤 = 𝓤; H = H; 𝓜 = 𝓜; 𝓖 = 𝓖; 𝓡 = 𝓡 } code.env one-more-symbol.name one-more-symbol.routine code.calls-writer-numbers·one-more (one-more-met.met 𝓤 H 𝓜 𝓖 𝓡))
       (with-parents-reads.known record { M = M; 𝓤 = 𝓤; H = H; 𝓜 = 𝓜; 𝓖 = 𝓖; 𝓡 = 𝓡 } code.env with-parents-symbol.name with-parents-symbol.routine code.calls-writer-records·with-parents (with-parents-met.met 𝓤 H 𝓜 𝓖 𝓡))
       (put-writer-record-reads.known record { M = M; 𝓤 = 𝓤; H = H; 𝓜 = 𝓜; 𝓖 = 𝓖; 𝓡 = 𝓡 } code.env put-writer-record-symbol.name put-writer-record-symbol.routine code.calls-record-tables·put-writer-record (put-writer-record-met.met 𝓤 H 𝓜 𝓖 𝓡))
-      (unlink-reads.known record { M = M; 𝓤 = 𝓤; H = H; 𝓜 = 𝓜; 𝓖 = 𝓖; 𝓡 = 𝓡 } code.env unlink-symbol.name unlink-symbol.routine code.calls-unique-table·unlink (unlink-met.met 𝓤 H 𝓜 𝓖 𝓡))
+      (queue-unlink-reads.known record { M = M; 𝓤 = 𝓤; H = H; 𝓜 = 𝓜; 𝓖 = 𝓖; 𝓡 = 𝓡 } code.env queue-unlink-symbol.name queue-unlink-symbol.routine code.calls-unique-table·queue-unlink (queue-unlink-met.met 𝓤 H 𝓜 𝓖 𝓡))

@@ -1,5 +1,5 @@
 -- Generated: the needs of bucket_insert at its contract, and how its theorem closes.
--- From 842f84d872e96147, as 2f9628f8f4419515.
+-- From 571437443e71fe5c, as 2f9628f8f4419515.
 use borrow.Fn.Run
 use borrow.Fn.Written
 use contract.Running.{givenOf, tablesOf}

@@ -1,5 +1,5 @@
 -- Generated: the needs of bucket_remove at its contract, and how its theorem closes.
--- From 842f84d872e96147, as 2a0ab472823f005d.
+-- From 571437443e71fe5c, as b1821ee1a58564b7.
 use borrow.Fn.Run
 use borrow.Fn.Written
 use contract.Running.{givenOf, tablesOf}
@@ -9,9 +9,9 @@ use Rattle.unique_table.proofs.bucket_at.Symbol as bucket-at-symbol
 use Rattle.record_tables.proofs.Lifted.get_writer_record as get-writer-record-reads
 use Rattle.record_tables.proofs.get_writer_record.Met as get-writer-record-met
 use Rattle.record_tables.proofs.get_writer_record.Symbol as get-writer-record-symbol
-use Rattle.unique_table.proofs.Lifted.unlink as unlink-reads
-use Rattle.unique_table.proofs.unlink.Met as unlink-met
-use Rattle.unique_table.proofs.unlink.Symbol as unlink-symbol
+use Rattle.unique_table.proofs.Lifted.bucket_unlink as bucket-unlink-reads
+use Rattle.unique_table.proofs.bucket_unlink.Met as bucket-unlink-met
+use Rattle.unique_table.proofs.bucket_unlink.Symbol as bucket-unlink-symbol
 use Rattle.writer_records.proofs.with_ends.Reads as with-ends-reads
 use Rattle.writer_records.proofs.with_ends.Met as with-ends-met
 use Rattle.writer_records.proofs.with_ends.Symbol as with-ends-symbol
@@ -25,7 +25,7 @@ use Rattle.unique_table.proofs.bucket_remove.Proof.Lts as lts
 use Rattle.unique_table.proofs.Lifted.bucket_remove as self
 
 abbrev callees : lts.Claims
-callees = (bucket-at-reads.Asked, bucket-at-reads.Learnt, get-writer-record-reads.Asked, get-writer-record-reads.Learnt, unlink-reads.Asked, unlink-reads.Learnt, with-ends-reads.Asked, with-ends-reads.Learnt, put-writer-record-reads.Asked, put-writer-record-reads.Learnt)
+callees = (bucket-at-reads.Asked, bucket-at-reads.Learnt, get-writer-record-reads.Asked, get-writer-record-reads.Learnt, bucket-unlink-reads.Asked, bucket-unlink-reads.Learnt, with-ends-reads.Asked, with-ends-reads.Learnt, put-writer-record-reads.Asked, put-writer-record-reads.Learnt)
 
 abbrev pub Need-bucket-at-requires : Type 0
 Need-bucket-at-requires = lts.Need-bucket-at-requires callees self.Pre self.Post
@@ -33,8 +33,8 @@ Need-bucket-at-requires = lts.Need-bucket-at-requires callees self.Pre self.Post
 abbrev pub Need-get-writer-record-requires : Type 0
 Need-get-writer-record-requires = lts.Need-get-writer-record-requires callees self.Pre self.Post
 
-abbrev pub Need-unlink-requires : Type 0
-Need-unlink-requires = lts.Need-unlink-requires callees self.Pre self.Post
+abbrev pub Need-bucket-unlink-requires : Type 0
+Need-bucket-unlink-requires = lts.Need-bucket-unlink-requires callees self.Pre self.Post
 
 abbrev pub Need-get-writer-record-requires-2 : Type 0
 Need-get-writer-record-requires-2 = lts.Need-get-writer-record-requires-2 callees self.Pre self.Post
@@ -52,7 +52,7 @@ abbrev pub Need-returns : Type 0
 Need-returns = lts.Need-returns callees self.Pre self.Post
 
 module _ {M : Type 1} where
-  pub spec : Need-bucket-at-requires → Need-get-writer-record-requires → Need-unlink-requires → Need-get-writer-record-requires-2 → Need-with-ends-requires → Need-put-writer-record-requires → Need-same-length → Need-returns → lts.Closed callees self.Pre self.Post M
+  pub spec : Need-bucket-at-requires → Need-get-writer-record-requires → Need-bucket-unlink-requires → Need-get-writer-record-requires-2 → Need-with-ends-requires → Need-put-writer-record-requires → Need-same-length → Need-returns → lts.Closed callees self.Pre self.Post M
   spec n0 n1 n2 n3 n4 n5 n6 n7 = lts.spec callees self.Pre self.Post n0 n1 n2 n3 n4 n5 n6 n7
 
   pub close : lts.Closed callees self.Pre self.Post M → statement M
@@ -62,6 +62,6 @@ module _ {M : Type 1} where
       (λ κs a g. tt) (λ κs. self.owns κs record { M = M; 𝓤 = 𝓤; H = H; 𝓜 = 𝓜; 𝓖 = 𝓖; 𝓡 = 𝓡 }) (self.passes record { M = M; 𝓤 = 𝓤; H = H; 𝓜 = 𝓜; 𝓖 = 𝓖; 𝓡 = 𝓡 }) λ g. closed 𝓤 H (𝓖 .A) (givenOf 𝓤 H 𝓜 𝓖) (Run.Over 𝓤 H 𝓜 𝓖 𝓡 code.env)
       (bucket-at-reads.known record { M = M; 𝓤 = 𝓤; H = H; 𝓜 = 𝓜; 𝓖 = 𝓖; 𝓡 = 𝓡 } code.env bucket-at-symbol.name bucket-at-symbol.routine code.calls-unique-table·bucket-at (bucket-at-met.met 𝓤 H 𝓜 𝓖 𝓡))
       (get-writer-record-reads.known record { M = M; 𝓤 = 𝓤; H = H; 𝓜 = 𝓜; 𝓖 = 𝓖; 𝓡 = 𝓡 } code.env get-writer-record-symbol.name get-writer-record-symbol.routine code.calls-record-tables·get-writer-record (get-writer-record-met.met 𝓤 H 𝓜 𝓖 𝓡))
-      (unlink-reads.known record { M = M; 𝓤 = 𝓤; H = H; 𝓜 = 𝓜; 𝓖 = 𝓖; 𝓡 = 𝓡 } code.env unlink-symbol.name unlink-symbol.routine code.calls-unique-table·unlink (unlink-met.met 𝓤 H 𝓜 𝓖 𝓡))
+      (bucket-unlink-reads.known record { M = M; 𝓤 = 𝓤; H = H; 𝓜 = 𝓜; 𝓖 = 𝓖; 𝓡 = 𝓡 } code.env bucket-unlink-symbol.name bucket-unlink-symbol.routine code.calls-unique-table·bucket-unlink (bucket-unlink-met.met 𝓤 H 𝓜 𝓖 𝓡))
       (with-ends-reads.known record { M = M; 𝓤 = 𝓤; H = H; 𝓜 = 𝓜; 𝓖 = 𝓖; 𝓡 = 𝓡 } code.env with-ends-symbol.name with-ends-symbol.routine code.calls-writer-records·with-ends (with-ends-met.met 𝓤 H 𝓜 𝓖 𝓡))
       (put-writer-record-reads.known record { M = M; 𝓤 = 𝓤; H = H; 𝓜 = 𝓜; 𝓖 = 𝓖; 𝓡 = 𝓡 } code.env put-writer-record-symbol.name put-writer-record-symbol.routine code.calls-record-tables·put-writer-record (put-writer-record-met.met 𝓤 H 𝓜 𝓖 𝓡))

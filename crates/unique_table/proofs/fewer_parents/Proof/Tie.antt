@@ -1,5 +1,5 @@
 -- Generated: the needs of fewer_parents at its contract, and how its theorem closes.
--- From 842f84d872e96147, as c5d8d8dabca29e59.
+-- From 571437443e71fe5c, as c5d8d8dabca29e59.
 use borrow.Fn.Run
 use borrow.Fn.Written
 use contract.Running.{givenOf, tablesOf}

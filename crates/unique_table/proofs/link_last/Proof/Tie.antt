@@ -1,5 +1,5 @@
 -- Generated: the needs of link_last at its contract, and how its theorem closes.
--- From 842f84d872e96147, as b48a080b157c6aff.
+-- From 571437443e71fe5c, as b48a080b157c6aff.
 use borrow.Fn.Run
 use borrow.Fn.Written
 use contract.Running.{givenOf, tablesOf}

@@ -1,5 +1,5 @@
 -- Generated: the derivation of a body.
--- From 842f84d872e96147, as fd4c79e8095e0814.
+-- From 571437443e71fe5c, as fd4c79e8095e0814.
 use Prim.Native.Nat
 use Rattle.node_records.proofs.Tables.WriterRecord as WriterRecordT
 use borrow.Author.Called

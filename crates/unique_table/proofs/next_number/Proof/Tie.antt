@@ -1,5 +1,5 @@
 -- Generated: the needs of next_number at its contract, and how its theorem closes.
--- From 842f84d872e96147, as 49d7b8e616ceb6b9.
+-- From 571437443e71fe5c, as 49d7b8e616ceb6b9.
 use borrow.Fn.Run
 use borrow.Fn.Written
 use contract.Running.{givenOf, tablesOf}

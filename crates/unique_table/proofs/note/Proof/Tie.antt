@@ -1,5 +1,5 @@
 -- Generated: the needs of note at its contract, and how its theorem closes.
--- From 842f84d872e96147, as ecf43fe272a148f3.
+-- From 571437443e71fe5c, as ecf43fe272a148f3.
 use borrow.Fn.Run
 use borrow.Fn.Written
 use contract.Running.{givenOf, tablesOf}

@@ -1,5 +1,5 @@
--- Generated: what callers cite of unlink.
--- From 842f84d872e96147, as ad061e14f2a7d251.
+-- Generated: what callers cite of bucket_unlink.
+-- From 571437443e71fe5c, as f2024501b6205cbb.
 use Rattle.node_records.proofs.Tables.WriterRecord as WriterRecordT
 use Rattle.unique_table.proofs.Ends
 use Rattle.unique_table.proofs.Ends.Laws
@@ -23,10 +23,10 @@ use borrow.Fn.Written
 use contract.Lifetimes
 use contract.Monad
 use denote.Triple.Clauses
-use Rattle.unique_table.proofs.unlink as own
+use Rattle.unique_table.proofs.bucket_unlink as own
 
 abbrev pub ps : List.List (Kinds.PK 1)
-ps = List._∷_ (MutSlice.pMutS WriterRecordT.row 0 tt) (List._∷_ Kinds.pBool (List._∷_ (Value.pVal record { ty = Declared.row Ends.the-type; one = Path'.refl; val = Laws'.val Ends.the-type Laws.the-laws; tells = Laws'.tells Ends.the-type Laws.the-laws; still = Laws'.still Ends.the-type Laws.the-copy Exit.yes; row = Rows.whole (Declared.row Ends.the-type); rd = λ x. x; mk = λ x. x } λ M 𝓤 H A W. record { copies = Laws'.copy Ends.the-type Laws.the-copy 𝓤 H A W; lawful = Laws'.lawful Ends.the-type Laws.the-laws 𝓤 H A W; makes = Laws'.makes Ends.the-type Laws.the-plain 𝓤 H A; in-mem = Local.mem-whole 𝓤 H A W (Declared.row Ends.the-type); of-mem = Local.whole-mem 𝓤 H A W (Declared.row Ends.the-type) }) (List._∷_ (Kinds.pNum Syntax.w32) List.[])))
+ps = List._∷_ (MutSlice.pMutS WriterRecordT.row 0 tt) (List._∷_ (Value.pVal record { ty = Declared.row Ends.the-type; one = Path'.refl; val = Laws'.val Ends.the-type Laws.the-laws; tells = Laws'.tells Ends.the-type Laws.the-laws; still = Laws'.still Ends.the-type Laws.the-copy Exit.yes; row = Rows.whole (Declared.row Ends.the-type); rd = λ x. x; mk = λ x. x } λ M 𝓤 H A W. record { copies = Laws'.copy Ends.the-type Laws.the-copy 𝓤 H A W; lawful = Laws'.lawful Ends.the-type Laws.the-laws 𝓤 H A W; makes = Laws'.makes Ends.the-type Laws.the-plain 𝓤 H A; in-mem = Local.mem-whole 𝓤 H A W (Declared.row Ends.the-type); of-mem = Local.whole-mem 𝓤 H A W (Declared.row Ends.the-type) }) (List._∷_ (Kinds.pNum Syntax.w32) List.[]))
 abbrev pub r : Kinds.RK 1
 r = Value.rVal record { ty = Declared.row Ends.the-type; one = Path'.refl; val = Laws'.val Ends.the-type Laws.the-laws; tells = Laws'.tells Ends.the-type Laws.the-laws; still = Laws'.still Ends.the-type Laws.the-copy Exit.yes; row = Rows.whole (Declared.row Ends.the-type); rd = λ x. x; mk = λ x. x } λ M 𝓤 H A W. record { copies = Laws'.copy Ends.the-type Laws.the-copy 𝓤 H A W; lawful = Laws'.lawful Ends.the-type Laws.the-laws 𝓤 H A W; makes = Laws'.makes Ends.the-type Laws.the-plain 𝓤 H A; in-mem = Local.mem-whole 𝓤 H A W (Declared.row Ends.the-type); of-mem = Local.whole-mem 𝓤 H A W (Declared.row Ends.the-type) }
 abbrev pub Ghost : Type 0

@@ -4,12 +4,12 @@ mod Lts
 mod Tie
 use borrow.Author.Needs.{needs}
 use Rattle.theory_engine.specs.RecordLaws.{got-field, put-field}
-use Rattle.writer_records.specs.Records.{laneField}
+use Rattle.writer_records.specs.Fields.{queueField}
 use Rattle.theory_engine.specs.Recycling.{unlinkIn}
 use Prim.Native.Nat.{_+_}
 use mathlib.Core.Path.{refl}
-use Rattle.unique_table.proofs.unlink.Statement.{statement}
-use Rattle.unique_table.proofs.unlink.Proof.Tie as tie
+use Rattle.unique_table.proofs.queue_unlink.Statement.{statement}
+use Rattle.unique_table.proofs.queue_unlink.Proof.Tie as tie
 
 get-writer-record-requires : tie.Need-get-writer-record-requires
 get-writer-record-requires c κs = search needs
@@ -62,7 +62,7 @@ returns c =
     let c16 = c15 .before in
     let c18 = c16 .before .before in
     let a = c18 .args in
-    let j = laneField (a .queue) in
+    let j = queueField in
     let p = c15 .before-of .result in
     let x = c14 .after-of .result in rw (
       c .either2 .ensures,
@@ -74,8 +74,8 @@ returns c =
       got-field (a .t .now) (j + 1) (a .k) (c16 .get-writer-record .ensures) (c15 .before-of .ensures),
     ) refl
 
-pub unlink-spec : {M : Type 1} → statement M
-unlink-spec =
+pub queue-unlink-spec : {M : Type 1} → statement M
+queue-unlink-spec =
     tie.close
     (tie.spec
     get-writer-record-requires
