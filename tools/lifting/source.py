@@ -113,17 +113,26 @@ def sources(crate):
     go("lib.rt", (), "")
     return out
 
-def fewer_uses(src, gone, own):
-    """the text with no `use` of what is `gone`, or of another crate unless `own` has it"""
+def fewer_uses(src, gone, own=None):
+    """the text with no `use` of what is `gone`, or of a crate that `own` does not have"""
     def one(m):
         path = m.group(1).strip()
-        if path.split("::")[0] not in own: return ""
+        if own is not None and path.split("::")[0] not in own: return ""
         g = re.fullmatch(r"(.*::)\{(.*)\}", path, re.S)
         if g:
             left = [x.strip() for x in g.group(2).split(",") if x.strip() and x.split(" as ")[0].strip() not in gone]
             return f"use {g.group(1)}{{{', '.join(left)}}};\n" if left else ""
         return "" if path.split(" as ")[0].split("::")[-1].strip() in gone else m.group(0)
     return re.sub(r"(?m)^[ \t]*(?:pub )?use ([^;]*);[ \t]*\n", one, src)
+
+def fewer_constants(texts):
+    """the files of a crate and those below it with no constant that none of them needs"""
+    while True:
+        needs = "\n".join(re.sub(r"(?m)^[ \t]*(?:pub )?(?:use [^;]*;|const \w+:)", "", t) for t in texts.values())
+        gone = {n for t in texts.values() for n in re.findall(r"(?m)^[ \t]*(?:pub )?const (\w+):", t) if not re.search(rf"\b{n}\b", needs)}
+        if not gone: return texts
+        line = re.compile(rf"(?ms)^[ \t]*(?:pub )?const (?:{'|'.join(sorted(gone))}):.*?;[ \t]*\n")
+        texts = {x: fewer_uses(line.sub("", t), gone) for x, t in texts.items()}
 
 def no_impl(src):
     """the text with no `impl` blocks"""

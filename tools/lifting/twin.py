@@ -1,7 +1,7 @@
 """The twin of a crate: the functions that are lent slices of structs, over arrays that occur nowhere else."""
 import os, re, shutil, subprocess
 
-from .source import Fn, declared, default, dependencies, fewer_uses, no_impl, size_of, sources
+from .source import Fn, declared, default, dependencies, fewer_constants, fewer_uses, no_impl, size_of, sources
 
 MARK = 61                                       # the length of the first such array; the next table's is one more
 SLICE = r"&(?:'\w+ )?(?:mut )?\[(\w+)\]"
@@ -141,7 +141,7 @@ class Twin:
         return {**out, **self.below(self.every, True)}
 
     def kinds(self):
-        return {k: t for k, t in (("fields", self.fields()), ("wholes", self.wholes())) if t}
+        return {k: fewer_constants(t) for k, t in (("fields", self.fields()), ("wholes", self.wholes())) if t}
 
     # ---- What the checker prints of it
 

@@ -1,5 +1,5 @@
 -- Generated: what callers cite of the lifted functions.
--- From 328527b0f9fca93f, as f18991afe3bcbed1.
+-- From 401ee1cff0cc8269, as f18991afe3bcbed1.
 pub mod fill_node
 pub mod fill_words
 pub mod fill

@@ -1,3 +1,3 @@
 -- Generated: what callers cite of the lifted functions.
--- From f8e79c18ec1e894a, as c9f1e9959860edea.
+-- From 051e1c7e546c9a6a, as c9f1e9959860edea.
 pub mod call

@@ -1,5 +1,5 @@
 -- Generated: what callers cite of the lifted functions.
--- From a7d717dae89b606c, as 00dfe1b51a958ecd.
+-- From 0f4de940d8480abe, as 00dfe1b51a958ecd.
 pub mod is_stale
 pub mod alike_number
 pub mod is_barred

@@ -1,4 +1,4 @@
 -- Generated: the records of lent slices.
--- From e7659091a73d15ca, as c798757ce7f4171c.
+-- From 077ba05d85c0d082, as c798757ce7f4171c.
 pub mod NodeRecord
 pub mod WriterRecord

@@ -1,5 +1,5 @@
 -- Generated: what callers cite of the lifted functions.
--- From 65d198cedebcf8fe, as c162bcb292a764a6.
+-- From 443215b1a45a06eb, as c162bcb292a764a6.
 pub mod first_half
 pub mod read_on
 pub mod second_operand

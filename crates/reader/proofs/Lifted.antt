@@ -1,5 +1,5 @@
 -- Generated: what callers cite of the lifted functions.
--- From e3279c059057b5eb, as ed3d81d8c560d983.
+-- From 78663303f6fac913, as ed3d81d8c560d983.
 pub mod barred
 pub mod update_table
 pub mod iterate

@@ -1,5 +1,5 @@
 -- Generated: what callers cite of the lifted functions.
--- From eca6a65df644a89c, as 704011e744e9e46f.
+-- From d4c739a7fd605a0e, as 704011e744e9e46f.
 pub mod get_record
 pub mod put_record
 pub mod clear_records

@@ -1,5 +1,5 @@
 -- Generated: what callers cite of the lifted functions.
--- From 7d371e1a9383305f, as 139f5d5741d92fdb.
+-- From 684a6838d44c748f, as 139f5d5741d92fdb.
 pub mod first_on
 pub mod second_on
 pub mod texts

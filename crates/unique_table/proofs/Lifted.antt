@@ -1,5 +1,5 @@
 -- Generated: what callers cite of the lifted functions.
--- From 571437443e71fe5c, as de1ec5371e506a08.
+-- From c9d7a47fa9b372ca, as de1ec5371e506a08.
 pub mod queue_unlink
 pub mod bucket_unlink
 pub mod link_last

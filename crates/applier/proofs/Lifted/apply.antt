@@ -1,5 +1,5 @@
 -- Generated: what callers cite of apply.
--- From e913cbf519329295, as e7dbfbc1f9553c25.
+-- From 088687791c244a8b, as e7dbfbc1f9553c25.
 use Rattle.edges.proofs.TableEdge
 use Rattle.edges.proofs.TableEdge.Laws
 use Rattle.meeting.proofs.Progress

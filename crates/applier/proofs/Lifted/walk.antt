@@ -1,5 +1,5 @@
 -- Generated: what callers cite of walk.
--- From e913cbf519329295, as 5cb55521d7734125.
+-- From 088687791c244a8b, as 5cb55521d7734125.
 use Rattle.edges.proofs.TableEdge
 use Rattle.edges.proofs.TableEdge.Laws
 use Rattle.meeting.proofs.Progress

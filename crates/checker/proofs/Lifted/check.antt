@@ -1,5 +1,5 @@
 -- Generated: what callers cite of check.
--- From 04da2c9a72f2aa4e, as f81326fa9335a971.
+-- From fcc6651f339d07b5, as f81326fa9335a971.
 use Rattle.answers.proofs.Checking
 use Rattle.answers.proofs.Checking.Laws
 use Rattle.node_records.proofs.Tables.NodeRecord as NodeRecordT

@@ -1,5 +1,5 @@
 -- Generated: what callers cite of clear_all.
--- From 042f7a708d9d96e5, as 4e9f99fb33ec7e35.
+-- From b4d82ceba9e3735e, as 4e9f99fb33ec7e35.
 use Rattle.node_records.proofs.Tables.NodeRecord as NodeRecordT
 use borrow.Fn.Kinds
 use borrow.Kind.MutSlice

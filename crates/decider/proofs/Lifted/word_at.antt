@@ -1,5 +1,5 @@
 -- Generated: what callers cite of word_at.
--- From 83051e63fbdf9f20, as fe12e446b863e4e7.
+-- From 5b3708e82c76682e, as fe12e446b863e4e7.
 use Rattle.answers.proofs.Verdict
 use Rattle.answers.proofs.Verdict.Laws
 use Rattle.node_records.proofs.Tables.NodeRecord as NodeRecordT

@@ -1,5 +1,5 @@
 -- Generated: what callers cite of fill.
--- From 328527b0f9fca93f, as 458e432d93536545.
+-- From 401ee1cff0cc8269, as 458e432d93536545.
 use Rattle.answers.proofs.Filling
 use Rattle.answers.proofs.Filling.Laws
 use Rattle.node_records.proofs.Tables.NodeRecord as NodeRecordT

@@ -1,5 +1,5 @@
 -- Generated: what callers cite of fill_node.
--- From 328527b0f9fca93f, as 39dc884295aca6eb.
+-- From 401ee1cff0cc8269, as 39dc884295aca6eb.
 use Rattle.node_records.proofs.Edge
 use Rattle.node_records.proofs.Edge.Laws
 use Rattle.node_records.proofs.Tables.NodeRecord as NodeRecordT

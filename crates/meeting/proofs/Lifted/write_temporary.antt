@@ -1,5 +1,5 @@
 -- Generated: what callers cite of write_temporary.
--- From a7d717dae89b606c, as dbfa784d970802e6.
+-- From 0f4de940d8480abe, as dbfa784d970802e6.
 use Rattle.meeting.proofs.Half
 use Rattle.meeting.proofs.Half.Laws
 use Rattle.meeting.proofs.Progress

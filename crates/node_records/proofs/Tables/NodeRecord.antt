@@ -1,5 +1,5 @@
 -- Generated: the record NodeRecord as the element of a lent slice.
--- From e7659091a73d15ca, as e4c970c3f8143744.
+-- From 077ba05d85c0d082, as e4c970c3f8143744.
 use borrow.Fn.Kinds
 use borrow.Kind.Value
 use borrow.Rule.Local

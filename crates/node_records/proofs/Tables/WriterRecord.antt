@@ -1,5 +1,5 @@
 -- Generated: the record WriterRecord as the element of a lent slice.
--- From e7659091a73d15ca, as 0c7469607d14a398.
+-- From 077ba05d85c0d082, as 0c7469607d14a398.
 use borrow.Fn.Kinds
 use borrow.Kind.Value
 use borrow.Rule.Local

@@ -1,5 +1,5 @@
 -- Generated: what callers cite of recall.
--- From 82a28d5d05acc190, as 89bfd0f41454fda1.
+-- From 8cf683678002cdef, as 89bfd0f41454fda1.
 use Rattle.node_records.proofs.Tables.WriterRecord as WriterRecordT
 use Rattle.operation_cache.proofs.Key
 use Rattle.operation_cache.proofs.Key.Laws

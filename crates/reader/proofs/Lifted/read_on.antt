@@ -1,5 +1,5 @@
 -- Generated: what callers cite of read_on.
--- From e3279c059057b5eb, as 0cef409f7dacc5e2.
+-- From 78663303f6fac913, as 0cef409f7dacc5e2.
 use Rattle.cursors.proofs.Cursor
 use Rattle.cursors.proofs.Cursor.Laws
 use Rattle.node_records.proofs.Tables.NodeRecord as NodeRecordT

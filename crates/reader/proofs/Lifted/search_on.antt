@@ -1,5 +1,5 @@
 -- Generated: what callers cite of search_on.
--- From e3279c059057b5eb, as f61401e34742901b.
+-- From 78663303f6fac913, as f61401e34742901b.
 use Rattle.cursors.proofs.Cursor
 use Rattle.cursors.proofs.Cursor.Laws
 use Rattle.node_records.proofs.Tables.NodeRecord as NodeRecordT

@@ -1,5 +1,5 @@
 -- Generated: what callers cite of stop_after.
--- From e3279c059057b5eb, as e8bc85249a921f35.
+-- From 78663303f6fac913, as e8bc85249a921f35.
 use Rattle.cursors.proofs.Run
 use Rattle.cursors.proofs.Run.Laws
 use Rattle.node_records.proofs.Tables.NodeRecord as NodeRecordT

@@ -1,5 +1,5 @@
 -- Generated: what callers cite of clear_records.
--- From eca6a65df644a89c, as 70c8499954d3f07e.
+-- From d4c739a7fd605a0e, as 70c8499954d3f07e.
 use Rattle.node_records.proofs.Tables.NodeRecord as NodeRecordT
 use borrow.Fn.Kinds
 use borrow.Kind.MutSlice

@@ -1,5 +1,5 @@
 -- Generated: what callers cite of clear_writer_records.
--- From eca6a65df644a89c, as b8ee5f15e44f2e9a.
+-- From d4c739a7fd605a0e, as b8ee5f15e44f2e9a.
 use Rattle.node_records.proofs.Tables.WriterRecord as WriterRecordT
 use borrow.Fn.Kinds
 use borrow.Kind.MutSlice

@@ -1,5 +1,5 @@
 -- Generated: what callers cite of get_record.
--- From eca6a65df644a89c, as f4a201468b0f5436.
+-- From d4c739a7fd605a0e, as f4a201468b0f5436.
 use Rattle.node_records.proofs.Tables.NodeRecord as NodeRecordT
 use borrow.Fn.Kinds
 use borrow.Kind.ShrSlice

@@ -1,5 +1,5 @@
 -- Generated: what callers cite of put_record.
--- From eca6a65df644a89c, as 0b9c8fd1464f5120.
+-- From d4c739a7fd605a0e, as 0b9c8fd1464f5120.
 use Rattle.node_records.proofs.Tables.NodeRecord as NodeRecordT
 use borrow.Fn.Kinds
 use borrow.Kind.MutSlice

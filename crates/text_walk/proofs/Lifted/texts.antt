@@ -1,5 +1,5 @@
 -- Generated: what callers cite of texts.
--- From 7d371e1a9383305f, as 26257b2abaf436a4.
+-- From 684a6838d44c748f, as 26257b2abaf436a4.
 use Rattle.blocks.proofs.Block
 use Rattle.blocks.proofs.Block.Laws
 use Rattle.meeting.proofs.Progress

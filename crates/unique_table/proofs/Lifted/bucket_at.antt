@@ -1,5 +1,5 @@
 -- Generated: what callers cite of bucket_at.
--- From 571437443e71fe5c, as 79e7eb27db0ea054.
+-- From c9d7a47fa9b372ca, as 79e7eb27db0ea054.
 use Rattle.node_records.proofs.Tables.WriterRecord as WriterRecordT
 use borrow.Fn.Kinds
 use borrow.Kind.ShrSlice

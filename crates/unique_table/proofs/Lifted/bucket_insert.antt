@@ -1,5 +1,5 @@
 -- Generated: what callers cite of bucket_insert.
--- From 571437443e71fe5c, as 6e54c3be5a627f1d.
+-- From c9d7a47fa9b372ca, as 6e54c3be5a627f1d.
 use Rattle.node_records.proofs.Tables.WriterRecord as WriterRecordT
 use borrow.Fn.Kinds
 use borrow.Kind.MutSlice

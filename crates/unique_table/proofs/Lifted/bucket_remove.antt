@@ -1,5 +1,5 @@
 -- Generated: what callers cite of bucket_remove.
--- From 571437443e71fe5c, as b631ded418f580bc.
+-- From c9d7a47fa9b372ca, as b631ded418f580bc.
 use Rattle.node_records.proofs.Tables.WriterRecord as WriterRecordT
 use borrow.Fn.Kinds
 use borrow.Kind.MutSlice

@@ -1,5 +1,5 @@
 -- Generated: what callers cite of bucket_unlink.
--- From 571437443e71fe5c, as f2024501b6205cbb.
+-- From c9d7a47fa9b372ca, as f2024501b6205cbb.
 use Rattle.node_records.proofs.Tables.WriterRecord as WriterRecordT
 use Rattle.unique_table.proofs.Ends
 use Rattle.unique_table.proofs.Ends.Laws

@@ -1,5 +1,5 @@
 -- Generated: what callers cite of fewer_parents.
--- From 571437443e71fe5c, as 6ef67471e9228763.
+-- From c9d7a47fa9b372ca, as 6ef67471e9228763.
 use Rattle.node_records.proofs.Tables.WriterRecord as WriterRecordT
 use borrow.Fn.Kinds
 use borrow.Kind.MutSlice

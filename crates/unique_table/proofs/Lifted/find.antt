@@ -1,5 +1,5 @@
 -- Generated: what callers cite of find.
--- From 571437443e71fe5c, as 325cc5d669d475d0.
+-- From c9d7a47fa9b372ca, as 325cc5d669d475d0.
 use Rattle.node_records.proofs.Tables.WriterRecord as WriterRecordT
 use borrow.Fn.Kinds
 use borrow.Kind.ShrSlice

@@ -1,5 +1,5 @@
 -- Generated: what callers cite of free.
--- From 571437443e71fe5c, as 9ec320f7f354e6de.
+-- From c9d7a47fa9b372ca, as 9ec320f7f354e6de.
 use Rattle.node_records.proofs.Tables.WriterRecord as WriterRecordT
 use borrow.Fn.Kinds
 use borrow.Kind.ShrSlice

@@ -1,5 +1,5 @@
 -- Generated: what callers cite of level_of.
--- From 571437443e71fe5c, as 95323eefec98a0bd.
+-- From c9d7a47fa9b372ca, as 95323eefec98a0bd.
 use Rattle.node_records.proofs.Tables.WriterRecord as WriterRecordT
 use borrow.Fn.Kinds
 use borrow.Kind.ShrSlice

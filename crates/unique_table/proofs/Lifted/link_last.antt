@@ -1,5 +1,5 @@
 -- Generated: what callers cite of link_last.
--- From 571437443e71fe5c, as 9f9e6e18654e46ad.
+-- From c9d7a47fa9b372ca, as 9f9e6e18654e46ad.
 use Rattle.node_records.proofs.Tables.WriterRecord as WriterRecordT
 use Rattle.unique_table.proofs.Ends
 use Rattle.unique_table.proofs.Ends.Laws

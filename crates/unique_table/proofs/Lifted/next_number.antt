@@ -1,5 +1,5 @@
 -- Generated: what callers cite of next_number.
--- From 571437443e71fe5c, as 4530d4f2f0f562db.
+-- From c9d7a47fa9b372ca, as 4530d4f2f0f562db.
 use Rattle.node_records.proofs.Tables.WriterRecord as WriterRecordT
 use borrow.Fn.Kinds
 use borrow.Kind.ShrSlice

@@ -1,5 +1,5 @@
 -- Generated: what callers cite of note.
--- From 571437443e71fe5c, as 2aa884957cfc1f10.
+-- From c9d7a47fa9b372ca, as 2aa884957cfc1f10.
 use Rattle.node_records.proofs.Tables.WriterRecord as WriterRecordT
 use borrow.Fn.Kinds
 use borrow.Kind.MutSlice

@@ -1,5 +1,5 @@
 -- Generated: what callers cite of orphan.
--- From 571437443e71fe5c, as e8adee7592c1ed60.
+-- From c9d7a47fa9b372ca, as e8adee7592c1ed60.
 use Rattle.node_records.proofs.Tables.WriterRecord as WriterRecordT
 use Rattle.unique_table.proofs.Ends
 use Rattle.unique_table.proofs.Ends.Laws

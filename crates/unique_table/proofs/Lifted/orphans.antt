@@ -1,5 +1,5 @@
 -- Generated: what callers cite of orphans.
--- From 571437443e71fe5c, as ed8ee87059a0aa2b.
+-- From c9d7a47fa9b372ca, as ed8ee87059a0aa2b.
 use Rattle.node_records.proofs.Tables.WriterRecord as WriterRecordT
 use Rattle.unique_table.proofs.Ends
 use Rattle.unique_table.proofs.Ends.Laws

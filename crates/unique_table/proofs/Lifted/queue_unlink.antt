@@ -1,5 +1,5 @@
 -- Generated: what callers cite of queue_unlink.
--- From 571437443e71fe5c, as 62fafcb092393b9e.
+-- From c9d7a47fa9b372ca, as 62fafcb092393b9e.
 use Rattle.node_records.proofs.Tables.WriterRecord as WriterRecordT
 use Rattle.unique_table.proofs.Ends
 use Rattle.unique_table.proofs.Ends.Laws

@@ -1,5 +1,5 @@
 -- Generated: what callers cite of search_from.
--- From 571437443e71fe5c, as b5e22100e49442bf.
+-- From c9d7a47fa9b372ca, as b5e22100e49442bf.
 use Rattle.node_records.proofs.Tables.WriterRecord as WriterRecordT
 use borrow.Fn.Kinds
 use borrow.Kind.ShrSlice

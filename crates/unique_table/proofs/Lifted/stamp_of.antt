@@ -1,5 +1,5 @@
 -- Generated: what callers cite of stamp_of.
--- From 571437443e71fe5c, as 05258a797ee5321a.
+-- From c9d7a47fa9b372ca, as 05258a797ee5321a.
 use Rattle.node_records.proofs.Tables.WriterRecord as WriterRecordT
 use borrow.Fn.Kinds
 use borrow.Kind.ShrSlice

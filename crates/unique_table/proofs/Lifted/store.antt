@@ -1,5 +1,5 @@
 -- Generated: what callers cite of store.
--- From 571437443e71fe5c, as f3277dfda6f793e0.
+-- From c9d7a47fa9b372ca, as f3277dfda6f793e0.
 use Rattle.node_records.proofs.Tables.WriterRecord as WriterRecordT
 use Rattle.unique_table.proofs.Ends
 use Rattle.unique_table.proofs.Ends.Laws

@@ -1,5 +1,5 @@
 -- Generated: what callers cite of count.
--- From bf5d1afb4f82fee3, as 8b771bca0af39523.
+-- From 594cf02ae263ec12, as 8b771bca0af39523.
 use Rattle.node_records.proofs.Tables.NodeRecord as NodeRecordT
 use borrow.Fn.Kinds
 use borrow.Kind.MutSlice

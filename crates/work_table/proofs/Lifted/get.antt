@@ -1,5 +1,5 @@
 -- Generated: what callers cite of get.
--- From bf5d1afb4f82fee3, as 3be888ddd3e387da.
+-- From 594cf02ae263ec12, as 3be888ddd3e387da.
 use Rattle.node_records.proofs.NodeRecord
 use Rattle.node_records.proofs.NodeRecord.Laws
 use Rattle.node_records.proofs.Tables.NodeRecord as NodeRecordT

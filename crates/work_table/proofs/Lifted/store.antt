@@ -1,5 +1,5 @@
 -- Generated: what callers cite of store.
--- From bf5d1afb4f82fee3, as 02607af4ba8ead46.
+-- From 594cf02ae263ec12, as 02607af4ba8ead46.
 use Rattle.node_records.proofs.NodeRecord
 use Rattle.node_records.proofs.NodeRecord.Laws
 use Rattle.node_records.proofs.Tables.NodeRecord as NodeRecordT

@@ -1,5 +1,5 @@
 -- Generated: what callers cite of stream.
--- From f82ca65e0b1caaa7, as e64eafc8aeda1dce.
+-- From 62d382ebce643db0, as e64eafc8aeda1dce.
 use Rattle.node_records.proofs.Tables.WriterRecord as WriterRecordT
 use Rattle.pending_text.proofs.Sent
 use Rattle.pending_text.proofs.Sent.Laws

@@ -1,5 +1,5 @@
 -- Generated: the derivation of a body.
--- From e913cbf519329295, as f7fb4756f14c08b4.
+-- From 088687791c244a8b, as f7fb4756f14c08b4.
 use Prim.Native.Nat
 use Rattle.edges.proofs.TableEdge
 use Rattle.edges.proofs.TableEdge.Laws

@@ -1,5 +1,5 @@
 -- Generated: how the theorem of walk, which calls itself, closes.
--- From e913cbf519329295, as 83fc54472aeef87e.
+-- From 088687791c244a8b, as 83fc54472aeef87e.
 use Prim.Native.Nat.{ℕ, _<_}
 use borrow.Fn.Kinds.{In}
 use borrow.Fn.PlainCycle

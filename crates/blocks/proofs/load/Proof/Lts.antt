@@ -1,5 +1,5 @@
 -- Generated: the derivation of a body.
--- From 3b26d2a4295ec3b1, as 10cca661c0a816af.
+-- From 491056250f96b6c5, as 10cca661c0a816af.
 use Prim.Native.Nat
 use Rattle.answers.proofs.Checked
 use Rattle.answers.proofs.Checked.Laws

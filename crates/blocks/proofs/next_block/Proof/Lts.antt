@@ -1,5 +1,5 @@
 -- Generated: the derivation of a body.
--- From 3b26d2a4295ec3b1, as 378b19c712f63259.
+-- From 491056250f96b6c5, as 378b19c712f63259.
 use Prim.Native.Nat
 use Rattle.blocks.proofs.Block
 use Rattle.blocks.proofs.Block.Laws

@@ -1,5 +1,5 @@
 -- Generated: the derivation of a body.
--- From 04da2c9a72f2aa4e, as 7ab05678197c927f.
+-- From fcc6651f339d07b5, as 7ab05678197c927f.
 use Prim.Native.Nat
 use Rattle.answers.proofs.Checking
 use Rattle.answers.proofs.Checking.Laws

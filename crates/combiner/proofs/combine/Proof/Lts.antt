@@ -1,5 +1,5 @@
 -- Generated: the derivation of a body.
--- From 042f7a708d9d96e5, as f545d0fdfbcaaef5.
+-- From b4d82ceba9e3735e, as f545d0fdfbcaaef5.
 use Prim.Native.Nat
 use Rattle.answers.proofs.Refusal
 use Rattle.answers.proofs.Refusal.Laws

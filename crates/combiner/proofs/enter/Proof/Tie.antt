@@ -1,5 +1,5 @@
 -- Generated: the needs of enter at its contract, and how its theorem closes.
--- From 042f7a708d9d96e5, as e21995f8692c4183.
+-- From b4d82ceba9e3735e, as e21995f8692c4183.
 use borrow.Fn.Run
 use borrow.Fn.Written
 use contract.Running.{givenOf, tablesOf}

@@ -1,5 +1,5 @@
 -- Generated: the derivation of a body.
--- From 83051e63fbdf9f20, as a857b4362db662f4.
+-- From 5b3708e82c76682e, as a857b4362db662f4.
 use Prim.Native.Nat
 use Rattle.answers.proofs.Deciding
 use Rattle.answers.proofs.Deciding.Laws

@@ -1,5 +1,5 @@
 -- Generated: the derivation of a body.
--- From 99686c6a948c0e51, as 53a4208eee8f21b0.
+-- From 35306dbf2e36724e, as 53a4208eee8f21b0.
 use Prim.Native.Nat
 use Rattle.desk.proofs.RuleWritten
 use Rattle.desk.proofs.RuleWritten.Laws

@@ -1,5 +1,5 @@
 -- Generated: the needs of rule_combine at its contract, and how its theorem closes.
--- From 99686c6a948c0e51, as 30b7ffad4f501c26.
+-- From 35306dbf2e36724e, as 30b7ffad4f501c26.
 use borrow.Fn.Run
 use borrow.Fn.Written
 use contract.Running.{givenOf, tablesOf}

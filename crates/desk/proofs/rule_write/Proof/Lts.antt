@@ -1,5 +1,5 @@
 -- Generated: the derivation of a body.
--- From 99686c6a948c0e51, as 1b77b4f85e4be5d2.
+-- From 35306dbf2e36724e, as 1b77b4f85e4be5d2.
 use Prim.Native.Nat
 use Rattle.desk.proofs.RuleWritten
 use Rattle.desk.proofs.RuleWritten.Laws

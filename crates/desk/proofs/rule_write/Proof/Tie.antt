@@ -1,5 +1,5 @@
 -- Generated: the needs of rule_write at its contract, and how its theorem closes.
--- From 99686c6a948c0e51, as 0d95752981ec1634.
+-- From 35306dbf2e36724e, as 0d95752981ec1634.
 use borrow.Fn.Run
 use borrow.Fn.Written
 use contract.Running.{givenOf, tablesOf}

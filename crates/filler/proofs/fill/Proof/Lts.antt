@@ -1,5 +1,5 @@
 -- Generated: the derivation of a body.
--- From 328527b0f9fca93f, as dac940402e969344.
+-- From 401ee1cff0cc8269, as dac940402e969344.
 use Prim.Native.Nat
 use Rattle.answers.proofs.Filling
 use Rattle.answers.proofs.Filling.Laws

@@ -1,5 +1,5 @@
 -- Generated: the needs of fill at its contract, and how its theorem closes.
--- From 328527b0f9fca93f, as 3f42e9194f929343.
+-- From 401ee1cff0cc8269, as 3f42e9194f929343.
 use borrow.Fn.Run
 use borrow.Fn.Written
 use contract.Running.{givenOf, tablesOf}

@@ -1,5 +1,5 @@
 -- Generated: the derivation of a body.
--- From 3797fdcb77939f72, as 0410b513dc14055d.
+-- From 598a17b34b551b01, as 0410b513dc14055d.
 use Prim.Native.Nat
 use Rattle.answers.proofs.Finding
 use Rattle.answers.proofs.Finding.Laws

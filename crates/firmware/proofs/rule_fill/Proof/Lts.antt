@@ -1,5 +1,5 @@
 -- Generated: the derivation of a body.
--- From 25a83058a0259458, as 90891f7d7c993af9.
+-- From 3e80bec9652ba80a, as 90891f7d7c993af9.
 use Prim.Native.Nat
 use Rattle.answers.proofs.Filling
 use Rattle.answers.proofs.Filling.Laws

@@ -1,5 +1,5 @@
 -- Generated: the needs of rule_next at its contract, and how its theorem closes.
--- From 25a83058a0259458, as 0f050eab6391c7a6.
+-- From 3e80bec9652ba80a, as 0f050eab6391c7a6.
 use borrow.Fn.Run
 use borrow.Fn.Written
 use contract.Running.{givenOf, tablesOf}

@@ -1,5 +1,5 @@
 -- Generated: the derivation of a body.
--- From f8e79c18ec1e894a, as a293b72c86a81765.
+-- From 051e1c7e546c9a6a, as a293b72c86a81765.
 use Prim.Native.Nat
 use Rattle.meeting.proofs.Writing
 use Rattle.meeting.proofs.Writing.Laws

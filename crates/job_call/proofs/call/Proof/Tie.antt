@@ -1,5 +1,5 @@
 -- Generated: the needs of call at its contract, and how its theorem closes.
--- From f8e79c18ec1e894a, as aa70cfabb3e33cf4.
+-- From 051e1c7e546c9a6a, as aa70cfabb3e33cf4.
 use borrow.Fn.Run
 use borrow.Fn.Written
 use contract.Running.{givenOf, tablesOf}

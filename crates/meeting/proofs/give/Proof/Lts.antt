@@ -1,5 +1,5 @@
 -- Generated: the derivation of a body.
--- From a7d717dae89b606c, as dd3e6eb2149d740a.
+-- From 0f4de940d8480abe, as dd3e6eb2149d740a.
 use Prim.Native.Nat
 use Rattle.meeting.proofs.Half
 use Rattle.meeting.proofs.Half.Laws

@@ -1,5 +1,5 @@
 -- Generated: the needs of give at its contract, and how its theorem closes.
--- From a7d717dae89b606c, as 9df0b50d27c46221.
+-- From 0f4de940d8480abe, as 9df0b50d27c46221.
 use borrow.Fn.Run
 use borrow.Fn.Written
 use contract.Running.{givenOf, tablesOf}

@@ -1,5 +1,5 @@
 -- Generated: the derivation of a body.
--- From a7d717dae89b606c, as 4ea27fbe683977c7.
+-- From 0f4de940d8480abe, as 4ea27fbe683977c7.
 use Prim.Native.Nat
 use Rattle.meeting.proofs.Half
 use Rattle.meeting.proofs.Half.Laws

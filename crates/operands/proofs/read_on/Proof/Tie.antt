@@ -1,5 +1,5 @@
 -- Generated: the needs of read_on at its contract, and how its theorem closes.
--- From 65d198cedebcf8fe, as b5103e40c8c2a789.
+-- From 443215b1a45a06eb, as b5103e40c8c2a789.
 use borrow.Fn.Run
 use borrow.Fn.Written
 use contract.Running.{givenOf, tablesOf}

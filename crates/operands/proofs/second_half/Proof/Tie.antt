@@ -1,5 +1,5 @@
 -- Generated: the needs of second_half at its contract, and how its theorem closes.
--- From 65d198cedebcf8fe, as d817edfe39431864.
+-- From 443215b1a45a06eb, as d817edfe39431864.
 use borrow.Fn.Run
 use borrow.Fn.Written
 use contract.Running.{givenOf, tablesOf}

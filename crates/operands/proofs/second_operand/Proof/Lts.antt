@@ -1,5 +1,5 @@
 -- Generated: the derivation of a body.
--- From 65d198cedebcf8fe, as f1dc5afb657e8ce7.
+-- From 443215b1a45a06eb, as f1dc5afb657e8ce7.
 use Prim.Native.Nat
 use Rattle.blocks.proofs.Block
 use Rattle.blocks.proofs.Block.Laws

@@ -1,5 +1,5 @@
 -- Generated: the needs of recall_entry at its contract, and how its theorem closes.
--- From 82a28d5d05acc190, as ee79b7f19327406a.
+-- From 8cf683678002cdef, as ee79b7f19327406a.
 use borrow.Fn.Run
 use borrow.Fn.Written
 use contract.Running.{givenOf, tablesOf}

@@ -1,5 +1,5 @@
 -- Generated: the derivation of a body.
--- From e3279c059057b5eb, as a4b5da57e852d55e.
+-- From 78663303f6fac913, as a4b5da57e852d55e.
 use Prim.Native.Nat
 use Rattle.cursors.proofs.Run
 use Rattle.cursors.proofs.Run.Laws

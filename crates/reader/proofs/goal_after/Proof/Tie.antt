@@ -1,5 +1,5 @@
 -- Generated: the needs of goal_after at its contract, and how its theorem closes.
--- From e3279c059057b5eb, as 4189ec8c9c02f333.
+-- From 78663303f6fac913, as 4189ec8c9c02f333.
 use borrow.Fn.Run
 use borrow.Fn.Written
 use contract.Running.{givenOf, tablesOf}

@@ -1,5 +1,5 @@
 -- Generated: the needs of iterate at its contract, and how its theorem closes.
--- From e3279c059057b5eb, as 82cb143cf147a94e.
+-- From 78663303f6fac913, as 82cb143cf147a94e.
 use borrow.Fn.Run
 use borrow.Fn.Written
 use contract.Running.{givenOf, tablesOf}

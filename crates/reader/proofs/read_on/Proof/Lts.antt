@@ -1,5 +1,5 @@
 -- Generated: the derivation of a body.
--- From e3279c059057b5eb, as f0fc88155c7233ef.
+-- From 78663303f6fac913, as f0fc88155c7233ef.
 use Prim.Native.Nat
 use Rattle.cursors.proofs.Cursor
 use Rattle.cursors.proofs.Cursor.Laws

@@ -1,5 +1,5 @@
 -- Generated: the derivation of a body.
--- From e3279c059057b5eb, as db27a77726324e62.
+-- From 78663303f6fac913, as db27a77726324e62.
 use Prim.Native.Nat
 use Rattle.cursors.proofs.Pair
 use Rattle.cursors.proofs.Pair.Laws

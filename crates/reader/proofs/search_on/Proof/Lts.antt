@@ -1,5 +1,5 @@
 -- Generated: the derivation of a body.
--- From e3279c059057b5eb, as b0b7c491812bc7b7.
+-- From 78663303f6fac913, as b0b7c491812bc7b7.
 use Prim.Native.Nat
 use Rattle.cursors.proofs.Cursor
 use Rattle.cursors.proofs.Cursor.Laws

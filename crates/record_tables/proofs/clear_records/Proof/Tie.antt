@@ -1,5 +1,5 @@
 -- Generated: the needs of clear_records at its contract, and how its theorem closes.
--- From eca6a65df644a89c, as 7501b2a8ecfe58bf.
+-- From d4c739a7fd605a0e, as 7501b2a8ecfe58bf.
 use borrow.Fn.Run
 use borrow.Fn.Written
 use contract.Running.{givenOf, tablesOf}

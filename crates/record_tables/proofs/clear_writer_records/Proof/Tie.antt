@@ -1,5 +1,5 @@
 -- Generated: the needs of clear_writer_records at its contract, and how its theorem closes.
--- From eca6a65df644a89c, as a5a774e119bd2208.
+-- From d4c739a7fd605a0e, as a5a774e119bd2208.
 use borrow.Fn.Run
 use borrow.Fn.Written
 use contract.Running.{givenOf, tablesOf}

@@ -1,5 +1,5 @@
 -- Generated: the needs of get_record at its contract, and how its theorem closes.
--- From eca6a65df644a89c, as 3f7752835ffa402b.
+-- From d4c739a7fd605a0e, as 3f7752835ffa402b.
 use borrow.Fn.Run
 use borrow.Fn.Written
 use contract.Running.{givenOf, tablesOf}

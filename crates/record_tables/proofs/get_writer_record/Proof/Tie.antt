@@ -1,5 +1,5 @@
 -- Generated: the needs of get_writer_record at its contract, and how its theorem closes.
--- From eca6a65df644a89c, as 7019bdf1ebbf5960.
+-- From d4c739a7fd605a0e, as 7019bdf1ebbf5960.
 use borrow.Fn.Run
 use borrow.Fn.Written
 use contract.Running.{givenOf, tablesOf}

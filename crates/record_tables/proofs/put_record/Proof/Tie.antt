@@ -1,5 +1,5 @@
 -- Generated: the needs of put_record at its contract, and how its theorem closes.
--- From eca6a65df644a89c, as caf957262bc5bcf7.
+-- From d4c739a7fd605a0e, as caf957262bc5bcf7.
 use borrow.Fn.Run
 use borrow.Fn.Written
 use contract.Running.{givenOf, tablesOf}

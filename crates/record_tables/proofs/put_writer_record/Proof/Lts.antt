@@ -1,5 +1,5 @@
 -- Generated: the derivation of a body.
--- From eca6a65df644a89c, as 52f7a9e3d25286ff.
+-- From d4c739a7fd605a0e, as 52f7a9e3d25286ff.
 use Prim.Native.Nat
 use Rattle.node_records.proofs.Tables.WriterRecord as WriterRecordT
 use borrow.Author.Tests

@@ -1,5 +1,5 @@
 -- Generated: the needs of put_writer_record at its contract, and how its theorem closes.
--- From eca6a65df644a89c, as 6952afdc8f3bc7ca.
+-- From d4c739a7fd605a0e, as 6952afdc8f3bc7ca.
 use borrow.Fn.Run
 use borrow.Fn.Written
 use contract.Running.{givenOf, tablesOf}

@@ -1,5 +1,5 @@
 -- Generated: how the theorem of texts, which calls itself, closes.
--- From 7d371e1a9383305f, as f8a92442f02ddff7.
+-- From 684a6838d44c748f, as f8a92442f02ddff7.
 use Prim.Native.Nat.{ℕ, _<_}
 use borrow.Fn.Kinds.{In}
 use borrow.Fn.PlainCycle

@@ -1,5 +1,5 @@
 -- Generated: the needs of first_on at its contract, and how its theorem closes.
--- From 7d371e1a9383305f, as 24cf2d06d52ef20d.
+-- From 684a6838d44c748f, as 24cf2d06d52ef20d.
 use borrow.Fn.Run
 use borrow.Fn.Written
 use contract.Running.{givenOf, tablesOf}

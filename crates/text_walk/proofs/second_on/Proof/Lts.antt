@@ -1,5 +1,5 @@
 -- Generated: the derivation of a body.
--- From 7d371e1a9383305f, as df30e22915f4746e.
+-- From 684a6838d44c748f, as df30e22915f4746e.
 use Prim.Native.Nat
 use Rattle.blocks.proofs.Block
 use Rattle.blocks.proofs.Block.Laws

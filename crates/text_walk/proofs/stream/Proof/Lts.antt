@@ -1,5 +1,5 @@
 -- Generated: the derivation of a body.
--- From 7d371e1a9383305f, as 70296fa8fbc3d854.
+-- From 684a6838d44c748f, as 70296fa8fbc3d854.
 use Prim.Native.Nat
 use Rattle.node_records.proofs.Tables.NodeRecord as NodeRecordT
 use Rattle.node_records.proofs.Tables.WriterRecord as WriterRecordT

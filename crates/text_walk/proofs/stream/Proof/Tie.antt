@@ -1,5 +1,5 @@
 -- Generated: the needs of stream at its contract, and how its theorem closes.
--- From 7d371e1a9383305f, as 14b9e15496dc210a.
+-- From 684a6838d44c748f, as 14b9e15496dc210a.
 use borrow.Fn.Run
 use borrow.Fn.Written
 use contract.Running.{givenOf, tablesOf}

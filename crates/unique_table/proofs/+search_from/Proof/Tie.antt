@@ -1,5 +1,5 @@
 -- Generated: how the theorem of search_from, which calls itself, closes.
--- From 571437443e71fe5c, as e6741dd850b62cb9.
+-- From c9d7a47fa9b372ca, as e6741dd850b62cb9.
 use Prim.Native.Nat.{ℕ, _<_}
 use borrow.Fn.Kinds.{In}
 use borrow.Fn.PlainCycle

@@ -1,5 +1,5 @@
 -- Generated: the needs of adopt at its contract, and how its theorem closes.
--- From 571437443e71fe5c, as 1a3614a0bd0c3048.
+-- From c9d7a47fa9b372ca, as 1a3614a0bd0c3048.
 use borrow.Fn.Run
 use borrow.Fn.Written
 use contract.Running.{givenOf, tablesOf}

@@ -1,5 +1,5 @@
 -- Generated: the needs of bucket_at at its contract, and how its theorem closes.
--- From 571437443e71fe5c, as 50bd1aa2ac21c0ce.
+-- From c9d7a47fa9b372ca, as 50bd1aa2ac21c0ce.
 use borrow.Fn.Run
 use borrow.Fn.Written
 use contract.Running.{givenOf, tablesOf}

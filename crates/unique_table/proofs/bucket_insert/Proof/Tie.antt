@@ -1,5 +1,5 @@
 -- Generated: the needs of bucket_insert at its contract, and how its theorem closes.
--- From 571437443e71fe5c, as 2f9628f8f4419515.
+-- From c9d7a47fa9b372ca, as 2f9628f8f4419515.
 use borrow.Fn.Run
 use borrow.Fn.Written
 use contract.Running.{givenOf, tablesOf}

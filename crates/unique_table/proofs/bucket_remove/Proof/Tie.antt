@@ -1,5 +1,5 @@
 -- Generated: the needs of bucket_remove at its contract, and how its theorem closes.
--- From 571437443e71fe5c, as b1821ee1a58564b7.
+-- From c9d7a47fa9b372ca, as b1821ee1a58564b7.
 use borrow.Fn.Run
 use borrow.Fn.Written
 use contract.Running.{givenOf, tablesOf}

@@ -1,5 +1,5 @@
 -- Generated: the needs of bucket_unlink at its contract, and how its theorem closes.
--- From 571437443e71fe5c, as e3d8bb641efff007.
+-- From c9d7a47fa9b372ca, as e3d8bb641efff007.
 use borrow.Fn.Run
 use borrow.Fn.Written
 use contract.Running.{givenOf, tablesOf}

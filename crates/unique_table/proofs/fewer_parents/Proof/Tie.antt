@@ -1,5 +1,5 @@
 -- Generated: the needs of fewer_parents at its contract, and how its theorem closes.
--- From 571437443e71fe5c, as c5d8d8dabca29e59.
+-- From c9d7a47fa9b372ca, as c5d8d8dabca29e59.
 use borrow.Fn.Run
 use borrow.Fn.Written
 use contract.Running.{givenOf, tablesOf}

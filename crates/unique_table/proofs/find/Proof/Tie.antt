@@ -1,5 +1,5 @@
 -- Generated: the needs of find at its contract, and how its theorem closes.
--- From 571437443e71fe5c, as be032ea4282a9e0d.
+-- From c9d7a47fa9b372ca, as be032ea4282a9e0d.
 use borrow.Fn.Run
 use borrow.Fn.Written
 use contract.Running.{givenOf, tablesOf}

@@ -1,5 +1,5 @@
 -- Generated: the needs of free at its contract, and how its theorem closes.
--- From 571437443e71fe5c, as 508f065c5b7f6ff8.
+-- From c9d7a47fa9b372ca, as 508f065c5b7f6ff8.
 use borrow.Fn.Run
 use borrow.Fn.Written
 use contract.Running.{givenOf, tablesOf}

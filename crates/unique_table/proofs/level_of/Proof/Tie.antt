@@ -1,5 +1,5 @@
 -- Generated: the needs of level_of at its contract, and how its theorem closes.
--- From 571437443e71fe5c, as 040d838a307ac612.
+-- From c9d7a47fa9b372ca, as 040d838a307ac612.
 use borrow.Fn.Run
 use borrow.Fn.Written
 use contract.Running.{givenOf, tablesOf}

@@ -1,5 +1,5 @@
 -- Generated: the needs of link_last at its contract, and how its theorem closes.
--- From 571437443e71fe5c, as b48a080b157c6aff.
+-- From c9d7a47fa9b372ca, as b48a080b157c6aff.
 use borrow.Fn.Run
 use borrow.Fn.Written
 use contract.Running.{givenOf, tablesOf}

@@ -1,5 +1,5 @@
 -- Generated: the derivation of a body.
--- From 571437443e71fe5c, as fd4c79e8095e0814.
+-- From c9d7a47fa9b372ca, as fd4c79e8095e0814.
 use Prim.Native.Nat
 use Rattle.node_records.proofs.Tables.WriterRecord as WriterRecordT
 use borrow.Author.Called

@@ -1,5 +1,5 @@
 -- Generated: the needs of next_number at its contract, and how its theorem closes.
--- From 571437443e71fe5c, as 49d7b8e616ceb6b9.
+-- From c9d7a47fa9b372ca, as 49d7b8e616ceb6b9.
 use borrow.Fn.Run
 use borrow.Fn.Written
 use contract.Running.{givenOf, tablesOf}

@@ -1,5 +1,5 @@
 -- Generated: the needs of note at its contract, and how its theorem closes.
--- From 571437443e71fe5c, as ecf43fe272a148f3.
+-- From c9d7a47fa9b372ca, as ecf43fe272a148f3.
 use borrow.Fn.Run
 use borrow.Fn.Written
 use contract.Running.{givenOf, tablesOf}

@@ -1,5 +1,5 @@
 -- Generated: the needs of orphan at its contract, and how its theorem closes.
--- From 571437443e71fe5c, as 5d3e7cd933d4a7cf.
+-- From c9d7a47fa9b372ca, as 5d3e7cd933d4a7cf.
 use borrow.Fn.Run
 use borrow.Fn.Written
 use contract.Running.{givenOf, tablesOf}

@@ -1,5 +1,5 @@
 -- Generated: the derivation of a body.
--- From 571437443e71fe5c, as ec447d1d7ed59d4b.
+-- From c9d7a47fa9b372ca, as ec447d1d7ed59d4b.
 use Prim.Native.Nat
 use Rattle.node_records.proofs.Tables.WriterRecord as WriterRecordT
 use Rattle.unique_table.proofs.Ends

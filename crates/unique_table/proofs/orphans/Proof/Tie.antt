@@ -1,5 +1,5 @@
 -- Generated: the needs of orphans at its contract, and how its theorem closes.
--- From 571437443e71fe5c, as 4d468a5ae9189ae4.
+-- From c9d7a47fa9b372ca, as 4d468a5ae9189ae4.
 use borrow.Fn.Run
 use borrow.Fn.Written
 use contract.Running.{givenOf, tablesOf}

@@ -1,5 +1,5 @@
 -- Generated: the needs of place at its contract, and how its theorem closes.
--- From 571437443e71fe5c, as 8f797277c31d5d28.
+-- From c9d7a47fa9b372ca, as 8f797277c31d5d28.
 use borrow.Fn.Run
 use borrow.Fn.Written
 use contract.Running.{givenOf, tablesOf}

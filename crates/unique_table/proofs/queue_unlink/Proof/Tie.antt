@@ -1,5 +1,5 @@
 -- Generated: the needs of queue_unlink at its contract, and how its theorem closes.
--- From 571437443e71fe5c, as c4a1995d746b2b10.
+-- From c9d7a47fa9b372ca, as c4a1995d746b2b10.
 use borrow.Fn.Run
 use borrow.Fn.Written
 use contract.Running.{givenOf, tablesOf}

@@ -1,5 +1,5 @@
 -- Generated: the needs of release at its contract, and how its theorem closes.
--- From 571437443e71fe5c, as 5443033631855b6e.
+-- From c9d7a47fa9b372ca, as 5443033631855b6e.
 use borrow.Fn.Run
 use borrow.Fn.Written
 use contract.Running.{givenOf, tablesOf}

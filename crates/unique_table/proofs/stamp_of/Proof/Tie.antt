@@ -1,5 +1,5 @@
 -- Generated: the needs of stamp_of at its contract, and how its theorem closes.
--- From 571437443e71fe5c, as 057040cdb5259293.
+-- From c9d7a47fa9b372ca, as 057040cdb5259293.
 use borrow.Fn.Run
 use borrow.Fn.Written
 use contract.Running.{givenOf, tablesOf}

@@ -1,5 +1,5 @@
 -- Generated: the derivation of a body.
--- From 571437443e71fe5c, as de1ef165ef6152b6.
+-- From c9d7a47fa9b372ca, as de1ef165ef6152b6.
 use Prim.Native.Nat
 use Rattle.node_records.proofs.Tables.WriterRecord as WriterRecordT
 use Rattle.unique_table.proofs.Ends

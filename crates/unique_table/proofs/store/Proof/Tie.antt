@@ -1,5 +1,5 @@
 -- Generated: the needs of store at its contract, and how its theorem closes.
--- From 571437443e71fe5c, as 5261106ac57dff7c.
+-- From c9d7a47fa9b372ca, as 5261106ac57dff7c.
 use borrow.Fn.Run
 use borrow.Fn.Written
 use contract.Running.{givenOf, tablesOf}

@@ -1,5 +1,5 @@
 -- Generated: the needs of count at its contract, and how its theorem closes.
--- From bf5d1afb4f82fee3, as dffc042ce5774304.
+-- From 594cf02ae263ec12, as dffc042ce5774304.
 use borrow.Fn.Run
 use borrow.Fn.Written
 use contract.Running.{givenOf, tablesOf}

@@ -1,5 +1,5 @@
 -- Generated: the derivation of a body.
--- From bf5d1afb4f82fee3, as 64d1d432ea199826.
+-- From 594cf02ae263ec12, as 64d1d432ea199826.
 use Prim.Native.Nat
 use Rattle.node_records.proofs.NodeRecord
 use Rattle.node_records.proofs.NodeRecord.Laws

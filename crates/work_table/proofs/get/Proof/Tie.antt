@@ -1,5 +1,5 @@
 -- Generated: the needs of get at its contract, and how its theorem closes.
--- From bf5d1afb4f82fee3, as 49691e5da6e5a8a7.
+-- From 594cf02ae263ec12, as 49691e5da6e5a8a7.
 use borrow.Fn.Run
 use borrow.Fn.Written
 use contract.Running.{givenOf, tablesOf}

@@ -1,5 +1,5 @@
 -- Generated: the derivation of a body.
--- From bf5d1afb4f82fee3, as 310d3bca10a6a8b4.
+-- From 594cf02ae263ec12, as 310d3bca10a6a8b4.
 use Prim.Native.Nat
 use Rattle.node_records.proofs.NodeRecord
 use Rattle.node_records.proofs.NodeRecord.Laws

@@ -1,5 +1,5 @@
 -- Generated: the needs of store at its contract, and how its theorem closes.
--- From bf5d1afb4f82fee3, as 2db118eb66745968.
+-- From 594cf02ae263ec12, as 2db118eb66745968.
 use borrow.Fn.Run
 use borrow.Fn.Written
 use contract.Running.{givenOf, tablesOf}

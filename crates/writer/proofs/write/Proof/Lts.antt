@@ -1,5 +1,5 @@
 -- Generated: the derivation of a body.
--- From f82ca65e0b1caaa7, as 9a0e212ef615e95b.
+-- From 62d382ebce643db0, as 9a0e212ef615e95b.
 use Prim.Native.Nat
 use Rattle.answers.proofs.Refusal
 use Rattle.answers.proofs.Refusal.Laws
