@@ -286,7 +286,7 @@ static uint64_t stir(uint32_t k, uint64_t v)
 static uint32_t bucket_of(uint32_t level, uint32_t first, uint32_t second, uint32_t turn)
 {
     uint64_t x = (((uint64_t)first * 2048 + second) * 64 + level) * 2 + turn;
-    return (uint32_t)(stir(UINT32_C(2246822519), stir(UINT32_C(2654435769), x)) % RULE_RECORDS);
+    return (uint32_t)((uint64_t)(uint32_t)stir(UINT32_C(2246822519), stir(UINT32_C(2654435769), x)) * RULE_RECORDS >> 32);
 }
 
 /* All nodes of the bucket at one level whose children are among the first `count` numbers; gives how many there are now. */

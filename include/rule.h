@@ -71,7 +71,7 @@ typedef struct {
 } rule_node;
 
 /* The largest table size, and the fewest records of a work table. */
-#define RULE_RECORDS 1024
+#define RULE_RECORDS 768
 
 /* ---- Why a call is refused */
 

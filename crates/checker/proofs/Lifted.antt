@@ -1,3 +1,3 @@
 -- Generated: what callers cite of the lifted functions.
--- From fcc6651f339d07b5, as 4e22d98f3ed21860.
+-- From 610ddfa2998229bb, as 4e22d98f3ed21860.
 pub mod check

@@ -20,7 +20,7 @@ use Rattle.theory_writing.specs.Calls.{write, Combine, combine}
 use Rattle.claims.specs.Terms.{First, AllUnmet, combineLines, Operated, ReadAs, Complete, NextIs, Answers, Lists, RisingWords}
 use Rattle.claims.specs.Claims.{demand-1, demand-2, Together, demand-3, request-1}
 
--- a work table of 1,024 records, which are numbers here; all held 7, and zero is 0
+-- a work table of as many records as are asked for, which are numbers here; all held 7, and zero is 0
 abbrev table : List ℕ
 table = replicate tableLimit 7
 

@@ -1,5 +1,5 @@
 -- Generated: what callers cite of the lifted functions.
--- From 598a17b34b551b01, as 67442a8c04dda8b9.
+-- From 16ce22b0ced54d7f, as 67442a8c04dda8b9.
 pub mod some_word
 pub mod least_word
 pub mod start_word

@@ -1,3 +1,3 @@
 -- Generated: what callers cite of the lifted functions.
--- From 051e1c7e546c9a6a, as c9f1e9959860edea.
+-- From d738873de74f0b52, as c9f1e9959860edea.
 pub mod call

@@ -12,7 +12,7 @@ ghost use Rattle.node_records.specs.Words.{someYes, someBelow, withWords
 
 pub const OPTION_LIMIT: u32 = 32;
 
-pub const TABLE_LIMIT: usize = 1024;
+pub const TABLE_LIMIT: usize = 768;
 
 pub const TRUTH_TABLE_LEAST: u32 = 3;
 

@@ -4,7 +4,7 @@ use mathlib.Core.Path.{_≡_, refl, sym, ap, ap₂, _∙_, subst, subst⁻¹}
 use mathlib.Core.Logic.{_≢_, _⊎_, inl, inr, ⊎-elim}
 use mathlib.Core.Bool.{Bool, true, false, not, cond, _&&_, true≢false, false≢true}
 use mathlib.Core.List.{List, [], _∷_, _++_}
-use Prim.Native.Nat.{ℕ, zero, suc, _+_, _≤_, _<_}
+use Prim.Native.Nat.{ℕ, zero, suc, _+_, _%_, _≤_, _<_}
 use native.Mathlib.Nat.{mod-lt}
 use native.Mathlib.Omega.{arith}
 use lib.Dec.{eqb, leb}
@@ -45,7 +45,9 @@ Buckets t z j = (h : ℕ) → 0 < h → h ≤ tableLimit → Bucket t z j h
 
 -- it is the place of a record
 pub bucket-range : (i a b c : ℕ) → (0 < bucketOf i a b c) × (bucketOf i a b c ≤ tableLimit)
-bucket-range i a b c = (omega arith, omega (arith, mod-lt (mixOf i a b c) some-record))
+bucket-range i a b c =
+    let x = mixOf i a b c in
+    let low : x % 4294967296 < 4294967296 = mod-lt x (omega arith) in (omega arith, omega (arith, low, some-record))
 
 -- ---- The numbers in a bucket -----------------------------------------------------------------
 

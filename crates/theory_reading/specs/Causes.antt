@@ -31,12 +31,12 @@ causeRowOf k r n l = record { number = k; rank = r; names = n; leaves = l }
 abbrev pub causeRow : Cause → CauseRow
 causeRow optionCount = causeRowOf 1 1 call keepsAll  -- n above 32; truth table n not 3 to 16
 causeRow operatorCode = causeRowOf 2 2 call keepsAll  -- operator above 15
-causeRow sizeToWrite = causeRowOf 3 3 call keepsAll  -- size to write above 1,024
-causeRow workTable = causeRowOf 4 4 call keepsAll  -- a work table under 1,024 records
+causeRow sizeToWrite = causeRowOf 3 3 call keepsAll  -- size to write above the table limit
+causeRow workTable = causeRowOf 4 4 call keepsAll  -- a work table of fewer records
 causeRow wordRange = causeRowOf 5 5 call keepsAll  -- word 2^n or more
 causeRow truthTable = causeRowOf 6 6 call keepsAll  -- truth table not 2^n / 8 bytes
 causeRow wrongByte = causeRowOf 7 7 place keepsOutput  -- byte not allowed there: that byte
-causeRow declaredSize = causeRowOf 8 8 place keepsOutput  -- declared size above 1,024: first digit
+causeRow declaredSize = causeRowOf 8 8 place keepsOutput  -- declared size above the table limit: first digit
 causeRow tooDeep = causeRowOf 9 9 place keepsOutput  -- bracket deeper than n: bracket
 causeRow notInTable = causeRowOf 10 10 place keepsOutput  -- number not in the table: first digit
 causeRow otherLevel = causeRowOf 11 11 place keepsOutput  -- number at another level: first digit

@@ -91,6 +91,26 @@ wrong-level : checks 3 "3\n(((0~0):1~0):2 1)." ≡ rejects otherLevel 17
 unfolding checkAnswer text
 wrong-level = refl
 
+-- ---- The table limit -------------------------------------------------------------------------
+
+-- document 02, R-2: "a size of 768 is taken while 769 is not"
+largest-declared : checks 0 "768\n0" ≡ accepts 768 1 cut
+unfolding checkAnswer text
+largest-declared = refl
+
+above-declared : checks 0 "769\n0" ≡ rejects declaredSize 0
+unfolding checkAnswer text
+above-declared = refl
+
+-- and a work table has that many records
+fewest-records : checkAnswer 0 (text "0\n0") 768 ≡ accepts 0 1 cut
+unfolding checkAnswer text
+fewest-records = refl
+
+fewer-records : checkAnswer 0 (text "0\n0") 767 ≡ refused (refusal workTable 0 0)
+unfolding checkAnswer text
+fewer-records = refl
+
 -- ---- Covered words ---------------------------------------------------------------------------
 
 -- the `)` of an `(A)` passes the words of its second half

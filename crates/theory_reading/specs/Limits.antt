@@ -9,9 +9,10 @@ optionLimit = 32
 abbrev pub openLimit : ℕ
 openLimit = 32
 
--- "declared size above 1,024", "size to write above 1,024", "a work table under 1,024 records"
+-- "declared size above", "size to write above", "a work table under" so many "records"; document 02, R-2: "The largest size declared by any rule in our
+-- modules is 768. That becomes the limit: causes 3, 4 and 8 now say 768"
 abbrev pub tableLimit : ℕ
-tableLimit = 1024
+tableLimit = 768
 
 -- "Truth tables: n from 3 to 16"
 abbrev pub truthTableLeast : ℕ
@@ -26,7 +27,7 @@ truthTableMost = 16
 abbrev pub levelLimit : ℕ
 levelLimit = optionLimit + 1
 
--- the digits of a number that a table may have
+-- no number of a table has more digits
 abbrev pub digitLimit : ℕ
 digitLimit = 4
 

@@ -92,7 +92,7 @@ isContext k m = eqb (contextNumber m) (contextNumber k)
 abbrev pub isStart : Context → Bool
 isStart m = isContext start m
 
--- "declared size above 1,024". d: the first digit's place
+-- "declared size above" the table limit. d: the first digit's place
 abbrev pub sized : State → Place → ℕ → ℕ → Reading
 sized s q d v = cond (ltb tableLimit v) (fails s declaredSize d) (goes (state q v (s .covered) (s .complement) (replicate (suc v) noNode) (s .pair)))
 

@@ -7,11 +7,11 @@ use Prim.Native.Nat.{ℕ, zero, suc, _+_, _/_, _%_, _^_}
 use lib.Dec.{leb, eqb}
 use Rattle.theory_reading.specs.Limits.{tableLimit}
 use Rattle.theory_reading.specs.Bytes.{text}
-use Rattle.theory_reading.specs.Causes.{operatorCode, notInTable, refused, refusal}
+use Rattle.theory_reading.specs.Causes.{operatorCode, sizeToWrite, notInTable, refused, done, refusal}
 use Rattle.theory_writing.specs.UniqueTable.{start}
 use Rattle.theory_writing.specs.Rules.{Text, number, one, two, part}
 use Rattle.theory_writing.specs.Run.{digitAt, operate, Input, runText, runOf, outputAfter, whole, inputEnded, outputFull, answerOf}
-use Rattle.theory_writing.specs.Calls.{combineAnswer}
+use Rattle.theory_writing.specs.Calls.{writeAnswer, combineAnswer}
 
 -- binary digit w of x: the decision at word w
 abbrev byNumber : ℕ → ℕ → Bool
@@ -91,10 +91,29 @@ three-decisions = refl
 
 -- ---- Turned down -----------------------------------------------------------------------------
 
--- an operator above 15 comes before a size above 1,024, and both before the work tables
+-- an operator above 15 comes before a size above the table limit, and both before the work tables
 operator-first : combineAnswer 3 16 (tableLimit + 1) ([] ∷ [] ∷ []) [] (0 ∷ 0 ∷ 0 ∷ []) ≡ refused (refusal operatorCode 0 0)
 unfolding combineAnswer
 operator-first = refl
+
+-- document 02, R-2: "a size of 768 is taken while 769 is not", from a truth table and from streams
+largest-written : writeAnswer 3 768 (255 ∷ []) (text ".......") 768 ≡ done (record { written = 7; covered = 8; ending = whole })
+unfolding writeAnswer text
+largest-written = refl
+
+above-written : writeAnswer 3 769 (255 ∷ []) (text ".......") 768 ≡ refused (refusal sizeToWrite 0 0)
+unfolding writeAnswer text
+above-written = refl
+
+largest-combined : combineAnswer 0 14 768 (text "0\n0." ∷ text "0\n~0." ∷ []) (text ".......") (768 ∷ 768 ∷ 768 ∷ [])
+    ≡ done (record { written = 7; covered = 1; ending = whole })
+unfolding combineAnswer text
+largest-combined = refl
+
+above-combined : combineAnswer 0 14 769 (text "0\n0." ∷ text "0\n~0." ∷ []) (text ".......") (768 ∷ 768 ∷ 768 ∷ [])
+    ≡ refused (refusal sizeToWrite 0 0)
+unfolding combineAnswer text
+above-combined = refl
 
 -- number 1 is not in the table of stream 2
 second-stream : combineAnswer 3 14 4 (text "4\n(0(0~0):1):2." ∷ text "4\n(1)." ∷ []) [] (tableLimit ∷ tableLimit ∷ tableLimit ∷ [])

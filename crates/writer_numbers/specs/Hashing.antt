@@ -27,6 +27,7 @@ stir k v =
 abbrev pub mixOf : ℕ → ℕ → ℕ → ℕ → ℕ
 mixOf i a b c = stir 2246822519 (stir 2654435769 (((a * numberSpan + b) * levelSpan + i) * 2 + c))
 
--- its bucket: 1 .. tableLimit
+-- its bucket, 1 .. tableLimit: the lower 32 bits of the mix as a share of 2^32. (The rest by the limit would leave a third of the buckets empty where
+-- 3 divides it, since it divides 2^32 - 1.)
 abbrev pub bucketOf : ℕ → ℕ → ℕ → ℕ → ℕ
-bucketOf i a b c = mixOf i a b c % tableLimit + 1
+bucketOf i a b c = mixOf i a b c % 4294967296 * tableLimit / 4294967296 + 1

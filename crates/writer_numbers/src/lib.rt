@@ -64,5 +64,6 @@ pub fn bucket(i: u32, a: u32, b: u32, c: u32) -> u32
     ensures { λ r. ⌜ r ≡ bucketOf i a b c ⌝ }
 {
     let x = ((a as u64 * NUMBER_SPAN + b as u64) * LEVEL_SPAN + i as u64) * 2 + c as u64;
-    (stir(2246822519, stir(2654435769, x)) % BUCKETS + 1) as u32
+    let y = stir(2246822519, stir(2654435769, x)) % 4294967296;
+    (y * BUCKETS / 4294967296 + 1) as u32
 }

@@ -26,7 +26,8 @@ pub struct Node {
 /// The bucket of a node, from 1 on: the library's `bucketOf`.
 pub fn bucket(node: Node) -> usize {
     let x = ((node.first * 2048 + node.second) * 64 + node.level) * 2 + node.turn;
-    (stir(2_246_822_519, stir(2_654_435_769, x)) % MOST_SIZE + 1) as usize
+    let y = stir(2_246_822_519, stir(2_654_435_769, x)) % (1 << 32);
+    (y * MOST_SIZE / (1 << 32) + 1) as usize
 }
 
 /// One round of mixing: the library's `stir`.

@@ -384,9 +384,23 @@ fn limit_cases() -> Vec<Case> {
     ] {
         cases.push(check(1, shown(&text)));
     }
+    // Declared, by every call that reads, and to be written, by every call that writes.
     for size in [most - 1, most, above, 65536] {
+        let stream = shown(&format!("{size}/(0~0):{size}."));
+        let (none, some) = (shown("0/0."), shown("0/(0~0)."));
+        cases.push(check(1, stream.clone()));
+        cases.push(decide(1, stream.clone(), 1));
+        cases.push(next(1, stream.clone(), 0));
+        cases.push(fill(3, stream.clone()));
+        cases.push(combine(1, 6, 2, stream.clone(), none.clone(), 20));
+        cases.push(combine(1, 6, 2, none.clone(), stream.clone(), 20));
+        cases.push(Case::Reader { stream });
         cases.push(write(3, size, vec![0x96], 30));
-        cases.push(combine(1, 6, size, shown("0/0."), shown("0/(0~0)."), 20));
+        cases.push(combine(1, 6, size, none, some, 20));
+        for (written, declared) in [(size, 0), (2, size)] {
+            let input = shown(&format!("1 XOR {written}/{declared}/(0~0)./0/0./"));
+            cases.push(Case::Join { input });
+        }
     }
     cases
 }

@@ -6,10 +6,10 @@ pub const MOST_OPTIONS: u64 = 32;
 /// "At most 32 nodes are open at one time" (The stream).
 pub const MOST_OPEN: usize = 32;
 
-/// "declared size above 1,024", "size to write above 1,024" (Turned down, causes 8 and 3).
-pub const MOST_SIZE: u64 = 1024;
+/// "causes 3, 4 and 8 now say 768", "a size of 768 is taken while 769 is not" (document 02, R-2).
+pub const MOST_SIZE: u64 = 768;
 
-/// "a work table under 1,024 records" (Turned down, cause 4): as many as the largest size.
+/// "a work table under" so many "records" (Turned down, cause 4): as many as the largest size.
 pub const LEAST_RECORDS: usize = MOST_SIZE as usize;
 
 /// "Truth tables: n from 3 to 16" (The written stream).

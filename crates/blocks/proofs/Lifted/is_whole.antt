@@ -1,5 +1,5 @@
 -- Generated: what callers cite of is_whole.
--- From 491056250f96b6c5, as e051fe97bc5c6c08.
+-- From 2485c40c970bb072, as e051fe97bc5c6c08.
 use Rattle.node_records.proofs.Tables.NodeRecord as NodeRecordT
 use Rattle.reader.proofs.Reached
 use Rattle.reader.proofs.Reached.Laws

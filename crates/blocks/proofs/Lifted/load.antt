@@ -1,5 +1,5 @@
 -- Generated: what callers cite of load.
--- From 491056250f96b6c5, as e8563fc83e51ef9c.
+-- From 2485c40c970bb072, as e8563fc83e51ef9c.
 use Rattle.blocks.proofs.Loaded
 use Rattle.blocks.proofs.Loaded.Laws
 use Rattle.node_records.proofs.Tables.NodeRecord as NodeRecordT

@@ -1,5 +1,5 @@
 -- Generated: what callers cite of next_block.
--- From 491056250f96b6c5, as 15b7e094f4d25a97.
+-- From 2485c40c970bb072, as 15b7e094f4d25a97.
 use Rattle.blocks.proofs.Block
 use Rattle.blocks.proofs.Block.Laws
 use Rattle.cursors.proofs.Cursor

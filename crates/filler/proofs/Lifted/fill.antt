@@ -1,5 +1,5 @@
 -- Generated: what callers cite of fill.
--- From 401ee1cff0cc8269, as 458e432d93536545.
+-- From dbeff140315b0513, as 458e432d93536545.
 use Rattle.answers.proofs.Filling
 use Rattle.answers.proofs.Filling.Laws
 use Rattle.node_records.proofs.Tables.NodeRecord as NodeRecordT

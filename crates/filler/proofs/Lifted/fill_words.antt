@@ -1,5 +1,5 @@
 -- Generated: what callers cite of fill_words.
--- From 401ee1cff0cc8269, as 30d434372ffe0b6d.
+-- From dbeff140315b0513, as 30d434372ffe0b6d.
 use Rattle.node_records.proofs.Tables.NodeRecord as NodeRecordT
 use borrow.Fn.Kinds
 use borrow.Kind.MutSlice

@@ -1,5 +1,5 @@
 -- Generated: what callers cite of find_next.
--- From 598a17b34b551b01, as ff3f99126e741792.
+-- From 16ce22b0ced54d7f, as ff3f99126e741792.
 use Rattle.answers.proofs.Finding
 use Rattle.answers.proofs.Finding.Laws
 use Rattle.node_records.proofs.Tables.NodeRecord as NodeRecordT

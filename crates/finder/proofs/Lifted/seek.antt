@@ -1,5 +1,5 @@
 -- Generated: what callers cite of seek.
--- From 598a17b34b551b01, as 7c215e0e11f68a85.
+-- From 16ce22b0ced54d7f, as 7c215e0e11f68a85.
 use Rattle.finder.proofs.Sought
 use Rattle.finder.proofs.Sought.Laws
 use Rattle.node_records.proofs.Tables.NodeRecord as NodeRecordT

@@ -1,5 +1,5 @@
 -- Generated: what callers cite of word_at.
--- From 598a17b34b551b01, as 11024fa66d61c08b.
+-- From 16ce22b0ced54d7f, as 11024fa66d61c08b.
 use Rattle.node_records.proofs.Tables.NodeRecord as NodeRecordT
 use Rattle.reader.proofs.Reached
 use Rattle.reader.proofs.Reached.Laws

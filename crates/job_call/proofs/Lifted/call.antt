@@ -1,5 +1,5 @@
 -- Generated: what callers cite of call.
--- From 051e1c7e546c9a6a, as 7d86284afbef109e.
+-- From d738873de74f0b52, as 7d86284afbef109e.
 use Rattle.meeting.proofs.Writing
 use Rattle.meeting.proofs.Writing.Laws
 use borrow.Fn.Kinds

@@ -1,4 +1,4 @@
--- Two rounds, and the rest by the table's size.
+-- Two rounds, and a share of the table's size.
 -- Assumes nothing.
 use borrow.Author.Needs.{needs}
 use Rattle.writer_numbers.proofs.bucket.Statement.{statement}
@@ -29,6 +29,9 @@ stir-requires c κs = search needs
 stir-requires-2 : tie.Need-stir-requires-2
 stir-requires-2 c κs = search needs
 
+mul-result : tie.Need-mul-result
+mul-result c = search needs
+
 add-result : tie.Need-add-result
 add-result c = search needs
 
@@ -50,6 +53,7 @@ bucket-spec =
     add-x-3
     stir-requires
     stir-requires-2
+    mul-result
     add-result
     cast-result
     returns)

@@ -1,5 +1,5 @@
 -- Generated: the derivation of a body.
--- From 491056250f96b6c5, as 10cca661c0a816af.
+-- From 2485c40c970bb072, as 13c596238782b6bf.
 use Prim.Native.Nat
 use Rattle.answers.proofs.Checked
 use Rattle.answers.proofs.Checked.Laws
@@ -353,7 +353,7 @@ b7 = Syntax.cond (Syntax.copy (Syntax.place 8 [])) b5 b6
 abbrev b8 : Syntax.Body
 b8 = Syntax.assign (Syntax.place 10 []) (Syntax.rvOpd (Syntax.copy (Syntax.place 3 ((Syntax.field 1) ∷ []))))
 abbrev b9 : Syntax.Body
-b9 = Syntax.assign (Syntax.place 8 []) (Syntax.op2 (Syntax.lt Syntax.unsigned) (Syntax.copy (Syntax.place 10 [])) (Syntax.intBig Syntax.w64 1024))
+b9 = Syntax.assign (Syntax.place 8 []) (Syntax.op2 (Syntax.lt Syntax.unsigned) (Syntax.copy (Syntax.place 10 [])) (Syntax.int Syntax.w64 768))
 abbrev b10 : Syntax.Body
 b10 = Syntax.assign (Syntax.place 11 []) (Syntax.aggregate ((Syntax.int Syntax.w8 3) ∷ []))
 abbrev b11 : Syntax.Body
@@ -550,7 +550,7 @@ module _ (claims· : Claims) where
   abbrev s8 : Typed.Mo (cx t0 t1) → Typed.Mo (cx t7 t1)
   s8 = Scalar.n-use (cx t0 t1) (Scalar.oFld 3 ((Syntax.field 1) ∷ []) y5 8 Shared.lenV) 10 (Rows'.sc-here (Row.sInt Syntax.w64)) (Row.sInt Syntax.w64 .of)
   abbrev s9 : Typed.Asks (cx t7 t1) (cx t8 t1)
-  s9 = Scalar.k-op2 (cx t7 t1) (Syntax.lt Syntax.unsigned) (Scalar.oAt 10 y5 (Row.valS (Row.sInt Syntax.w64))) (Scalar.oBig Syntax.w64 1024) 8 (Rows'.sc-here
+  s9 = Scalar.k-op2 (cx t7 t1) (Syntax.lt Syntax.unsigned) (Scalar.oAt 10 y5 (Row.valS (Row.sInt Syntax.w64))) (Scalar.oInt Syntax.w64 768) 8 (Rows'.sc-here
       Row.sBool) (Row.sBool .of)
   abbrev s10 : Typed.Mo (cx t8 t1) → Typed.Mo (cx t3 t1)
   s10 = Scalar.n-room (cx t8 t1) 10 y5
@@ -1121,9 +1121,9 @@ module _ (claims· : Claims) where
           d63 = Typed.t-seq 𝓤 H A W 𝓣 E (gx t8 t1 l0) (gx t0 t1 l0) b16 b45 Δ0 at18 at62 d18 d62
           d64 : Typed.Typed 𝓤 H A 𝓣 E (gx t7 t1 l0) b47 Δ0 at64
           d64 = Typed.s-seq 𝓤 H A W 𝓣 E (gx t7 t1 l0) (gx t8 t1 l0) b9 b46 Δ0 (Typed.ask s9) at63 (Scalar.t-op2 𝓤 H A W E 𝓣 (gx t7 t1 l0) (Syntax.lt
-              Syntax.unsigned) (Scalar.oAt 10 y5 (Row.valS (Row.sInt Syntax.w64))) (Scalar.oBig Syntax.w64 1024) 8 (Rows'.sc-here Row.sBool) Syntax.tyBool
-              (Row.valS Row.sBool) (Row.sBool .of) (Scalar.reads-sc 𝓤 H A W (Row.sInt Syntax.w64), Path'.refl) record { lower = record { fits = Dec'.lit< tt }
-              } (Reads'.room-gone 𝓤 H A Syntax.tyBool) (Scalar.holds-sc 𝓤 H A W Row.sBool) Path'.refl (λ u. Path'.refl) λ u. tt) d63
+              Syntax.unsigned) (Scalar.oAt 10 y5 (Row.valS (Row.sInt Syntax.w64))) (Scalar.oInt Syntax.w64 768) 8 (Rows'.sc-here Row.sBool) Syntax.tyBool
+              (Row.valS Row.sBool) (Row.sBool .of) (Scalar.reads-sc 𝓤 H A W (Row.sInt Syntax.w64), Path'.refl) tt (Reads'.room-gone 𝓤 H A Syntax.tyBool)
+              (Scalar.holds-sc 𝓤 H A W Row.sBool) Path'.refl (λ u. Path'.refl) λ u. tt) d63
           d65 : Typed.Typed 𝓤 H A 𝓣 E (gx t0 t1 l0) b48 Δ0 at65
           d65 = Typed.s-seq 𝓤 H A W 𝓣 E (gx t0 t1 l0) (gx t7 t1 l0) b8 b47 Δ0 (Typed.pass (cx t0 t1) (cx t7 t1) s8) at64 (Scalar.t-use 𝓤 H A W E 𝓣 (gx t0 t1
               l0) (Scalar.oFld 3 ((Syntax.field 1) ∷ []) y5 8 Shared.lenV) 10 (Rows'.sc-here (Row.sInt Syntax.w64)) y5 (Row.valS (Row.sInt Syntax.w64))
@@ -1225,7 +1225,7 @@ module _ (claims· : Claims) where
       m11 = λ before. s10 (m10 before)
       module _ (before· : Else1) where
         pub record Then2·own : Type 0 where
-          pub taken : Nat._<_ (Row.get 10 ((cx t7 t1) .locals) (m9 (before· .before))) 1024
+          pub taken : Nat._<_ (Row.get 10 ((cx t7 t1) .locals) (m9 (before· .before))) 768
       pub record Then2 : Type 0 where
         pub before : Else1
         pub if2 : Then2·own before
@@ -1258,7 +1258,7 @@ module _ (claims· : Claims) where
           .before .before .before .args)) (m16 (c .before) (After-not-loaded2·gave c) .1)))
       module _ (before· : Else1) where
         pub record Else2·own : Type 0 where
-          pub left : Nat._≤_ 1024 (Row.get 10 ((cx t7 t1) .locals) (m9 (before· .before)))
+          pub left : Nat._≤_ 768 (Row.get 10 ((cx t7 t1) .locals) (m9 (before· .before)))
       pub record Else2 : Type 0 where
         pub before : Else1
         pub if2 : Else2·own before
@@ -1481,8 +1481,8 @@ module _ (claims· : Claims) where
             }; not-loaded2 = Called.called ps·0 r·0 (claims· .1) (cx t9 t1) (record { pos = 11; st = []; d = 0; at = λ x. x }, tt) (m13 (c .before)) g })
         lay4 : (c : Else1) → at65 (W0 (c .before .before .κs) (c .before .before .args)) (m8 (c .before))
         lay4 = λ c. (tt, (λ taken. lay5 record { before = record { before = c .before; if1 = c .if1 }; if2 = record { taken = Tests.ltb-true (Row.get 10 ((cx
-            t7 t1) .locals) (m9 (c .before))) 1024 taken } }, λ left. lay7 record { before = record { before = c .before; if1 = c .if1 }; if2 = record { left
-            = Tests.ltb-false (Row.get 10 ((cx t7 t1) .locals) (m9 (c .before))) 1024 left } }))
+            t7 t1) .locals) (m9 (c .before))) 768 taken } }, λ left. lay7 record { before = record { before = c .before; if1 = c .if1 }; if2 = record { left =
+            Tests.ltb-false (Row.get 10 ((cx t7 t1) .locals) (m9 (c .before))) 768 left } }))
         lay3 : (c : Else1) → at7 (W1 (c .before .before) (c .before .shared-slice-known .given)) (m2 (c .before .before) (c .before .shared-slice-known
             .given))
         lay3 = λ c. lay4 record { before = c .before; if1 = c .if1 }

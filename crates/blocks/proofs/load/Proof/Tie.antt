@@ -1,5 +1,5 @@
 -- Generated: the needs of load at its contract, and how its theorem closes.
--- From 491056250f96b6c5, as 25cf3c4c1ba3d94e.
+-- From 2485c40c970bb072, as 25cf3c4c1ba3d94e.
 use borrow.Fn.Run
 use borrow.Fn.Written
 use contract.Running.{givenOf, tablesOf}

@@ -1,5 +1,5 @@
 -- Generated: the needs of next_block at its contract, and how its theorem closes.
--- From 491056250f96b6c5, as 0ac61af526c668b2.
+-- From 2485c40c970bb072, as 0ac61af526c668b2.
 use borrow.Fn.Run
 use borrow.Fn.Written
 use contract.Running.{givenOf, tablesOf}

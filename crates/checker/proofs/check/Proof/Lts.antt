@@ -1,5 +1,5 @@
 -- Generated: the derivation of a body.
--- From fcc6651f339d07b5, as 7ab05678197c927f.
+-- From 610ddfa2998229bb, as 0ed1d4d22547af1d.
 use Prim.Native.Nat
 use Rattle.answers.proofs.Checking
 use Rattle.answers.proofs.Checking.Laws
@@ -309,7 +309,7 @@ b9 = Syntax.cond (Syntax.copy (Syntax.place 7 [])) b7 b8
 abbrev b10 : Syntax.Body
 b10 = Syntax.assign (Syntax.place 10 []) (Syntax.rvOpd (Syntax.copy (Syntax.place 3 ((Syntax.field 1) ∷ []))))
 abbrev b11 : Syntax.Body
-b11 = Syntax.assign (Syntax.place 7 []) (Syntax.op2 (Syntax.lt Syntax.unsigned) (Syntax.copy (Syntax.place 10 [])) (Syntax.intBig Syntax.w64 1024))
+b11 = Syntax.assign (Syntax.place 7 []) (Syntax.op2 (Syntax.lt Syntax.unsigned) (Syntax.copy (Syntax.place 10 [])) (Syntax.int Syntax.w64 768))
 abbrev b12 : Syntax.Body
 b12 = Syntax.assign (Syntax.place 12 []) (Syntax.aggregate ((Syntax.int Syntax.w8 3) ∷ []))
 abbrev b13 : Syntax.Body
@@ -505,7 +505,7 @@ module _ (claims· : Claims) where
   abbrev s10 : Typed.Mo (cx t0 t1) → Typed.Mo (cx t9 t1)
   s10 = Scalar.n-use (cx t0 t1) (Scalar.oFld 3 ((Syntax.field 1) ∷ []) y5 8 Shared.lenV) 10 (Rows'.sc-here (Row.sInt Syntax.w64)) (Row.sInt Syntax.w64 .of)
   abbrev s11 : Typed.Asks (cx t9 t1) (cx t10 t1)
-  s11 = Scalar.k-op2 (cx t9 t1) (Syntax.lt Syntax.unsigned) (Scalar.oAt 10 y5 (Row.valS (Row.sInt Syntax.w64))) (Scalar.oBig Syntax.w64 1024) 7 (Rows'.sc-here
+  s11 = Scalar.k-op2 (cx t9 t1) (Syntax.lt Syntax.unsigned) (Scalar.oAt 10 y5 (Row.valS (Row.sInt Syntax.w64))) (Scalar.oInt Syntax.w64 768) 7 (Rows'.sc-here
       Row.sBool) (Row.sBool .of)
   abbrev s12 : Typed.Mo (cx t10 t1) → Typed.Mo (cx t3 t1)
   s12 = Scalar.n-room (cx t10 t1) 10 y5
@@ -1018,9 +1018,9 @@ module _ (claims· : Claims) where
           d57 = Typed.t-seq 𝓤 H A W 𝓣 E (gx t10 t1 l0) (gx t0 t1 l0) b20 b45 Δ0 at22 at56 d22 d56
           d58 : Typed.Typed 𝓤 H A 𝓣 E (gx t9 t1 l0) b47 Δ0 at58
           d58 = Typed.s-seq 𝓤 H A W 𝓣 E (gx t9 t1 l0) (gx t10 t1 l0) b11 b46 Δ0 (Typed.ask s11) at57 (Scalar.t-op2 𝓤 H A W E 𝓣 (gx t9 t1 l0) (Syntax.lt
-              Syntax.unsigned) (Scalar.oAt 10 y5 (Row.valS (Row.sInt Syntax.w64))) (Scalar.oBig Syntax.w64 1024) 7 (Rows'.sc-here Row.sBool) Syntax.tyBool
-              (Row.valS Row.sBool) (Row.sBool .of) (Scalar.reads-sc 𝓤 H A W (Row.sInt Syntax.w64), Path'.refl) record { lower = record { fits = Dec'.lit< tt }
-              } (Reads'.room-gone 𝓤 H A Syntax.tyBool) (Scalar.holds-sc 𝓤 H A W Row.sBool) Path'.refl (λ u. Path'.refl) λ u. tt) d57
+              Syntax.unsigned) (Scalar.oAt 10 y5 (Row.valS (Row.sInt Syntax.w64))) (Scalar.oInt Syntax.w64 768) 7 (Rows'.sc-here Row.sBool) Syntax.tyBool
+              (Row.valS Row.sBool) (Row.sBool .of) (Scalar.reads-sc 𝓤 H A W (Row.sInt Syntax.w64), Path'.refl) tt (Reads'.room-gone 𝓤 H A Syntax.tyBool)
+              (Scalar.holds-sc 𝓤 H A W Row.sBool) Path'.refl (λ u. Path'.refl) λ u. tt) d57
           d59 : Typed.Typed 𝓤 H A 𝓣 E (gx t0 t1 l0) b48 Δ0 at59
           d59 = Typed.s-seq 𝓤 H A W 𝓣 E (gx t0 t1 l0) (gx t9 t1 l0) b10 b47 Δ0 (Typed.pass (cx t0 t1) (cx t9 t1) s10) at58 (Scalar.t-use 𝓤 H A W E 𝓣 (gx t0 t1
               l0) (Scalar.oFld 3 ((Syntax.field 1) ∷ []) y5 8 Shared.lenV) 10 (Rows'.sc-here (Row.sInt Syntax.w64)) y5 (Row.valS (Row.sInt Syntax.w64))
@@ -1126,7 +1126,7 @@ module _ (claims· : Claims) where
       m13 = λ before. s12 (m12 before)
       module _ (before· : Else1) where
         pub record Then2·own : Type 0 where
-          pub taken : Nat._<_ (Row.get 10 ((cx t9 t1) .locals) (m11 (before· .before))) 1024
+          pub taken : Nat._<_ (Row.get 10 ((cx t9 t1) .locals) (m11 (before· .before))) 768
       pub record Then2 : Type 0 where
         pub before : Else1
         pub if2 : Then2·own before
@@ -1163,7 +1163,7 @@ module _ (claims· : Claims) where
           .before .args)) (m20 (c .before) (After-early2·gave c) .1)))
       module _ (before· : Else1) where
         pub record Else2·own : Type 0 where
-          pub left : Nat._≤_ 1024 (Row.get 10 ((cx t9 t1) .locals) (m11 (before· .before)))
+          pub left : Nat._≤_ 768 (Row.get 10 ((cx t9 t1) .locals) (m11 (before· .before)))
       pub record Else2 : Type 0 where
         pub before : Else1
         pub if2 : Else2·own before
@@ -1355,8 +1355,8 @@ module _ (claims· : Claims) where
             early2 = Called.called ps·0 r·0 (claims· .1) (cx t11 t1) (record { pos = 12; st = []; d = 0; at = λ x. x }, tt) (m15 (c .before)) g })
         lay4 : (c : Else1) → at59 (W0 (c .before .before .κs) (c .before .before .args)) (m10 (c .before))
         lay4 = λ c. (tt, (λ taken. lay5 record { before = record { before = c .before; if1 = c .if1 }; if2 = record { taken = Tests.ltb-true (Row.get 10 ((cx
-            t9 t1) .locals) (m11 (c .before))) 1024 taken } }, λ left. lay7 record { before = record { before = c .before; if1 = c .if1 }; if2 = record { left
-            = Tests.ltb-false (Row.get 10 ((cx t9 t1) .locals) (m11 (c .before))) 1024 left } }))
+            t9 t1) .locals) (m11 (c .before))) 768 taken } }, λ left. lay7 record { before = record { before = c .before; if1 = c .if1 }; if2 = record { left
+            = Tests.ltb-false (Row.get 10 ((cx t9 t1) .locals) (m11 (c .before))) 768 left } }))
         lay3 : (c : Else1) → at9 (W1 (c .before .before) (c .before .shared-slice-known .given)) (m2 (c .before .before) (c .before .shared-slice-known
             .given))
         lay3 = λ c. lay4 record { before = c .before; if1 = c .if1 }

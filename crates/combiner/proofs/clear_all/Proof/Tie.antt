@@ -1,5 +1,5 @@
 -- Generated: the needs of clear_all at its contract, and how its theorem closes.
--- From b4d82ceba9e3735e, as 1fcb7f39b74a879b.
+-- From d3160673ce475718, as 1fcb7f39b74a879b.
 use borrow.Fn.Run
 use borrow.Fn.Written
 use contract.Running.{givenOf, tablesOf}

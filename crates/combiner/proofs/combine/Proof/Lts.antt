@@ -1,5 +1,5 @@
 -- Generated: the derivation of a body.
--- From b4d82ceba9e3735e, as f545d0fdfbcaaef5.
+-- From d3160673ce475718, as 8ad63cc26ccc3c4c.
 use Prim.Native.Nat
 use Rattle.answers.proofs.Refusal
 use Rattle.answers.proofs.Refusal.Laws
@@ -680,7 +680,7 @@ b19 = Syntax.cond (Syntax.copy (Syntax.place 23 [])) b17 b18
 abbrev b20 : Syntax.Body
 b20 = Syntax.assign (Syntax.place 28 []) (Syntax.op1 (Syntax.cast Syntax.unsigned Syntax.unsigned Syntax.w64) (Syntax.copy (Syntax.place 3 [])))
 abbrev b21 : Syntax.Body
-b21 = Syntax.assign (Syntax.place 23 []) (Syntax.op2 (Syntax.lt Syntax.unsigned) (Syntax.intBig Syntax.w64 1024) (Syntax.copy (Syntax.place 28 [])))
+b21 = Syntax.assign (Syntax.place 23 []) (Syntax.op2 (Syntax.lt Syntax.unsigned) (Syntax.int Syntax.w64 768) (Syntax.copy (Syntax.place 28 [])))
 abbrev b22 : Syntax.Body
 b22 = Syntax.assign (Syntax.place 30 []) (Syntax.aggregate ((Syntax.int Syntax.w8 2) ∷ []))
 abbrev b23 : Syntax.Body
@@ -702,7 +702,7 @@ b30 = Syntax.cond (Syntax.copy (Syntax.place 23 [])) b28 b29
 abbrev b31 : Syntax.Body
 b31 = Syntax.assign (Syntax.place 28 []) (Syntax.rvOpd (Syntax.copy (Syntax.place 7 ((Syntax.field 1) ∷ []))))
 abbrev b32 : Syntax.Body
-b32 = Syntax.assign (Syntax.place 23 []) (Syntax.op2 (Syntax.lt Syntax.unsigned) (Syntax.copy (Syntax.place 28 [])) (Syntax.intBig Syntax.w64 1024))
+b32 = Syntax.assign (Syntax.place 23 []) (Syntax.op2 (Syntax.lt Syntax.unsigned) (Syntax.copy (Syntax.place 28 [])) (Syntax.int Syntax.w64 768))
 abbrev b33 : Syntax.Body
 b33 = Syntax.assign (Syntax.place 32 []) (Syntax.aggregate ((Syntax.int Syntax.w8 3) ∷ []))
 abbrev b34 : Syntax.Body
@@ -724,7 +724,7 @@ b41 = Syntax.cond (Syntax.copy (Syntax.place 23 [])) b39 b40
 abbrev b42 : Syntax.Body
 b42 = Syntax.assign (Syntax.place 28 []) (Syntax.rvOpd (Syntax.copy (Syntax.place 8 ((Syntax.field 1) ∷ []))))
 abbrev b43 : Syntax.Body
-b43 = Syntax.assign (Syntax.place 23 []) (Syntax.op2 (Syntax.lt Syntax.unsigned) (Syntax.copy (Syntax.place 28 [])) (Syntax.intBig Syntax.w64 1024))
+b43 = Syntax.assign (Syntax.place 23 []) (Syntax.op2 (Syntax.lt Syntax.unsigned) (Syntax.copy (Syntax.place 28 [])) (Syntax.int Syntax.w64 768))
 abbrev b44 : Syntax.Body
 b44 = Syntax.assign (Syntax.place 34 []) (Syntax.aggregate ((Syntax.int Syntax.w8 3) ∷ []))
 abbrev b45 : Syntax.Body
@@ -746,7 +746,7 @@ b52 = Syntax.cond (Syntax.copy (Syntax.place 23 [])) b50 b51
 abbrev b53 : Syntax.Body
 b53 = Syntax.assign (Syntax.place 28 []) (Syntax.rvOpd (Syntax.copy (Syntax.place 9 ((Syntax.field 1) ∷ []))))
 abbrev b54 : Syntax.Body
-b54 = Syntax.assign (Syntax.place 23 []) (Syntax.op2 (Syntax.lt Syntax.unsigned) (Syntax.copy (Syntax.place 28 [])) (Syntax.intBig Syntax.w64 1024))
+b54 = Syntax.assign (Syntax.place 23 []) (Syntax.op2 (Syntax.lt Syntax.unsigned) (Syntax.copy (Syntax.place 28 [])) (Syntax.int Syntax.w64 768))
 abbrev b55 : Syntax.Body
 b55 = Syntax.assign (Syntax.place 36 []) (Syntax.aggregate ((Syntax.int Syntax.w8 3) ∷ []))
 abbrev b56 : Syntax.Body
@@ -1958,7 +1958,7 @@ module _ (claims· : Claims) where
   s25 = λ bs. Scalar.k-op1 T18 (Syntax.cast Syntax.unsigned Syntax.unsigned Syntax.w64) (Scalar.oAt 3 y1 (Row.valS (Row.sInt Syntax.w32))) 28 (Rows'.sc-here
       (Row.sInt Syntax.w64)) (Row.sInt Syntax.w64 .of)
   abbrev s26 : (bs : List Nat.ℕ) → Typed.Asks T29 T30
-  s26 = λ bs. Scalar.k-op2 T29 (Syntax.lt Syntax.unsigned) (Scalar.oBig Syntax.w64 1024) (Scalar.oAt 28 y2 (Row.valS (Row.sInt Syntax.w64))) 23 (Rows'.sc-here
+  s26 = λ bs. Scalar.k-op2 T29 (Syntax.lt Syntax.unsigned) (Scalar.oInt Syntax.w64 768) (Scalar.oAt 28 y2 (Row.valS (Row.sInt Syntax.w64))) 23 (Rows'.sc-here
       Row.sBool) (Row.sBool .of)
   abbrev s27 : (bs : List Nat.ℕ) → Typed.Mo T30 → Typed.Mo T32
   s27 = λ bs. Scalar.n-room T30 28 y2
@@ -1986,7 +1986,7 @@ module _ (claims· : Claims) where
   abbrev s38 : (bs : List Nat.ℕ) → Typed.Mo T31 → Typed.Mo T43
   s38 = λ bs. Scalar.n-use T31 (Scalar.oFld 7 ((Syntax.field 1) ∷ []) y2 8 Shared.lenV) 28 (Rows'.sc-here (Row.sInt Syntax.w64)) (Row.sInt Syntax.w64 .of)
   abbrev s39 : (bs : List Nat.ℕ) → Typed.Asks T43 T44
-  s39 = λ bs. Scalar.k-op2 T43 (Syntax.lt Syntax.unsigned) (Scalar.oAt 28 y2 (Row.valS (Row.sInt Syntax.w64))) (Scalar.oBig Syntax.w64 1024) 23 (Rows'.sc-here
+  s39 = λ bs. Scalar.k-op2 T43 (Syntax.lt Syntax.unsigned) (Scalar.oAt 28 y2 (Row.valS (Row.sInt Syntax.w64))) (Scalar.oInt Syntax.w64 768) 23 (Rows'.sc-here
       Row.sBool) (Row.sBool .of)
   abbrev s40 : (bs : List Nat.ℕ) → Typed.Mo T44 → Typed.Mo T46
   s40 = λ bs. Scalar.n-room T44 28 y2
@@ -2014,7 +2014,7 @@ module _ (claims· : Claims) where
   abbrev s51 : (bs : List Nat.ℕ) → Typed.Mo T45 → Typed.Mo T57
   s51 = λ bs. Scalar.n-use T45 (Scalar.oFld 8 ((Syntax.field 1) ∷ []) y2 8 Shared.lenV) 28 (Rows'.sc-here (Row.sInt Syntax.w64)) (Row.sInt Syntax.w64 .of)
   abbrev s52 : (bs : List Nat.ℕ) → Typed.Asks T57 T58
-  s52 = λ bs. Scalar.k-op2 T57 (Syntax.lt Syntax.unsigned) (Scalar.oAt 28 y2 (Row.valS (Row.sInt Syntax.w64))) (Scalar.oBig Syntax.w64 1024) 23 (Rows'.sc-here
+  s52 = λ bs. Scalar.k-op2 T57 (Syntax.lt Syntax.unsigned) (Scalar.oAt 28 y2 (Row.valS (Row.sInt Syntax.w64))) (Scalar.oInt Syntax.w64 768) 23 (Rows'.sc-here
       Row.sBool) (Row.sBool .of)
   abbrev s53 : (bs : List Nat.ℕ) → Typed.Mo T58 → Typed.Mo T60
   s53 = λ bs. Scalar.n-room T58 28 y2
@@ -2042,7 +2042,7 @@ module _ (claims· : Claims) where
   abbrev s64 : (bs : List Nat.ℕ) → Typed.Mo T59 → Typed.Mo T71
   s64 = λ bs. Scalar.n-use T59 (Scalar.oFld 9 ((Syntax.field 1) ∷ []) y2 8 Shared.lenV) 28 (Rows'.sc-here (Row.sInt Syntax.w64)) (Row.sInt Syntax.w64 .of)
   abbrev s65 : (bs : List Nat.ℕ) → Typed.Asks T71 T72
-  s65 = λ bs. Scalar.k-op2 T71 (Syntax.lt Syntax.unsigned) (Scalar.oAt 28 y2 (Row.valS (Row.sInt Syntax.w64))) (Scalar.oBig Syntax.w64 1024) 23 (Rows'.sc-here
+  s65 = λ bs. Scalar.k-op2 T71 (Syntax.lt Syntax.unsigned) (Scalar.oAt 28 y2 (Row.valS (Row.sInt Syntax.w64))) (Scalar.oInt Syntax.w64 768) 23 (Rows'.sc-here
       Row.sBool) (Row.sBool .of)
   abbrev s66 : (bs : List Nat.ℕ) → Typed.Mo T72 → Typed.Mo T74
   s66 = λ bs. Scalar.n-room T72 28 y2
@@ -5012,9 +5012,9 @@ module _ (claims· : Claims) where
           d279 = Typed.t-seq 𝓤 H A W 𝓣 E G72 G73 b63 b198 Δ0 (at81 bs) (at278 bs) d81 d278
           d280 : Typed.Typed 𝓤 H A 𝓣 E G71 b200 Δ0 (at280 bs)
           d280 = Typed.s-seq 𝓤 H A W 𝓣 E G71 G72 b54 b199 Δ0 (Typed.ask (s65 bs)) (at279 bs) (Scalar.t-op2 𝓤 H A W E 𝓣 G71 (Syntax.lt Syntax.unsigned)
-              (Scalar.oAt 28 y2 (Row.valS (Row.sInt Syntax.w64))) (Scalar.oBig Syntax.w64 1024) 23 (Rows'.sc-here Row.sBool) Syntax.tyBool (Row.valS
-              Row.sBool) (Row.sBool .of) (Scalar.reads-sc 𝓤 H A W (Row.sInt Syntax.w64), Path'.refl) record { lower = record { fits = Dec'.lit< tt } }
-              (Reads'.room-gone 𝓤 H A Syntax.tyBool) (Scalar.holds-sc 𝓤 H A W Row.sBool) Path'.refl (λ u. Path'.refl) λ u. tt) d279
+              (Scalar.oAt 28 y2 (Row.valS (Row.sInt Syntax.w64))) (Scalar.oInt Syntax.w64 768) 23 (Rows'.sc-here Row.sBool) Syntax.tyBool (Row.valS Row.sBool)
+              (Row.sBool .of) (Scalar.reads-sc 𝓤 H A W (Row.sInt Syntax.w64), Path'.refl) tt (Reads'.room-gone 𝓤 H A Syntax.tyBool) (Scalar.holds-sc 𝓤 H A W
+              Row.sBool) Path'.refl (λ u. Path'.refl) λ u. tt) d279
           d281 : Typed.Typed 𝓤 H A 𝓣 E G59 b201 Δ0 (at281 bs)
           d281 = Typed.s-seq 𝓤 H A W 𝓣 E G59 G71 b53 b200 Δ0 (Typed.pass T59 T71 (s64 bs)) (at280 bs) (Scalar.t-use 𝓤 H A W E 𝓣 G59 (Scalar.oFld 9
               ((Syntax.field 1) ∷ []) y2 8 Shared.lenV) 28 (Rows'.sc-here (Row.sInt Syntax.w64)) y2 (Row.valS (Row.sInt Syntax.w64)) (Row.sInt Syntax.w64 .of)
@@ -5024,9 +5024,9 @@ module _ (claims· : Claims) where
           d282 = Typed.t-seq 𝓤 H A W 𝓣 E G58 G59 b52 b201 Δ0 (at67 bs) (at281 bs) d67 d281
           d283 : Typed.Typed 𝓤 H A 𝓣 E G57 b203 Δ0 (at283 bs)
           d283 = Typed.s-seq 𝓤 H A W 𝓣 E G57 G58 b43 b202 Δ0 (Typed.ask (s52 bs)) (at282 bs) (Scalar.t-op2 𝓤 H A W E 𝓣 G57 (Syntax.lt Syntax.unsigned)
-              (Scalar.oAt 28 y2 (Row.valS (Row.sInt Syntax.w64))) (Scalar.oBig Syntax.w64 1024) 23 (Rows'.sc-here Row.sBool) Syntax.tyBool (Row.valS
-              Row.sBool) (Row.sBool .of) (Scalar.reads-sc 𝓤 H A W (Row.sInt Syntax.w64), Path'.refl) record { lower = record { fits = Dec'.lit< tt } }
-              (Reads'.room-gone 𝓤 H A Syntax.tyBool) (Scalar.holds-sc 𝓤 H A W Row.sBool) Path'.refl (λ u. Path'.refl) λ u. tt) d282
+              (Scalar.oAt 28 y2 (Row.valS (Row.sInt Syntax.w64))) (Scalar.oInt Syntax.w64 768) 23 (Rows'.sc-here Row.sBool) Syntax.tyBool (Row.valS Row.sBool)
+              (Row.sBool .of) (Scalar.reads-sc 𝓤 H A W (Row.sInt Syntax.w64), Path'.refl) tt (Reads'.room-gone 𝓤 H A Syntax.tyBool) (Scalar.holds-sc 𝓤 H A W
+              Row.sBool) Path'.refl (λ u. Path'.refl) λ u. tt) d282
           d284 : Typed.Typed 𝓤 H A 𝓣 E G45 b204 Δ0 (at284 bs)
           d284 = Typed.s-seq 𝓤 H A W 𝓣 E G45 G57 b42 b203 Δ0 (Typed.pass T45 T57 (s51 bs)) (at283 bs) (Scalar.t-use 𝓤 H A W E 𝓣 G45 (Scalar.oFld 8
               ((Syntax.field 1) ∷ []) y2 8 Shared.lenV) 28 (Rows'.sc-here (Row.sInt Syntax.w64)) y2 (Row.valS (Row.sInt Syntax.w64)) (Row.sInt Syntax.w64 .of)
@@ -5036,9 +5036,9 @@ module _ (claims· : Claims) where
           d285 = Typed.t-seq 𝓤 H A W 𝓣 E G44 G45 b41 b204 Δ0 (at53 bs) (at284 bs) d53 d284
           d286 : Typed.Typed 𝓤 H A 𝓣 E G43 b206 Δ0 (at286 bs)
           d286 = Typed.s-seq 𝓤 H A W 𝓣 E G43 G44 b32 b205 Δ0 (Typed.ask (s39 bs)) (at285 bs) (Scalar.t-op2 𝓤 H A W E 𝓣 G43 (Syntax.lt Syntax.unsigned)
-              (Scalar.oAt 28 y2 (Row.valS (Row.sInt Syntax.w64))) (Scalar.oBig Syntax.w64 1024) 23 (Rows'.sc-here Row.sBool) Syntax.tyBool (Row.valS
-              Row.sBool) (Row.sBool .of) (Scalar.reads-sc 𝓤 H A W (Row.sInt Syntax.w64), Path'.refl) record { lower = record { fits = Dec'.lit< tt } }
-              (Reads'.room-gone 𝓤 H A Syntax.tyBool) (Scalar.holds-sc 𝓤 H A W Row.sBool) Path'.refl (λ u. Path'.refl) λ u. tt) d285
+              (Scalar.oAt 28 y2 (Row.valS (Row.sInt Syntax.w64))) (Scalar.oInt Syntax.w64 768) 23 (Rows'.sc-here Row.sBool) Syntax.tyBool (Row.valS Row.sBool)
+              (Row.sBool .of) (Scalar.reads-sc 𝓤 H A W (Row.sInt Syntax.w64), Path'.refl) tt (Reads'.room-gone 𝓤 H A Syntax.tyBool) (Scalar.holds-sc 𝓤 H A W
+              Row.sBool) Path'.refl (λ u. Path'.refl) λ u. tt) d285
           d287 : Typed.Typed 𝓤 H A 𝓣 E G31 b207 Δ0 (at287 bs)
           d287 = Typed.s-seq 𝓤 H A W 𝓣 E G31 G43 b31 b206 Δ0 (Typed.pass T31 T43 (s38 bs)) (at286 bs) (Scalar.t-use 𝓤 H A W E 𝓣 G31 (Scalar.oFld 7
               ((Syntax.field 1) ∷ []) y2 8 Shared.lenV) 28 (Rows'.sc-here (Row.sInt Syntax.w64)) y2 (Row.valS (Row.sInt Syntax.w64)) (Row.sInt Syntax.w64 .of)
@@ -5048,9 +5048,9 @@ module _ (claims· : Claims) where
           d288 = Typed.t-seq 𝓤 H A W 𝓣 E G30 G31 b30 b207 Δ0 (at39 bs) (at287 bs) d39 d287
           d289 : Typed.Typed 𝓤 H A 𝓣 E G29 b209 Δ0 (at289 bs)
           d289 = Typed.s-seq 𝓤 H A W 𝓣 E G29 G30 b21 b208 Δ0 (Typed.ask (s26 bs)) (at288 bs) (Scalar.t-op2 𝓤 H A W E 𝓣 G29 (Syntax.lt Syntax.unsigned)
-              (Scalar.oBig Syntax.w64 1024) (Scalar.oAt 28 y2 (Row.valS (Row.sInt Syntax.w64))) 23 (Rows'.sc-here Row.sBool) Syntax.tyBool (Row.valS
-              Row.sBool) (Row.sBool .of) record { lower = record { fits = Dec'.lit< tt } } (Scalar.reads-sc 𝓤 H A W (Row.sInt Syntax.w64), Path'.refl)
-              (Reads'.room-gone 𝓤 H A Syntax.tyBool) (Scalar.holds-sc 𝓤 H A W Row.sBool) Path'.refl (λ u. Path'.refl) λ u. tt) d288
+              (Scalar.oInt Syntax.w64 768) (Scalar.oAt 28 y2 (Row.valS (Row.sInt Syntax.w64))) 23 (Rows'.sc-here Row.sBool) Syntax.tyBool (Row.valS Row.sBool)
+              (Row.sBool .of) tt (Scalar.reads-sc 𝓤 H A W (Row.sInt Syntax.w64), Path'.refl) (Reads'.room-gone 𝓤 H A Syntax.tyBool) (Scalar.holds-sc 𝓤 H A W
+              Row.sBool) Path'.refl (λ u. Path'.refl) λ u. tt) d288
           d290 : Typed.Typed 𝓤 H A 𝓣 E G18 b210 Δ0 (at290 bs)
           d290 = Typed.s-seq 𝓤 H A W 𝓣 E G18 G29 b20 b209 Δ0 (Typed.ask (s25 bs)) (at289 bs) (Scalar.t-op1 𝓤 H A W E 𝓣 G18 (Syntax.cast Syntax.unsigned
               Syntax.unsigned Syntax.w64) (Scalar.oAt 3 y1 (Row.valS (Row.sInt Syntax.w32))) 28 (Rows'.sc-here (Row.sInt Syntax.w64)) y2 (Row.valS (Row.sInt
@@ -5260,7 +5260,7 @@ module _ (claims· : Claims) where
       m28 = λ before. s27 (before .before .before .before .before .blocks) (m27 before)
       module _ (before· : Else2) where
         pub record Then3·own : Type 0 where
-          pub taken : Nat._<_ 1024 (Row.get 28 (T29 .locals) (m26 (before· .before)))
+          pub taken : Nat._<_ 768 (Row.get 28 (T29 .locals) (m26 (before· .before)))
       pub record Then3 : Type 0 where
         pub before : Else2
         pub if3 : Then3·own before
@@ -5310,7 +5310,7 @@ module _ (claims· : Claims) where
           .before .before .before .before .κs) (c .before .before .before .before .before .before .before .args)) (m37 (c .before) (After-early3·gave c) .1)))
       module _ (before· : Else2) where
         pub record Else3·own : Type 0 where
-          pub left : Nat._≤_ (Row.get 28 (T29 .locals) (m26 (before· .before))) 1024
+          pub left : Nat._≤_ (Row.get 28 (T29 .locals) (m26 (before· .before))) 768
       pub record Else3 : Type 0 where
         pub before : Else2
         pub if3 : Else3·own before
@@ -5328,7 +5328,7 @@ module _ (claims· : Claims) where
       m41 = λ before. s40 (before .before .before .before .before .before .blocks) (m40 before)
       module _ (before· : Else3) where
         pub record Then4·own : Type 0 where
-          pub taken : Nat._<_ (Row.get 28 (T43 .locals) (m39 (before· .before))) 1024
+          pub taken : Nat._<_ (Row.get 28 (T43 .locals) (m39 (before· .before))) 768
       pub record Then4 : Type 0 where
         pub before : Else3
         pub if4 : Then4·own before
@@ -5379,7 +5379,7 @@ module _ (claims· : Claims) where
           .before .before .before .args)) (m50 (c .before) (After-early4·gave c) .1)))
       module _ (before· : Else3) where
         pub record Else4·own : Type 0 where
-          pub left : Nat._≤_ 1024 (Row.get 28 (T43 .locals) (m39 (before· .before)))
+          pub left : Nat._≤_ 768 (Row.get 28 (T43 .locals) (m39 (before· .before)))
       pub record Else4 : Type 0 where
         pub before : Else3
         pub if4 : Else4·own before
@@ -5398,7 +5398,7 @@ module _ (claims· : Claims) where
       m54 = λ before. s53 (before .before .before .before .before .before .before .blocks) (m53 before)
       module _ (before· : Else4) where
         pub record Then5·own : Type 0 where
-          pub taken : Nat._<_ (Row.get 28 (T57 .locals) (m52 (before· .before))) 1024
+          pub taken : Nat._<_ (Row.get 28 (T57 .locals) (m52 (before· .before))) 768
       pub record Then5 : Type 0 where
         pub before : Else4
         pub if5 : Then5·own before
@@ -5450,7 +5450,7 @@ module _ (claims· : Claims) where
           (After-early5·gave c) .1)))
       module _ (before· : Else4) where
         pub record Else5·own : Type 0 where
-          pub left : Nat._≤_ 1024 (Row.get 28 (T57 .locals) (m52 (before· .before)))
+          pub left : Nat._≤_ 768 (Row.get 28 (T57 .locals) (m52 (before· .before)))
       pub record Else5 : Type 0 where
         pub before : Else4
         pub if5 : Else5·own before
@@ -5469,7 +5469,7 @@ module _ (claims· : Claims) where
       m67 = λ before. s66 (before .before .before .before .before .before .before .before .blocks) (m66 before)
       module _ (before· : Else5) where
         pub record Then6·own : Type 0 where
-          pub taken : Nat._<_ (Row.get 28 (T71 .locals) (m65 (before· .before))) 1024
+          pub taken : Nat._<_ (Row.get 28 (T71 .locals) (m65 (before· .before))) 768
       pub record Then6 : Type 0 where
         pub before : Else5
         pub if6 : Then6·own before
@@ -5521,7 +5521,7 @@ module _ (claims· : Claims) where
           .before .before .before .before .before .before .args)) (m76 (c .before) (After-early6·gave c) .1)))
       module _ (before· : Else5) where
         pub record Else6·own : Type 0 where
-          pub left : Nat._≤_ 1024 (Row.get 28 (T71 .locals) (m65 (before· .before)))
+          pub left : Nat._≤_ 768 (Row.get 28 (T71 .locals) (m65 (before· .before)))
       pub record Else6 : Type 0 where
         pub before : Else5
         pub if6 : Else6·own before
@@ -7279,8 +7279,8 @@ module _ (claims· : Claims) where
             .before .before .before .κs) (c .before .before .before .before .before .before .before .before .args) (c .before .before .before .before .before
             .before .before .before .blocks)) (m64 (c .before))
         lay20 = λ c. (tt, (λ taken. lay21 record { before = record { before = c .before; if5 = c .if5 }; if6 = record { taken = Tests.ltb-true (Row.get 28
-            (T71 .locals) (m65 (c .before))) 1024 taken } }, λ left. lay23 record { before = record { before = c .before; if5 = c .if5 }; if6 = record { left
-            = Tests.ltb-false (Row.get 28 (T71 .locals) (m65 (c .before))) 1024 left } }))
+            (T71 .locals) (m65 (c .before))) 768 taken } }, λ left. lay23 record { before = record { before = c .before; if5 = c .if5 }; if6 = record { left =
+            Tests.ltb-false (Row.get 28 (T71 .locals) (m65 (c .before))) 768 left } }))
         lay19 : (c : Else5) → at65 (c .before .before .before .before .before .before .before .before .blocks) (W5 (c .before .before)) (m54 (c .before
             .before))
         lay19 = λ c. lay20 record { before = c .before; if5 = c .if5 }
@@ -7296,8 +7296,8 @@ module _ (claims· : Claims) where
             .before .κs) (c .before .before .before .before .before .before .before .args) (c .before .before .before .before .before .before .before
             .blocks)) (m51 (c .before))
         lay16 = λ c. (tt, (λ taken. lay17 record { before = record { before = c .before; if4 = c .if4 }; if5 = record { taken = Tests.ltb-true (Row.get 28
-            (T57 .locals) (m52 (c .before))) 1024 taken } }, λ left. lay19 record { before = record { before = c .before; if4 = c .if4 }; if5 = record { left
-            = Tests.ltb-false (Row.get 28 (T57 .locals) (m52 (c .before))) 1024 left } }))
+            (T57 .locals) (m52 (c .before))) 768 taken } }, λ left. lay19 record { before = record { before = c .before; if4 = c .if4 }; if5 = record { left =
+            Tests.ltb-false (Row.get 28 (T57 .locals) (m52 (c .before))) 768 left } }))
         lay15 : (c : Else4) → at51 (c .before .before .before .before .before .before .before .blocks) (W4 (c .before .before)) (m41 (c .before .before))
         lay15 = λ c. lay16 record { before = c .before; if4 = c .if4 }
         lay14 : (c : After-early4) → at46 (c .before .before .before .before .before .before .before .before .blocks) (W4 (c .before .before .before)) (m44 (c
@@ -7310,8 +7310,8 @@ module _ (claims· : Claims) where
         lay12 : (c : Else3) → at287 (c .before .before .before .before .before .before .blocks) (W0 (c .before .before .before .before .before .before .κs) (c
             .before .before .before .before .before .before .args) (c .before .before .before .before .before .before .blocks)) (m38 (c .before))
         lay12 = λ c. (tt, (λ taken. lay13 record { before = record { before = c .before; if3 = c .if3 }; if4 = record { taken = Tests.ltb-true (Row.get 28
-            (T43 .locals) (m39 (c .before))) 1024 taken } }, λ left. lay15 record { before = record { before = c .before; if3 = c .if3 }; if4 = record { left
-            = Tests.ltb-false (Row.get 28 (T43 .locals) (m39 (c .before))) 1024 left } }))
+            (T43 .locals) (m39 (c .before))) 768 taken } }, λ left. lay15 record { before = record { before = c .before; if3 = c .if3 }; if4 = record { left =
+            Tests.ltb-false (Row.get 28 (T43 .locals) (m39 (c .before))) 768 left } }))
         lay11 : (c : Else3) → at37 (c .before .before .before .before .before .before .blocks) (W3 (c .before .before)) (m28 (c .before .before))
         lay11 = λ c. lay12 record { before = c .before; if3 = c .if3 }
         lay10 : (c : After-early3) → at32 (c .before .before .before .before .before .before .before .blocks) (W3 (c .before .before .before)) (m31 (c
@@ -7324,8 +7324,8 @@ module _ (claims· : Claims) where
         lay8 : (c : Else2) → at290 (c .before .before .before .before .before .blocks) (W0 (c .before .before .before .before .before .κs) (c .before .before
             .before .before .before .args) (c .before .before .before .before .before .blocks)) (m25 (c .before))
         lay8 = λ c. (Facts.fits-bits 32 tt (c .before .before .before .before .before .good .1 .1 .0 .1), (tt, (λ taken. lay9 record { before = record {
-            before = c .before; if2 = c .if2 }; if3 = record { taken = Tests.ltb-true 1024 (Row.get 28 (T29 .locals) (m26 (c .before))) taken } }, λ left.
-            lay11 record { before = record { before = c .before; if2 = c .if2 }; if3 = record { left = Tests.ltb-false 1024 (Row.get 28 (T29 .locals) (m26 (c
+            before = c .before; if2 = c .if2 }; if3 = record { taken = Tests.ltb-true 768 (Row.get 28 (T29 .locals) (m26 (c .before))) taken } }, λ left.
+            lay11 record { before = record { before = c .before; if2 = c .if2 }; if3 = record { left = Tests.ltb-false 768 (Row.get 28 (T29 .locals) (m26 (c
             .before))) left } })))
         lay7 : (c : Else2) → at24 (c .before .before .before .before .before .blocks) (W2 (c .before .before)) (m15 (c .before .before))
         lay7 = λ c. lay8 record { before = c .before; if2 = c .if2 }

@@ -1,5 +1,5 @@
 -- Generated: the needs of combine at its contract, and how its theorem closes.
--- From b4d82ceba9e3735e, as d114ee13f0f1fdc9.
+-- From d3160673ce475718, as d114ee13f0f1fdc9.
 use borrow.Fn.Run
 use borrow.Fn.Written
 use contract.Running.{givenOf, tablesOf}

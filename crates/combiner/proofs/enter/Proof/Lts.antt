@@ -1,5 +1,5 @@
 -- Generated: the derivation of a body.
--- From b4d82ceba9e3735e, as c4e3f24db7b5d002.
+-- From d3160673ce475718, as c4e3f24db7b5d002.
 use Prim.Native.Nat
 use Rattle.blocks.proofs.Block
 use Rattle.blocks.proofs.Block.Laws

@@ -1,5 +1,5 @@
 -- Generated: the needs of enter at its contract, and how its theorem closes.
--- From b4d82ceba9e3735e, as e21995f8692c4183.
+-- From d3160673ce475718, as e21995f8692c4183.
 use borrow.Fn.Run
 use borrow.Fn.Written
 use contract.Running.{givenOf, tablesOf}

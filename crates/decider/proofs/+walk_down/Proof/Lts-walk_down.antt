@@ -1,5 +1,5 @@
 -- Generated: the derivation of a body.
--- From 5b3708e82c76682e, as 713c70f6d53df900.
+-- From e322c9cd9610f764, as 713c70f6d53df900.
 use Prim.Native.Nat
 use Rattle.answers.proofs.Verdict
 use Rattle.answers.proofs.Verdict.Laws

@@ -1,5 +1,5 @@
 -- Generated: the derivation of a body.
--- From 5b3708e82c76682e, as a857b4362db662f4.
+-- From e322c9cd9610f764, as 86836fbdd831dc37.
 use Prim.Native.Nat
 use Rattle.answers.proofs.Deciding
 use Rattle.answers.proofs.Deciding.Laws
@@ -435,7 +435,7 @@ b9 = Syntax.cond (Syntax.copy (Syntax.place 14 [])) b7 b8
 abbrev b10 : Syntax.Body
 b10 = Syntax.assign (Syntax.place 17 []) (Syntax.rvOpd (Syntax.copy (Syntax.place 4 ((Syntax.field 1) ∷ []))))
 abbrev b11 : Syntax.Body
-b11 = Syntax.assign (Syntax.place 14 []) (Syntax.op2 (Syntax.lt Syntax.unsigned) (Syntax.copy (Syntax.place 17 [])) (Syntax.intBig Syntax.w64 1024))
+b11 = Syntax.assign (Syntax.place 14 []) (Syntax.op2 (Syntax.lt Syntax.unsigned) (Syntax.copy (Syntax.place 17 [])) (Syntax.int Syntax.w64 768))
 abbrev b12 : Syntax.Body
 b12 = Syntax.assign (Syntax.place 19 []) (Syntax.aggregate ((Syntax.int Syntax.w8 3) ∷ []))
 abbrev b13 : Syntax.Body
@@ -1069,7 +1069,7 @@ module _ (claims· : Claims) where
   abbrev s11 : (bs : List Nat.ℕ) → Typed.Mo T4 → Typed.Mo T14
   s11 = λ bs. Scalar.n-use T4 (Scalar.oFld 4 ((Syntax.field 1) ∷ []) y5 8 Shared.lenV) 17 (Rows'.sc-here (Row.sInt Syntax.w64)) (Row.sInt Syntax.w64 .of)
   abbrev s12 : (bs : List Nat.ℕ) → Typed.Asks T14 T15
-  s12 = λ bs. Scalar.k-op2 T14 (Syntax.lt Syntax.unsigned) (Scalar.oAt 17 y5 (Row.valS (Row.sInt Syntax.w64))) (Scalar.oBig Syntax.w64 1024) 14 (Rows'.sc-here
+  s12 = λ bs. Scalar.k-op2 T14 (Syntax.lt Syntax.unsigned) (Scalar.oAt 17 y5 (Row.valS (Row.sInt Syntax.w64))) (Scalar.oInt Syntax.w64 768) 14 (Rows'.sc-here
       Row.sBool) (Row.sBool .of)
   abbrev s13 : (bs : List Nat.ℕ) → Typed.Mo T15 → Typed.Mo T17
   s13 = λ bs. Scalar.n-room T15 17 y5
@@ -2545,9 +2545,9 @@ module _ (claims· : Claims) where
           d138 = Typed.t-seq 𝓤 H A W 𝓣 E G15 G16 b20 b101 Δ0 (at24 bs) (at137 bs) d24 d137
           d139 : Typed.Typed 𝓤 H A 𝓣 E G14 b103 Δ0 (at139 bs)
           d139 = Typed.s-seq 𝓤 H A W 𝓣 E G14 G15 b11 b102 Δ0 (Typed.ask (s12 bs)) (at138 bs) (Scalar.t-op2 𝓤 H A W E 𝓣 G14 (Syntax.lt Syntax.unsigned)
-              (Scalar.oAt 17 y5 (Row.valS (Row.sInt Syntax.w64))) (Scalar.oBig Syntax.w64 1024) 14 (Rows'.sc-here Row.sBool) Syntax.tyBool (Row.valS
-              Row.sBool) (Row.sBool .of) (Scalar.reads-sc 𝓤 H A W (Row.sInt Syntax.w64), Path'.refl) record { lower = record { fits = Dec'.lit< tt } }
-              (Reads'.room-gone 𝓤 H A Syntax.tyBool) (Scalar.holds-sc 𝓤 H A W Row.sBool) Path'.refl (λ u. Path'.refl) λ u. tt) d138
+              (Scalar.oAt 17 y5 (Row.valS (Row.sInt Syntax.w64))) (Scalar.oInt Syntax.w64 768) 14 (Rows'.sc-here Row.sBool) Syntax.tyBool (Row.valS Row.sBool)
+              (Row.sBool .of) (Scalar.reads-sc 𝓤 H A W (Row.sInt Syntax.w64), Path'.refl) tt (Reads'.room-gone 𝓤 H A Syntax.tyBool) (Scalar.holds-sc 𝓤 H A W
+              Row.sBool) Path'.refl (λ u. Path'.refl) λ u. tt) d138
           d140 : Typed.Typed 𝓤 H A 𝓣 E G4 b104 Δ0 (at140 bs)
           d140 = Typed.s-seq 𝓤 H A W 𝓣 E G4 G14 b10 b103 Δ0 (Typed.pass T4 T14 (s11 bs)) (at139 bs) (Scalar.t-use 𝓤 H A W E 𝓣 G4 (Scalar.oFld 4 ((Syntax.field
               1) ∷ []) y5 8 Shared.lenV) 17 (Rows'.sc-here (Row.sInt Syntax.w64)) y5 (Row.valS (Row.sInt Syntax.w64)) (Row.sInt Syntax.w64 .of)
@@ -2658,7 +2658,7 @@ module _ (claims· : Claims) where
       m14 = λ before. s13 (before .before .blocks) (m13 before)
       module _ (before· : Else1) where
         pub record Then2·own : Type 0 where
-          pub taken : Nat._<_ (Row.get 17 (T14 .locals) (m12 (before· .before))) 1024
+          pub taken : Nat._<_ (Row.get 17 (T14 .locals) (m12 (before· .before))) 768
       pub record Then2 : Type 0 where
         pub before : Else1
         pub if2 : Then2·own before
@@ -2697,7 +2697,7 @@ module _ (claims· : Claims) where
           .before .args)) (m22 (c .before) (After-early2·gave c) .1)))
       module _ (before· : Else1) where
         pub record Else2·own : Type 0 where
-          pub left : Nat._≤_ 1024 (Row.get 17 (T14 .locals) (m12 (before· .before)))
+          pub left : Nat._≤_ 768 (Row.get 17 (T14 .locals) (m12 (before· .before)))
       pub record Else2 : Type 0 where
         pub before : Else1
         pub if2 : Else2·own before
@@ -3387,8 +3387,8 @@ module _ (claims· : Claims) where
         lay4 : (c : Else1) → at140 (c .before .before .blocks) (W0 (c .before .before .κs) (c .before .before .args) (c .before .before .blocks)) (m11 (c
             .before))
         lay4 = λ c. (tt, (λ taken. lay5 record { before = record { before = c .before; if1 = c .if1 }; if2 = record { taken = Tests.ltb-true (Row.get 17 (T14
-            .locals) (m12 (c .before))) 1024 taken } }, λ left. lay7 record { before = record { before = c .before; if1 = c .if1 }; if2 = record { left =
-            Tests.ltb-false (Row.get 17 (T14 .locals) (m12 (c .before))) 1024 left } }))
+            .locals) (m12 (c .before))) 768 taken } }, λ left. lay7 record { before = record { before = c .before; if1 = c .if1 }; if2 = record { left =
+            Tests.ltb-false (Row.get 17 (T14 .locals) (m12 (c .before))) 768 left } }))
         lay3 : (c : Else1) → at10 (c .before .before .blocks) (W1 (c .before .before) (c .before .shared-slice-known .given)) (m2 (c .before .before) (c
             .before .shared-slice-known .given))
         lay3 = λ c. lay4 record { before = c .before; if1 = c .if1 }

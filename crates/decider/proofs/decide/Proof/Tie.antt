@@ -1,5 +1,5 @@
 -- Generated: the needs of decide at its contract, and how its theorem closes.
--- From 5b3708e82c76682e, as 5cf818b73cd0b1e1.
+-- From e322c9cd9610f764, as 5cf818b73cd0b1e1.
 use borrow.Fn.Run
 use borrow.Fn.Written
 use contract.Running.{givenOf, tablesOf}

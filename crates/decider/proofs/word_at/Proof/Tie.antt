@@ -1,5 +1,5 @@
 -- Generated: the needs of word_at at its contract, and how its theorem closes.
--- From 5b3708e82c76682e, as b576c79ad5664a11.
+-- From e322c9cd9610f764, as b576c79ad5664a11.
 use borrow.Fn.Run
 use borrow.Fn.Written
 use contract.Running.{givenOf, tablesOf}

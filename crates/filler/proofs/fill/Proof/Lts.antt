@@ -1,5 +1,5 @@
 -- Generated: the derivation of a body.
--- From 401ee1cff0cc8269, as dac940402e969344.
+-- From dbeff140315b0513, as fdff0890a4f18596.
 use Prim.Native.Nat
 use Rattle.answers.proofs.Filling
 use Rattle.answers.proofs.Filling.Laws
@@ -430,7 +430,7 @@ b19 = Syntax.cond (Syntax.copy (Syntax.place 11 [])) b17 b18
 abbrev b20 : Syntax.Body
 b20 = Syntax.assign (Syntax.place 16 []) (Syntax.rvOpd (Syntax.copy (Syntax.place 4 ((Syntax.field 1) ∷ []))))
 abbrev b21 : Syntax.Body
-b21 = Syntax.assign (Syntax.place 11 []) (Syntax.op2 (Syntax.lt Syntax.unsigned) (Syntax.copy (Syntax.place 16 [])) (Syntax.intBig Syntax.w64 1024))
+b21 = Syntax.assign (Syntax.place 11 []) (Syntax.op2 (Syntax.lt Syntax.unsigned) (Syntax.copy (Syntax.place 16 [])) (Syntax.int Syntax.w64 768))
 abbrev b22 : Syntax.Body
 b22 = Syntax.assign (Syntax.place 18 []) (Syntax.aggregate ((Syntax.int Syntax.w8 3) ∷ []))
 abbrev b23 : Syntax.Body
@@ -1092,7 +1092,7 @@ module _ (claims· : Claims) where
   abbrev s20 : (bs : List Nat.ℕ) → Typed.Mo T15 → Typed.Mo T24
   s20 = λ bs. Scalar.n-use T15 (Scalar.oFld 4 ((Syntax.field 1) ∷ []) y5 8 Shared.lenV) 16 (Rows'.sc-here (Row.sInt Syntax.w64)) (Row.sInt Syntax.w64 .of)
   abbrev s21 : (bs : List Nat.ℕ) → Typed.Asks T24 T25
-  s21 = λ bs. Scalar.k-op2 T24 (Syntax.lt Syntax.unsigned) (Scalar.oAt 16 y5 (Row.valS (Row.sInt Syntax.w64))) (Scalar.oBig Syntax.w64 1024) 11 (Rows'.sc-here
+  s21 = λ bs. Scalar.k-op2 T24 (Syntax.lt Syntax.unsigned) (Scalar.oAt 16 y5 (Row.valS (Row.sInt Syntax.w64))) (Scalar.oInt Syntax.w64 768) 11 (Rows'.sc-here
       Row.sBool) (Row.sBool .of)
   abbrev s22 : (bs : List Nat.ℕ) → Typed.Mo T25 → Typed.Mo T27
   s22 = λ bs. Scalar.n-room T25 16 y5
@@ -2574,9 +2574,9 @@ module _ (claims· : Claims) where
           d140 = Typed.t-seq 𝓤 H A W 𝓣 E G25 G26 b30 b113 Δ0 (at33 bs) (at139 bs) d33 d139
           d141 : Typed.Typed 𝓤 H A 𝓣 E G24 b115 Δ0 (at141 bs)
           d141 = Typed.s-seq 𝓤 H A W 𝓣 E G24 G25 b21 b114 Δ0 (Typed.ask (s21 bs)) (at140 bs) (Scalar.t-op2 𝓤 H A W E 𝓣 G24 (Syntax.lt Syntax.unsigned)
-              (Scalar.oAt 16 y5 (Row.valS (Row.sInt Syntax.w64))) (Scalar.oBig Syntax.w64 1024) 11 (Rows'.sc-here Row.sBool) Syntax.tyBool (Row.valS
-              Row.sBool) (Row.sBool .of) (Scalar.reads-sc 𝓤 H A W (Row.sInt Syntax.w64), Path'.refl) record { lower = record { fits = Dec'.lit< tt } }
-              (Reads'.room-gone 𝓤 H A Syntax.tyBool) (Scalar.holds-sc 𝓤 H A W Row.sBool) Path'.refl (λ u. Path'.refl) λ u. tt) d140
+              (Scalar.oAt 16 y5 (Row.valS (Row.sInt Syntax.w64))) (Scalar.oInt Syntax.w64 768) 11 (Rows'.sc-here Row.sBool) Syntax.tyBool (Row.valS Row.sBool)
+              (Row.sBool .of) (Scalar.reads-sc 𝓤 H A W (Row.sInt Syntax.w64), Path'.refl) tt (Reads'.room-gone 𝓤 H A Syntax.tyBool) (Scalar.holds-sc 𝓤 H A W
+              Row.sBool) Path'.refl (λ u. Path'.refl) λ u. tt) d140
           d142 : Typed.Typed 𝓤 H A 𝓣 E G15 b116 Δ0 (at142 bs)
           d142 = Typed.s-seq 𝓤 H A W 𝓣 E G15 G24 b20 b115 Δ0 (Typed.pass T15 T24 (s20 bs)) (at141 bs) (Scalar.t-use 𝓤 H A W E 𝓣 G15 (Scalar.oFld 4
               ((Syntax.field 1) ∷ []) y5 8 Shared.lenV) 16 (Rows'.sc-here (Row.sInt Syntax.w64)) y5 (Row.valS (Row.sInt Syntax.w64)) (Row.sInt Syntax.w64 .of)
@@ -2757,7 +2757,7 @@ module _ (claims· : Claims) where
       m23 = λ before. s22 (before .before .before .before .blocks) (m22 before)
       module _ (before· : Else2) where
         pub record Then3·own : Type 0 where
-          pub taken : Nat._<_ (Row.get 16 (T24 .locals) (m21 (before· .before))) 1024
+          pub taken : Nat._<_ (Row.get 16 (T24 .locals) (m21 (before· .before))) 768
       pub record Then3 : Type 0 where
         pub before : Else2
         pub if3 : Then3·own before
@@ -2795,7 +2795,7 @@ module _ (claims· : Claims) where
           .before .before .args)) (m30 (c .before) (After-early3·gave c) .1)))
       module _ (before· : Else2) where
         pub record Else3·own : Type 0 where
-          pub left : Nat._≤_ 1024 (Row.get 16 (T24 .locals) (m21 (before· .before)))
+          pub left : Nat._≤_ 768 (Row.get 16 (T24 .locals) (m21 (before· .before)))
       pub record Else3 : Type 0 where
         pub before : Else2
         pub if3 : Else3·own before
@@ -3518,8 +3518,8 @@ module _ (claims· : Claims) where
         lay8 : (c : Else2) → at142 (c .before .before .before .before .blocks) (W0 (c .before .before .before .before .κs) (c .before .before .before .before
             .args) (c .before .before .before .before .blocks)) (m20 (c .before))
         lay8 = λ c. (tt, (λ taken. lay9 record { before = record { before = c .before; if2 = c .if2 }; if3 = record { taken = Tests.ltb-true (Row.get 16 (T24
-            .locals) (m21 (c .before))) 1024 taken } }, λ left. lay11 record { before = record { before = c .before; if2 = c .if2 }; if3 = record { left =
-            Tests.ltb-false (Row.get 16 (T24 .locals) (m21 (c .before))) 1024 left } }))
+            .locals) (m21 (c .before))) 768 taken } }, λ left. lay11 record { before = record { before = c .before; if2 = c .if2 }; if3 = record { left =
+            Tests.ltb-false (Row.get 16 (T24 .locals) (m21 (c .before))) 768 left } }))
         lay7 : (c : Else2) → at20 (c .before .before .before .before .blocks) (W2 (c .before .before)) (m12 (c .before .before))
         lay7 = λ c. lay8 record { before = c .before; if2 = c .if2 }
         lay6 : (c : After-early2) → at15 (c .before .before .before .before .before .blocks) (W2 (c .before .before .before)) (m15 (c .before)

@@ -1,5 +1,5 @@
 -- Generated: the derivation of a body.
--- From 401ee1cff0cc8269, as e08123d553e36301.
+-- From dbeff140315b0513, as e08123d553e36301.
 use Prim.Native.Nat
 use Rattle.cursors.proofs.Cursor
 use Rattle.cursors.proofs.Cursor.Laws

@@ -1,5 +1,5 @@
 -- Generated: the derivation of a body.
--- From 598a17b34b551b01, as e6ab6babd42e1b32.
+-- From 16ce22b0ced54d7f, as e6ab6babd42e1b32.
 use Prim.Native.Nat
 use Rattle.node_records.proofs.Edge
 use Rattle.node_records.proofs.Edge.Laws

@@ -1,5 +1,5 @@
 -- Generated: how the theorem of word_from, which calls itself, closes.
--- From 598a17b34b551b01, as 4ab3633523ddab5a.
+-- From 16ce22b0ced54d7f, as 4ab3633523ddab5a.
 use Prim.Native.Nat.{ℕ, _<_}
 use borrow.Fn.Kinds.{In}
 use borrow.Fn.PlainCycle

@@ -1,5 +1,5 @@
 -- Generated: the derivation of a body.
--- From 598a17b34b551b01, as 0410b513dc14055d.
+-- From 16ce22b0ced54d7f, as 108f0555e686c815.
 use Prim.Native.Nat
 use Rattle.answers.proofs.Finding
 use Rattle.answers.proofs.Finding.Laws
@@ -403,7 +403,7 @@ b9 = Syntax.cond (Syntax.copy (Syntax.place 12 [])) b7 b8
 abbrev b10 : Syntax.Body
 b10 = Syntax.assign (Syntax.place 15 []) (Syntax.rvOpd (Syntax.copy (Syntax.place 4 ((Syntax.field 1) ∷ []))))
 abbrev b11 : Syntax.Body
-b11 = Syntax.assign (Syntax.place 12 []) (Syntax.op2 (Syntax.lt Syntax.unsigned) (Syntax.copy (Syntax.place 15 [])) (Syntax.intBig Syntax.w64 1024))
+b11 = Syntax.assign (Syntax.place 12 []) (Syntax.op2 (Syntax.lt Syntax.unsigned) (Syntax.copy (Syntax.place 15 [])) (Syntax.int Syntax.w64 768))
 abbrev b12 : Syntax.Body
 b12 = Syntax.assign (Syntax.place 17 []) (Syntax.aggregate ((Syntax.int Syntax.w8 3) ∷ []))
 abbrev b13 : Syntax.Body
@@ -964,7 +964,7 @@ module _ (claims· : Claims) where
   abbrev s11 : Typed.Mo T4 → Typed.Mo T14
   s11 = Scalar.n-use T4 (Scalar.oFld 4 ((Syntax.field 1) ∷ []) y5 8 Shared.lenV) 15 (Rows'.sc-here (Row.sInt Syntax.w64)) (Row.sInt Syntax.w64 .of)
   abbrev s12 : Typed.Asks T14 T15
-  s12 = Scalar.k-op2 T14 (Syntax.lt Syntax.unsigned) (Scalar.oAt 15 y5 (Row.valS (Row.sInt Syntax.w64))) (Scalar.oBig Syntax.w64 1024) 12 (Rows'.sc-here
+  s12 = Scalar.k-op2 T14 (Syntax.lt Syntax.unsigned) (Scalar.oAt 15 y5 (Row.valS (Row.sInt Syntax.w64))) (Scalar.oInt Syntax.w64 768) 12 (Rows'.sc-here
       Row.sBool) (Row.sBool .of)
   abbrev s13 : Typed.Mo T15 → Typed.Mo T17
   s13 = Scalar.n-room T15 15 y5
@@ -2198,9 +2198,9 @@ module _ (claims· : Claims) where
           d119 = Typed.t-seq 𝓤 H A W 𝓣 E G15 G16 b20 b89 Δ0 at24 at118 d24 d118
           d120 : Typed.Typed 𝓤 H A 𝓣 E G14 b91 Δ0 at120
           d120 = Typed.s-seq 𝓤 H A W 𝓣 E G14 G15 b11 b90 Δ0 (Typed.ask s12) at119 (Scalar.t-op2 𝓤 H A W E 𝓣 G14 (Syntax.lt Syntax.unsigned) (Scalar.oAt 15 y5
-              (Row.valS (Row.sInt Syntax.w64))) (Scalar.oBig Syntax.w64 1024) 12 (Rows'.sc-here Row.sBool) Syntax.tyBool (Row.valS Row.sBool) (Row.sBool .of)
-              (Scalar.reads-sc 𝓤 H A W (Row.sInt Syntax.w64), Path'.refl) record { lower = record { fits = Dec'.lit< tt } } (Reads'.room-gone 𝓤 H A
-              Syntax.tyBool) (Scalar.holds-sc 𝓤 H A W Row.sBool) Path'.refl (λ u. Path'.refl) λ u. tt) d119
+              (Row.valS (Row.sInt Syntax.w64))) (Scalar.oInt Syntax.w64 768) 12 (Rows'.sc-here Row.sBool) Syntax.tyBool (Row.valS Row.sBool) (Row.sBool .of)
+              (Scalar.reads-sc 𝓤 H A W (Row.sInt Syntax.w64), Path'.refl) tt (Reads'.room-gone 𝓤 H A Syntax.tyBool) (Scalar.holds-sc 𝓤 H A W Row.sBool)
+              Path'.refl (λ u. Path'.refl) λ u. tt) d119
           d121 : Typed.Typed 𝓤 H A 𝓣 E G4 b92 Δ0 at121
           d121 = Typed.s-seq 𝓤 H A W 𝓣 E G4 G14 b10 b91 Δ0 (Typed.pass T4 T14 s11) at120 (Scalar.t-use 𝓤 H A W E 𝓣 G4 (Scalar.oFld 4 ((Syntax.field 1) ∷ [])
               y5 8 Shared.lenV) 15 (Rows'.sc-here (Row.sInt Syntax.w64)) y5 (Row.valS (Row.sInt Syntax.w64)) (Row.sInt Syntax.w64 .of) (Mut.reads-mslice-len 𝓤
@@ -2308,7 +2308,7 @@ module _ (claims· : Claims) where
       m14 = λ before. s13 (m13 before)
       module _ (before· : Else1) where
         pub record Then2·own : Type 0 where
-          pub taken : Nat._<_ (Row.get 15 (T14 .locals) (m12 (before· .before))) 1024
+          pub taken : Nat._<_ (Row.get 15 (T14 .locals) (m12 (before· .before))) 768
       pub record Then2 : Type 0 where
         pub before : Else1
         pub if2 : Then2·own before
@@ -2347,7 +2347,7 @@ module _ (claims· : Claims) where
           .before .args)) (m22 (c .before) (After-early2·gave c) .1)))
       module _ (before· : Else1) where
         pub record Else2·own : Type 0 where
-          pub left : Nat._≤_ 1024 (Row.get 15 (T14 .locals) (m12 (before· .before)))
+          pub left : Nat._≤_ 768 (Row.get 15 (T14 .locals) (m12 (before· .before)))
       pub record Else2 : Type 0 where
         pub before : Else1
         pub if2 : Else2·own before
@@ -2828,8 +2828,8 @@ module _ (claims· : Claims) where
             early2 = Called.called ps·0 r·0 (claims· .1) T19 (record { pos = 17; st = []; d = 0; at = λ x. x }, tt) (m16 (c .before)) g })
         lay4 : (c : Else1) → at121 (W0 (c .before .before .κs) (c .before .before .args)) (m11 (c .before))
         lay4 = λ c. (tt, (λ taken. lay5 record { before = record { before = c .before; if1 = c .if1 }; if2 = record { taken = Tests.ltb-true (Row.get 15 (T14
-            .locals) (m12 (c .before))) 1024 taken } }, λ left. lay7 record { before = record { before = c .before; if1 = c .if1 }; if2 = record { left =
-            Tests.ltb-false (Row.get 15 (T14 .locals) (m12 (c .before))) 1024 left } }))
+            .locals) (m12 (c .before))) 768 taken } }, λ left. lay7 record { before = record { before = c .before; if1 = c .if1 }; if2 = record { left =
+            Tests.ltb-false (Row.get 15 (T14 .locals) (m12 (c .before))) 768 left } }))
         lay3 : (c : Else1) → at10 (W1 (c .before .before) (c .before .shared-slice-known .given)) (m2 (c .before .before) (c .before .shared-slice-known
             .given))
         lay3 = λ c. lay4 record { before = c .before; if1 = c .if1 }

@@ -1,5 +1,5 @@
 -- Generated: the needs of find_next at its contract, and how its theorem closes.
--- From 598a17b34b551b01, as 56c393668cfea2e8.
+-- From 16ce22b0ced54d7f, as 56c393668cfea2e8.
 use borrow.Fn.Run
 use borrow.Fn.Written
 use contract.Running.{givenOf, tablesOf}

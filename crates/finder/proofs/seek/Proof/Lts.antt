@@ -1,5 +1,5 @@
 -- Generated: the derivation of a body.
--- From 598a17b34b551b01, as bd3a1817bed254e0.
+-- From 16ce22b0ced54d7f, as bd3a1817bed254e0.
 use Prim.Native.Nat
 use Rattle.cursors.proofs.Cursor
 use Rattle.cursors.proofs.Cursor.Laws

@@ -1,5 +1,5 @@
 -- Generated: the derivation of a body.
--- From 598a17b34b551b01, as 2f17c195faf63b2d.
+-- From 16ce22b0ced54d7f, as 2f17c195faf63b2d.
 use Prim.Native.Nat
 use Rattle.cursors.proofs.Run
 use Rattle.cursors.proofs.Run.Laws

@@ -1,5 +1,5 @@
 -- Generated: the needs of word_at at its contract, and how its theorem closes.
--- From 598a17b34b551b01, as 9fa8624274985eff.
+-- From 16ce22b0ced54d7f, as 9fa8624274985eff.
 use borrow.Fn.Run
 use borrow.Fn.Written
 use contract.Running.{givenOf, tablesOf}

@@ -1,5 +1,5 @@
 -- Generated: the derivation of a body.
--- From 051e1c7e546c9a6a, as a293b72c86a81765.
+-- From d738873de74f0b52, as fdab8b1abf6b5b47.
 use Prim.Native.Nat
 use Rattle.meeting.proofs.Writing
 use Rattle.meeting.proofs.Writing.Laws
@@ -73,9 +73,9 @@ L1 = Row.alive
 abbrev L2 : Row.Life
 L2 = Row.dead
 abbrev y0 : Syntax.Ty
-y0 = Syntax.tyArray NodeRecordT.value 1024
+y0 = Syntax.tyArray NodeRecordT.value 768
 abbrev y1 : Syntax.Ty
-y1 = Syntax.tyArray WriterRecordT.value 1024
+y1 = Syntax.tyArray WriterRecordT.value 768
 abbrev y2 : Syntax.Ty
 y2 = Syntax.tyInt Syntax.w8
 abbrev y3 : Syntax.Ty
@@ -85,7 +85,7 @@ y4 = Syntax.tyInt Syntax.w64
 abbrev y5 : Syntax.Ty
 y5 = Syntax.tyStruct (38 ∷ 91 ∷ 93 ∷ []) (Syntax.tcons y3 (Syntax.tcons y4 Syntax.tnil))
 abbrev y6 : Syntax.Ty
-y6 = Syntax.tyArray NodeRecordT.behind 1024
+y6 = Syntax.tyArray NodeRecordT.behind 768
 abbrev y7 : Syntax.Ty
 y7 = Syntax.tyRef Syntax.erased Syntax.mut y6
 abbrev y8 : Syntax.Ty
@@ -93,7 +93,7 @@ y8 = Syntax.tyRef Syntax.erased Syntax.mut NodeRecordT.behind
 abbrev y9 : Syntax.Ty
 y9 = Syntax.tyStruct (38 ∷ 91 ∷ 93 ∷ []) (Syntax.tcons y8 (Syntax.tcons y4 Syntax.tnil))
 abbrev y10 : Syntax.Ty
-y10 = Syntax.tyArray WriterRecordT.behind 1024
+y10 = Syntax.tyArray WriterRecordT.behind 768
 abbrev y11 : Syntax.Ty
 y11 = Syntax.tyRef Syntax.erased Syntax.mut y10
 abbrev y12 : Syntax.Ty
@@ -174,13 +174,13 @@ e2a = (2, Rows'.any-gone y15)
 abbrev e10a : Row.Entry
 e10a = (10, NodeRecordT.whole)
 abbrev e7a : Row.Entry
-e7a = (7, Rows.arrF NodeRecordT.row 1024 0)
+e7a = (7, Rows.arrF NodeRecordT.row 768 0)
 abbrev e8a : Row.Entry
-e8a = (8, Rows.arrF NodeRecordT.row 1024 0)
+e8a = (8, Rows.arrF NodeRecordT.row 768 0)
 abbrev e11a : Row.Entry
 e11a = (11, WriterRecordT.whole)
 abbrev e9a : Row.Entry
-e9a = (9, Rows.arrF WriterRecordT.row 1024 0)
+e9a = (9, Rows.arrF WriterRecordT.row 768 0)
 abbrev e6a : Row.Entry
 e6a = (6, Relend.mslice-owed (Referent.rtF (Referent.fInt Syntax.w8)) y22 2 3 Row.off)
 abbrev e12a : Row.Entry
@@ -188,17 +188,17 @@ e12a = (12, Relend.msptr (Referent.rtF (Referent.fInt Syntax.w8)) y3 3)
 abbrev e13a : Row.Entry
 e13a = (13, Mut.mslice (Referent.rtF (Referent.fInt Syntax.w8)) y3 3)
 abbrev e7b : Row.Entry
-e7b = (7, Rows.arr-owed NodeRecordT.row 1024 4)
+e7b = (7, Rows.arr-owed NodeRecordT.row 768 4)
 abbrev e14a : Row.Entry
 e14a = (14, Relend.msptr NodeRecordT.row y7 4)
 abbrev e15a : Row.Entry
 e15a = (15, Mut.mslice NodeRecordT.row y8 4)
 abbrev e8b : Row.Entry
-e8b = (8, Rows.arr-owed NodeRecordT.row 1024 5)
+e8b = (8, Rows.arr-owed NodeRecordT.row 768 5)
 abbrev e17a : Row.Entry
 e17a = (17, Mut.mslice NodeRecordT.row y8 5)
 abbrev e9b : Row.Entry
-e9b = (9, Rows.arr-owed WriterRecordT.row 1024 6)
+e9b = (9, Rows.arr-owed WriterRecordT.row 768 6)
 abbrev e13b : Row.Entry
 e13b = (13, Mut.msleft (Referent.rtF (Referent.fInt Syntax.w8)) y3)
 abbrev e15b : Row.Entry
@@ -243,15 +243,15 @@ hs = Syntax.valueLocal ∷ Syntax.valueLocal ∷ Syntax.valueLocal ∷ Syntax.va
 abbrev b0 : Syntax.Body
 b0 = Syntax.call "node_records::no_record" [] (Syntax.place 10 [])
 abbrev b1 : Syntax.Body
-b1 = Syntax.assign (Syntax.place 7 []) (Syntax.repeat (Syntax.copy (Syntax.place 10 [])) 1024)
+b1 = Syntax.assign (Syntax.place 7 []) (Syntax.repeat (Syntax.copy (Syntax.place 10 [])) 768)
 abbrev b2 : Syntax.Body
 b2 = Syntax.call "node_records::no_record" [] (Syntax.place 10 [])
 abbrev b3 : Syntax.Body
-b3 = Syntax.assign (Syntax.place 8 []) (Syntax.repeat (Syntax.copy (Syntax.place 10 [])) 1024)
+b3 = Syntax.assign (Syntax.place 8 []) (Syntax.repeat (Syntax.copy (Syntax.place 10 [])) 768)
 abbrev b4 : Syntax.Body
 b4 = Syntax.call "node_records::no_writer_record" [] (Syntax.place 11 [])
 abbrev b5 : Syntax.Body
-b5 = Syntax.assign (Syntax.place 9 []) (Syntax.repeat (Syntax.copy (Syntax.place 11 [])) 1024)
+b5 = Syntax.assign (Syntax.place 9 []) (Syntax.repeat (Syntax.copy (Syntax.place 11 [])) 768)
 abbrev b6 : Syntax.Body
 b6 = Syntax.assign (Syntax.place 12 []) (Syntax.addrOf (Syntax.place 6 ((Syntax.field 0) ∷ (Syntax.deref y2) ∷ [])))
 abbrev b7 : Syntax.Body
@@ -259,15 +259,15 @@ b7 = Syntax.assign (Syntax.place 13 []) (Syntax.aggregate ((Syntax.copy (Syntax.
 abbrev b8 : Syntax.Body
 b8 = Syntax.assign (Syntax.place 14 []) (Syntax.addrOf (Syntax.place 7 []))
 abbrev b9 : Syntax.Body
-b9 = Syntax.assign (Syntax.place 15 []) (Syntax.aggregate ((Syntax.copy (Syntax.place 14 [])) ∷ (Syntax.intBig Syntax.w64 1024) ∷ []))
+b9 = Syntax.assign (Syntax.place 15 []) (Syntax.aggregate ((Syntax.copy (Syntax.place 14 [])) ∷ (Syntax.int Syntax.w64 768) ∷ []))
 abbrev b10 : Syntax.Body
 b10 = Syntax.assign (Syntax.place 16 []) (Syntax.addrOf (Syntax.place 8 []))
 abbrev b11 : Syntax.Body
-b11 = Syntax.assign (Syntax.place 17 []) (Syntax.aggregate ((Syntax.copy (Syntax.place 16 [])) ∷ (Syntax.intBig Syntax.w64 1024) ∷ []))
+b11 = Syntax.assign (Syntax.place 17 []) (Syntax.aggregate ((Syntax.copy (Syntax.place 16 [])) ∷ (Syntax.int Syntax.w64 768) ∷ []))
 abbrev b12 : Syntax.Body
 b12 = Syntax.assign (Syntax.place 18 []) (Syntax.addrOf (Syntax.place 9 []))
 abbrev b13 : Syntax.Body
-b13 = Syntax.assign (Syntax.place 19 []) (Syntax.aggregate ((Syntax.copy (Syntax.place 18 [])) ∷ (Syntax.intBig Syntax.w64 1024) ∷ []))
+b13 = Syntax.assign (Syntax.place 19 []) (Syntax.aggregate ((Syntax.copy (Syntax.place 18 [])) ∷ (Syntax.int Syntax.w64 768) ∷ []))
 abbrev b14 : Syntax.Body
 b14 = Syntax.call "combiner::combine" ((Syntax.copy (Syntax.place 1 [])) ∷ (Syntax.copy (Syntax.place 2 [])) ∷ (Syntax.copy (Syntax.place 3 [])) ∷
     (Syntax.copy (Syntax.place 4 [])) ∷ (Syntax.copy (Syntax.place 5 [])) ∷ (Syntax.copy (Syntax.place 13 [])) ∷ (Syntax.copy (Syntax.place 15 [])) ∷
@@ -317,13 +317,13 @@ t2 = e0a ∷ e1a ∷ e2a ∷ (3, Rows'.any-gone y15) ∷ e4 ∷ e5 ∷ e6 ∷ e7
 abbrev pub t3 : List Row.Entry
 t3 = e0 ∷ e1 ∷ e2 ∷ e3 ∷ e4 ∷ e5 ∷ e6 ∷ e7 ∷ e8 ∷ e9 ∷ e10a ∷ e11 ∷ e12 ∷ e13 ∷ e14 ∷ e15 ∷ []
 abbrev pub t4 : List Row.Entry
-t4 = e0 ∷ e1 ∷ e2 ∷ e3 ∷ e4 ∷ e5 ∷ e6 ∷ (7, Rows'.whole (Array'.Array NodeRecordT.row 1024)) ∷ e8 ∷ e9 ∷ e10a ∷ e11 ∷ e12 ∷ e13 ∷ e14 ∷ e15 ∷ []
+t4 = e0 ∷ e1 ∷ e2 ∷ e3 ∷ e4 ∷ e5 ∷ e6 ∷ (7, Rows'.whole (Array'.Array NodeRecordT.row 768)) ∷ e8 ∷ e9 ∷ e10a ∷ e11 ∷ e12 ∷ e13 ∷ e14 ∷ e15 ∷ []
 abbrev pub t5 : List Row.Entry
 t5 = e0 ∷ e1 ∷ e2 ∷ e3 ∷ e4 ∷ e5 ∷ e6 ∷ e7a ∷ e8 ∷ e9 ∷ e10a ∷ e11 ∷ e12 ∷ e13 ∷ e14 ∷ e15 ∷ []
 abbrev pub t6 : List Row.Entry
 t6 = e0 ∷ e1 ∷ e2 ∷ e3 ∷ e4 ∷ e5 ∷ e6 ∷ e7a ∷ e8 ∷ e9 ∷ e10 ∷ e11 ∷ e12 ∷ e13 ∷ e14 ∷ e15 ∷ []
 abbrev pub t7 : List Row.Entry
-t7 = e0 ∷ e1 ∷ e2 ∷ e3 ∷ e4 ∷ e5 ∷ e6 ∷ e7a ∷ (8, Rows'.whole (Array'.Array NodeRecordT.row 1024)) ∷ e9 ∷ e10a ∷ e11 ∷ e12 ∷ e13 ∷ e14 ∷ e15 ∷ []
+t7 = e0 ∷ e1 ∷ e2 ∷ e3 ∷ e4 ∷ e5 ∷ e6 ∷ e7a ∷ (8, Rows'.whole (Array'.Array NodeRecordT.row 768)) ∷ e9 ∷ e10a ∷ e11 ∷ e12 ∷ e13 ∷ e14 ∷ e15 ∷ []
 abbrev pub t8 : List Row.Entry
 t8 = e0 ∷ e1 ∷ e2 ∷ e3 ∷ e4 ∷ e5 ∷ e6 ∷ e7a ∷ e8a ∷ e9 ∷ e10a ∷ e11 ∷ e12 ∷ e13 ∷ e14 ∷ e15 ∷ []
 abbrev pub t9 : List Row.Entry
@@ -331,7 +331,7 @@ t9 = e0 ∷ e1 ∷ e2 ∷ e3 ∷ e4 ∷ e5 ∷ e6 ∷ e7a ∷ e8a ∷ e9 ∷ e10
 abbrev pub t10 : List Row.Entry
 t10 = e0 ∷ e1 ∷ e2 ∷ e3 ∷ e4 ∷ e5 ∷ e6 ∷ e7a ∷ e8a ∷ e9 ∷ e10 ∷ e11a ∷ e12 ∷ e13 ∷ e14 ∷ e15 ∷ []
 abbrev pub t11 : List Row.Entry
-t11 = e0 ∷ e1 ∷ e2 ∷ e3 ∷ e4 ∷ e5 ∷ e6 ∷ e7a ∷ e8a ∷ (9, Rows'.whole (Array'.Array WriterRecordT.row 1024)) ∷ e10 ∷ e11a ∷ e12 ∷ e13 ∷ e14 ∷ e15 ∷ []
+t11 = e0 ∷ e1 ∷ e2 ∷ e3 ∷ e4 ∷ e5 ∷ e6 ∷ e7a ∷ e8a ∷ (9, Rows'.whole (Array'.Array WriterRecordT.row 768)) ∷ e10 ∷ e11a ∷ e12 ∷ e13 ∷ e14 ∷ e15 ∷ []
 abbrev pub t12 : List Row.Entry
 t12 = e0 ∷ e1 ∷ e2 ∷ e3 ∷ e4 ∷ e5 ∷ e6 ∷ e7a ∷ e8a ∷ e9a ∷ e10 ∷ e11a ∷ e12 ∷ e13 ∷ e14 ∷ e15 ∷ []
 abbrev pub t13 : List Row.Entry
@@ -392,25 +392,25 @@ module _ (claims· : Claims) where
   abbrev s3 : (bs : List Nat.ℕ) → Typed.Both (cx t0 t1) (cx t3 t1)
   s3 = λ bs. Call.callB ps·0 r·0 (claims· .0) (claims· .1) (cx t0 t1) tt 10 [] NodeRecordT.value
   abbrev s4 : (bs : List Nat.ℕ) → Typed.Mo (cx t3 t1) → Typed.Mo (cx t4 t1)
-  s4 = λ bs. Repeat.n-repeat NodeRecordT.row 1024 (cx t3 t1) 7 λ m. m .1 .1 .1 .1 .1 .1 .1 .1 .1 .1 .0
+  s4 = λ bs. Repeat.n-repeat NodeRecordT.row 768 (cx t3 t1) 7 λ m. m .1 .1 .1 .1 .1 .1 .1 .1 .1 .1 .0
   abbrev s5 : (bs : List Nat.ℕ) → Typed.Mo (cx t4 t1) → Typed.Mo (cx t5 t1)
-  s5 = λ bs. AtSlots.n-as-by (cx t4 t1) 7 (Rows.arrF NodeRecordT.row 1024 0) λ x. x
+  s5 = λ bs. AtSlots.n-as-by (cx t4 t1) 7 (Rows.arrF NodeRecordT.row 768 0) λ x. x
   abbrev s6 : (bs : List Nat.ℕ) → Typed.Mo (cx t5 t1) → Typed.Mo (cx t6 t1)
   s6 = λ bs. Scalar.n-room (cx t5 t1) 10 NodeRecordT.value
   abbrev s7 : (bs : List Nat.ℕ) → Typed.Both (cx t6 t1) (cx t5 t1)
   s7 = λ bs. Call.callB ps·0 r·0 (claims· .0) (claims· .1) (cx t6 t1) tt 10 [] NodeRecordT.value
   abbrev s8 : (bs : List Nat.ℕ) → Typed.Mo (cx t5 t1) → Typed.Mo (cx t7 t1)
-  s8 = λ bs. Repeat.n-repeat NodeRecordT.row 1024 (cx t5 t1) 8 λ m. m .1 .1 .1 .1 .1 .1 .1 .1 .1 .1 .0
+  s8 = λ bs. Repeat.n-repeat NodeRecordT.row 768 (cx t5 t1) 8 λ m. m .1 .1 .1 .1 .1 .1 .1 .1 .1 .1 .0
   abbrev s9 : (bs : List Nat.ℕ) → Typed.Mo (cx t7 t1) → Typed.Mo (cx t8 t1)
-  s9 = λ bs. AtSlots.n-as-by (cx t7 t1) 8 (Rows.arrF NodeRecordT.row 1024 0) λ x. x
+  s9 = λ bs. AtSlots.n-as-by (cx t7 t1) 8 (Rows.arrF NodeRecordT.row 768 0) λ x. x
   abbrev s10 : (bs : List Nat.ℕ) → Typed.Mo (cx t8 t1) → Typed.Mo (cx t9 t1)
   s10 = λ bs. Scalar.n-room (cx t8 t1) 10 NodeRecordT.value
   abbrev s11 : (bs : List Nat.ℕ) → Typed.Both (cx t9 t1) (cx t10 t1)
   s11 = λ bs. Call.callB ps·1 r·1 (claims· .2) (claims· .3) (cx t9 t1) tt 11 [] WriterRecordT.value
   abbrev s12 : (bs : List Nat.ℕ) → Typed.Mo (cx t10 t1) → Typed.Mo (cx t11 t1)
-  s12 = λ bs. Repeat.n-repeat WriterRecordT.row 1024 (cx t10 t1) 9 λ m. m .1 .1 .1 .1 .1 .1 .1 .1 .1 .1 .1 .0
+  s12 = λ bs. Repeat.n-repeat WriterRecordT.row 768 (cx t10 t1) 9 λ m. m .1 .1 .1 .1 .1 .1 .1 .1 .1 .1 .1 .0
   abbrev s13 : (bs : List Nat.ℕ) → Typed.Mo (cx t11 t1) → Typed.Mo (cx t12 t1)
-  s13 = λ bs. AtSlots.n-as-by (cx t11 t1) 9 (Rows.arrF WriterRecordT.row 1024 0) λ x. x
+  s13 = λ bs. AtSlots.n-as-by (cx t11 t1) 9 (Rows.arrF WriterRecordT.row 768 0) λ x. x
   abbrev s14 : (bs : List Nat.ℕ) → Typed.Mo (cx t12 t1) → Typed.Mo (cx t13 t1)
   s14 = λ bs. Scalar.n-room (cx t12 t1) 11 WriterRecordT.value
   abbrev s16 : (bs : List Nat.ℕ) → Typed.Gives (cx t13 t1) (cx t14 t1)
@@ -419,20 +419,20 @@ module _ (claims· : Claims) where
   s17 = λ bs. Relend.k-sl-aggregate (Referent.rtF (Referent.fInt Syntax.w8)) (Relend.asMut (Referent.rtF (Referent.fInt Syntax.w8))) (cx t14 t1) 12 13 3 y3 y3
       (λ x. x) (Scalar.oFld 6 ((Syntax.field 1) ∷ []) y4 8 λ v. Shared.lenV (v .0))
   abbrev s19 : (bs : List Nat.ℕ) → Typed.Gives (cx t15 t1) (cx t16 t1)
-  s19 = λ bs. Borrow.k-arr-borrow NodeRecordT.row (cx t15 t1) (Row.hd 0 (Row.tl (Row.tl (Row.tl (Row.tl (Row.tl (Row.tl (Row.tl bs)))))))) 7 14 1024 4 y7 λ x.
+  s19 = λ bs. Borrow.k-arr-borrow NodeRecordT.row (cx t15 t1) (Row.hd 0 (Row.tl (Row.tl (Row.tl (Row.tl (Row.tl (Row.tl (Row.tl bs)))))))) 7 14 768 4 y7 λ x.
       x
   abbrev s20 : (bs : List Nat.ℕ) → Typed.Asks (cx t16 t1) (cx t17 t1)
-  s20 = λ bs. Relend.k-sl-aggregate NodeRecordT.row (Relend.asMut NodeRecordT.row) (cx t16 t1) 14 15 4 y7 y8 (λ x. x) (Scalar.oBig Syntax.w64 1024)
+  s20 = λ bs. Relend.k-sl-aggregate NodeRecordT.row (Relend.asMut NodeRecordT.row) (cx t16 t1) 14 15 4 y7 y8 (λ x. x) (Scalar.oInt Syntax.w64 768)
   abbrev s22 : (bs : List Nat.ℕ) → Typed.Gives (cx t17 t1) (cx t18 t19)
-  s22 = λ bs. Borrow.k-arr-borrow NodeRecordT.row (cx t17 t1) (Row.hd 0 (Row.tl (Row.tl (Row.tl (Row.tl (Row.tl (Row.tl (Row.tl (Row.tl bs))))))))) 8 16 1024
-      5 y7 λ x. x
+  s22 = λ bs. Borrow.k-arr-borrow NodeRecordT.row (cx t17 t1) (Row.hd 0 (Row.tl (Row.tl (Row.tl (Row.tl (Row.tl (Row.tl (Row.tl (Row.tl bs))))))))) 8 16 768 5
+      y7 λ x. x
   abbrev s23 : (bs : List Nat.ℕ) → Typed.Asks (cx t18 t19) (cx t18 t20)
-  s23 = λ bs. Relend.k-sl-aggregate NodeRecordT.row (Relend.asMut NodeRecordT.row) (cx t18 t19) 16 17 5 y7 y8 (λ x. x) (Scalar.oBig Syntax.w64 1024)
+  s23 = λ bs. Relend.k-sl-aggregate NodeRecordT.row (Relend.asMut NodeRecordT.row) (cx t18 t19) 16 17 5 y7 y8 (λ x. x) (Scalar.oInt Syntax.w64 768)
   abbrev s25 : (bs : List Nat.ℕ) → Typed.Gives (cx t18 t20) (cx t21 t22)
   s25 = λ bs. Borrow.k-arr-borrow WriterRecordT.row (cx t18 t20) (Row.hd 0 (Row.tl (Row.tl (Row.tl (Row.tl (Row.tl (Row.tl (Row.tl (Row.tl (Row.tl
-      bs)))))))))) 9 18 1024 6 y11 λ x. x
+      bs)))))))))) 9 18 768 6 y11 λ x. x
   abbrev s26 : (bs : List Nat.ℕ) → Typed.Asks (cx t21 t22) (cx t21 t23)
-  s26 = λ bs. Relend.k-sl-aggregate WriterRecordT.row (Relend.asMut WriterRecordT.row) (cx t21 t22) 18 19 6 y11 y12 (λ x. x) (Scalar.oBig Syntax.w64 1024)
+  s26 = λ bs. Relend.k-sl-aggregate WriterRecordT.row (Relend.asMut WriterRecordT.row) (cx t21 t22) 18 19 6 y11 y12 (λ x. x) (Scalar.oInt Syntax.w64 768)
   abbrev s27 : (bs : List Nat.ℕ) → Typed.Both (cx t21 t23) (cx t24 t25)
   s27 = λ bs. Call.callB ps·2 r·2 (claims· .4) (claims· .5) (cx t21 t23) (Num.vAt 1 λ x. x, (Num.vAt 2 λ x. x, (Num.vAt 3 λ x. x, (record { pos = 4; ty = y20;
       ref = λ x. x }, (record { pos = 5; ty = y21; ref = λ x. x }, (record { pos = 13; ty = y3; ref = λ x. x }, (record { pos = 15; ty = y8; ref = λ x. x },
@@ -442,15 +442,15 @@ module _ (claims· : Claims) where
   abbrev s30 : (bs : List Nat.ℕ) → Typed.Gives (cx t26 t25) (cx t26 t25)
   s30 = λ bs. Know.k-sl-known (Referent.fInt Syntax.w8) (cx t26 t25) 6 2 y22 Row.off 0 λ x. x
   abbrev s33 : (bs : List Nat.ℕ) → Typed.Both (cx t26 t25) (cx t27 t25)
-  s33 = λ bs. Borrow.k-back-arr NodeRecordT.row (cx t26 t25) 15 7 4 1024 y8 (λ x. x) λ x. x
+  s33 = λ bs. Borrow.k-back-arr NodeRecordT.row (cx t26 t25) 15 7 4 768 y8 (λ x. x) λ x. x
   abbrev s35 : (bs : List Nat.ℕ) → Typed.Mo (cx t27 t25) → Typed.Mo (cx t28 t25)
   s35 = λ bs. Scalar.n-room (cx t27 t25) 7 y0
   abbrev s37 : (bs : List Nat.ℕ) → Typed.Both (cx t28 t25) (cx t29 t30)
-  s37 = λ bs. Borrow.k-back-arr NodeRecordT.row (cx t28 t25) 17 8 5 1024 y8 (λ x. x) λ x. x
+  s37 = λ bs. Borrow.k-back-arr NodeRecordT.row (cx t28 t25) 17 8 5 768 y8 (λ x. x) λ x. x
   abbrev s39 : (bs : List Nat.ℕ) → Typed.Mo (cx t29 t30) → Typed.Mo (cx t31 t30)
   s39 = λ bs. Scalar.n-room (cx t29 t30) 8 y0
   abbrev s41 : (bs : List Nat.ℕ) → Typed.Both (cx t31 t30) (cx t32 t1)
-  s41 = λ bs. Borrow.k-back-arr WriterRecordT.row (cx t31 t30) 19 9 6 1024 y12 (λ x. x) λ x. x
+  s41 = λ bs. Borrow.k-back-arr WriterRecordT.row (cx t31 t30) 19 9 6 768 y12 (λ x. x) λ x. x
   abbrev s43 : (bs : List Nat.ℕ) → Typed.Mo (cx t32 t1) → Typed.Mo (cx t33 t1)
   s43 = λ bs. Scalar.n-room (cx t32 t1) 9 y1
   abbrev s44 : (bs : List Nat.ℕ) → Typed.Mo (cx t33 t1) → Typed.Mo (cx t34 t1)
@@ -640,39 +640,39 @@ module _ (claims· : Claims) where
               (gx t33 t1 l0) 1 y15 (Scalar.room-sc 𝓤 H A W (Row.sInt Syntax.w32))) d2
           d4 : Typed.Typed 𝓤 H A 𝓣 E (gx t32 t1 l0) b15 Δ0 (at4 bs)
           d4 = Typed.g-pre 𝓤 H A W 𝓣 E (gx t32 t1 l0) (gx t33 t1 l0) b15 Δ0 (Typed.pass (cx t32 t1) (cx t33 t1) (s43 bs)) (at3 bs) (Scalar.g-room 𝓤 H A W E
-              (gx t32 t1 l0) 9 y1 (Init.room-arr 𝓤 H A W WriterRecordT.row 1024 0 1024 Path'.refl)) d3
+              (gx t32 t1 l0) 9 y1 (Init.room-arr 𝓤 H A W WriterRecordT.row 768 0 768 Path'.refl)) d3
           d5 : Typed.Typed 𝓤 H A 𝓣 E (gx t32 t1 l13) b15 Δ0 (at5 bs)
           d5 = Typed.g-pre 𝓤 H A W 𝓣 E (gx t32 t1 l13) (gx t32 t1 l0) b15 Δ0 (λ Ψ. Ψ) (at4 bs) (Lifetime.g-forget 𝓤 H A W E (gx t32 t1 l13) 6 Row.dead
               Path'.refl) d4
           d6 : Typed.Typed 𝓤 H A 𝓣 E (gx t31 t30 l13) b15 Δ0 (at6 bs)
           d6 = Typed.g-pre 𝓤 H A W 𝓣 E (gx t31 t30 l13) (gx t32 t1 l13) b15 Δ0 (Typed.both (s41 bs)) (at5 bs) (Borrow.g-back-arr 𝓤 H A W E WriterRecordT.row
-              (gx t31 t30 l13) 19 9 6 1024 y12 (λ x. x) (λ x. x) (Reads.as-is 𝓤 H A (Mut.msleft WriterRecordT.row y12)) (Reads.as-is 𝓤 H A (Rows.arr-owed
-              WriterRecordT.row 1024 6)) Path'.refl) d5
+              (gx t31 t30 l13) 19 9 6 768 y12 (λ x. x) (λ x. x) (Reads.as-is 𝓤 H A (Mut.msleft WriterRecordT.row y12)) (Reads.as-is 𝓤 H A (Rows.arr-owed
+              WriterRecordT.row 768 6)) Path'.refl) d5
           d7 : Typed.Typed 𝓤 H A 𝓣 E (gx t31 t30 l12) b15 Δ0 (at7 bs)
           d7 = Typed.g-pre 𝓤 H A W 𝓣 E (gx t31 t30 l12) (gx t31 t30 l13) b15 Δ0 (λ Ψ. Ψ) (at6 bs) (Lifetime.g-end 𝓤 H A W E (gx t31 t30 l12) 6 Path'.refl) d6
           d8 : Typed.Typed 𝓤 H A 𝓣 E (gx t29 t30 l12) b15 Δ0 (at8 bs)
           d8 = Typed.g-pre 𝓤 H A W 𝓣 E (gx t29 t30 l12) (gx t31 t30 l12) b15 Δ0 (Typed.pass (cx t29 t30) (cx t31 t30) (s39 bs)) (at7 bs) (Scalar.g-room 𝓤 H A
-              W E (gx t29 t30 l12) 8 y0 (Init.room-arr 𝓤 H A W NodeRecordT.row 1024 0 1024 Path'.refl)) d7
+              W E (gx t29 t30 l12) 8 y0 (Init.room-arr 𝓤 H A W NodeRecordT.row 768 0 768 Path'.refl)) d7
           d9 : Typed.Typed 𝓤 H A 𝓣 E (gx t29 t30 l11) b15 Δ0 (at9 bs)
           d9 = Typed.g-pre 𝓤 H A W 𝓣 E (gx t29 t30 l11) (gx t29 t30 l12) b15 Δ0 (λ Ψ. Ψ) (at8 bs) (Lifetime.g-forget 𝓤 H A W E (gx t29 t30 l11) 5 Row.dead
               Path'.refl) d8
           d10 : Typed.Typed 𝓤 H A 𝓣 E (gx t28 t25 l11) b15 Δ0 (at10 bs)
           d10 = Typed.g-pre 𝓤 H A W 𝓣 E (gx t28 t25 l11) (gx t29 t30 l11) b15 Δ0 (Typed.both (s37 bs)) (at9 bs) (Borrow.g-back-arr 𝓤 H A W E NodeRecordT.row
-              (gx t28 t25 l11) 17 8 5 1024 y8 (λ x. x) (λ x. x) (Reads.as-is 𝓤 H A (Mut.msleft NodeRecordT.row y8)) (Reads.as-is 𝓤 H A (Rows.arr-owed
-              NodeRecordT.row 1024 5)) Path'.refl) d9
+              (gx t28 t25 l11) 17 8 5 768 y8 (λ x. x) (λ x. x) (Reads.as-is 𝓤 H A (Mut.msleft NodeRecordT.row y8)) (Reads.as-is 𝓤 H A (Rows.arr-owed
+              NodeRecordT.row 768 5)) Path'.refl) d9
           d11 : Typed.Typed 𝓤 H A 𝓣 E (gx t28 t25 l10) b15 Δ0 (at11 bs)
           d11 = Typed.g-pre 𝓤 H A W 𝓣 E (gx t28 t25 l10) (gx t28 t25 l11) b15 Δ0 (λ Ψ. Ψ) (at10 bs) (Lifetime.g-end 𝓤 H A W E (gx t28 t25 l10) 5 Path'.refl)
               d10
           d12 : Typed.Typed 𝓤 H A 𝓣 E (gx t27 t25 l10) b15 Δ0 (at12 bs)
           d12 = Typed.g-pre 𝓤 H A W 𝓣 E (gx t27 t25 l10) (gx t28 t25 l10) b15 Δ0 (Typed.pass (cx t27 t25) (cx t28 t25) (s35 bs)) (at11 bs) (Scalar.g-room 𝓤 H
-              A W E (gx t27 t25 l10) 7 y0 (Init.room-arr 𝓤 H A W NodeRecordT.row 1024 0 1024 Path'.refl)) d11
+              A W E (gx t27 t25 l10) 7 y0 (Init.room-arr 𝓤 H A W NodeRecordT.row 768 0 768 Path'.refl)) d11
           d13 : Typed.Typed 𝓤 H A 𝓣 E (gx t27 t25 l9) b15 Δ0 (at13 bs)
           d13 = Typed.g-pre 𝓤 H A W 𝓣 E (gx t27 t25 l9) (gx t27 t25 l10) b15 Δ0 (λ Ψ. Ψ) (at12 bs) (Lifetime.g-forget 𝓤 H A W E (gx t27 t25 l9) 4 Row.dead
               Path'.refl) d12
           d14 : Typed.Typed 𝓤 H A 𝓣 E (gx t26 t25 l9) b15 Δ0 (at14 bs)
           d14 = Typed.g-pre 𝓤 H A W 𝓣 E (gx t26 t25 l9) (gx t27 t25 l9) b15 Δ0 (Typed.both (s33 bs)) (at13 bs) (Borrow.g-back-arr 𝓤 H A W E NodeRecordT.row
-              (gx t26 t25 l9) 15 7 4 1024 y8 (λ x. x) (λ x. x) (Reads.as-is 𝓤 H A (Mut.msleft NodeRecordT.row y8)) (Reads.as-is 𝓤 H A (Rows.arr-owed
-              NodeRecordT.row 1024 4)) Path'.refl) d13
+              (gx t26 t25 l9) 15 7 4 768 y8 (λ x. x) (λ x. x) (Reads.as-is 𝓤 H A (Mut.msleft NodeRecordT.row y8)) (Reads.as-is 𝓤 H A (Rows.arr-owed
+              NodeRecordT.row 768 4)) Path'.refl) d13
           d15 : Typed.Typed 𝓤 H A 𝓣 E (gx t26 t25 l8) b15 Δ0 (at15 bs)
           d15 = Typed.g-pre 𝓤 H A W 𝓣 E (gx t26 t25 l8) (gx t26 t25 l9) b15 Δ0 (λ Ψ. Ψ) (at14 bs) (Lifetime.g-end 𝓤 H A W E (gx t26 t25 l8) 4 Path'.refl) d14
           d16 : Typed.Typed 𝓤 H A 𝓣 E (gx t26 t25 l7) b15 Δ0 (at16 bs)
@@ -704,36 +704,33 @@ module _ (claims· : Claims) where
               Path'.refl, tt))))))))) (Reads.room-gone 𝓤 H A y19) (tt, (tt, (tt, (tt, (tt, (tt, tt)))))) Path'.refl) d19
           d21 : Typed.Typed 𝓤 H A 𝓣 E (gx g21 t22 l5) b17 Δ0 (at21 bs)
           d21 = Typed.s-seq 𝓤 H A W 𝓣 E (gx g21 t22 l5) (gx g21 t23 l5) b13 b16 Δ0 (Typed.ask (s26 bs)) (at20 bs) (Relend.t-sl-aggregate 𝓤 H A W E
-              WriterRecordT.row 𝓣 (Relend.asMut WriterRecordT.row) (gx g21 t22 l5) 18 19 6 y11 y12 (λ x. x) (Scalar.oBig Syntax.w64 1024) (Reads.as-is 𝓤 H A
-              (Relend.msptr WriterRecordT.row y11 6)) (Reads.room-gone 𝓤 H A y13) record { lower = record { fits = Dec'.lit< tt } } Path'.refl Path'.refl λ b
-              o k. tt) d20
+              WriterRecordT.row 𝓣 (Relend.asMut WriterRecordT.row) (gx g21 t22 l5) 18 19 6 y11 y12 (λ x. x) (Scalar.oInt Syntax.w64 768) (Reads.as-is 𝓤 H A
+              (Relend.msptr WriterRecordT.row y11 6)) (Reads.room-gone 𝓤 H A y13) tt Path'.refl Path'.refl λ b o k. tt) d20
           d22 : Typed.Typed 𝓤 H A 𝓣 E (gx g18 t20 l5) b18 Δ0 (at22 bs)
           d22 = Typed.s-seq 𝓤 H A W 𝓣 E (gx g18 t20 l5) (gx g21 t22 l5) b12 b17 Δ0 (Typed.give (s25 bs)) (at21 bs) (Borrow.t-arr-borrow 𝓤 H A W E 𝓣
-              WriterRecordT.row (gx g18 t20 l5) 9 18 1024 6 y11 (λ x. x) (Reads.as-is 𝓤 H A (Rows.arrF WriterRecordT.row 1024 0)) (Reads.room-gone 𝓤 H A y11)
+              WriterRecordT.row (gx g18 t20 l5) 9 18 768 6 y11 (λ x. x) (Reads.as-is 𝓤 H A (Rows.arrF WriterRecordT.row 768 0)) (Reads.room-gone 𝓤 H A y11)
               Path'.refl (λ b o. tt) (Dec'.lit< tt, Dec'.lit< tt)) d21
           d23 : Typed.Typed 𝓤 H A 𝓣 E (gx g18 t20 l4) b18 Δ0 (at23 bs)
           d23 = Typed.g-pre 𝓤 H A W 𝓣 E (gx g18 t20 l4) (gx g18 t20 l5) b18 Δ0 (λ Ψ. Ψ) (at22 bs) (Lifetime.g-begin 𝓤 H A W E (gx g18 t20 l4) 6 (tt, (tt, (tt,
               (tt, (tt, (tt, ((tt, tt), (tt, (tt, (tt, (tt, (tt, (tt, (tt, (tt, (tt, (tt, (tt, (tt, (tt, tt))))))))))))))))))))) d22
           d24 : Typed.Typed 𝓤 H A 𝓣 E (gx g18 t19 l4) b19 Δ0 (at24 bs)
           d24 = Typed.s-seq 𝓤 H A W 𝓣 E (gx g18 t19 l4) (gx g18 t20 l4) b11 b18 Δ0 (Typed.ask (s23 bs)) (at23 bs) (Relend.t-sl-aggregate 𝓤 H A W E
-              NodeRecordT.row 𝓣 (Relend.asMut NodeRecordT.row) (gx g18 t19 l4) 16 17 5 y7 y8 (λ x. x) (Scalar.oBig Syntax.w64 1024) (Reads.as-is 𝓤 H A
-              (Relend.msptr NodeRecordT.row y7 5)) (Reads.room-gone 𝓤 H A y9) record { lower = record { fits = Dec'.lit< tt } } Path'.refl Path'.refl λ b o k.
-              tt) d23
+              NodeRecordT.row 𝓣 (Relend.asMut NodeRecordT.row) (gx g18 t19 l4) 16 17 5 y7 y8 (λ x. x) (Scalar.oInt Syntax.w64 768) (Reads.as-is 𝓤 H A
+              (Relend.msptr NodeRecordT.row y7 5)) (Reads.room-gone 𝓤 H A y9) tt Path'.refl Path'.refl λ b o k. tt) d23
           d25 : Typed.Typed 𝓤 H A 𝓣 E (gx g17 t1 l4) b20 Δ0 (at25 bs)
           d25 = Typed.s-seq 𝓤 H A W 𝓣 E (gx g17 t1 l4) (gx g18 t19 l4) b10 b19 Δ0 (Typed.give (s22 bs)) (at24 bs) (Borrow.t-arr-borrow 𝓤 H A W E 𝓣
-              NodeRecordT.row (gx g17 t1 l4) 8 16 1024 5 y7 (λ x. x) (Reads.as-is 𝓤 H A (Rows.arrF NodeRecordT.row 1024 0)) (Reads.room-gone 𝓤 H A y7)
+              NodeRecordT.row (gx g17 t1 l4) 8 16 768 5 y7 (λ x. x) (Reads.as-is 𝓤 H A (Rows.arrF NodeRecordT.row 768 0)) (Reads.room-gone 𝓤 H A y7)
               Path'.refl (λ b o. tt) (Dec'.lit< tt, Dec'.lit< tt)) d24
           d26 : Typed.Typed 𝓤 H A 𝓣 E (gx g17 t1 l3) b20 Δ0 (at26 bs)
           d26 = Typed.g-pre 𝓤 H A W 𝓣 E (gx g17 t1 l3) (gx g17 t1 l4) b20 Δ0 (λ Ψ. Ψ) (at25 bs) (Lifetime.g-begin 𝓤 H A W E (gx g17 t1 l3) 5 (tt, (tt, (tt,
               (tt, (tt, (tt, ((tt, tt), (tt, (tt, (tt, (tt, (tt, (tt, (tt, (tt, (tt, (tt, (tt, (tt, (tt, tt))))))))))))))))))))) d25
           d27 : Typed.Typed 𝓤 H A 𝓣 E (gx g16 t1 l3) b21 Δ0 (at27 bs)
           d27 = Typed.s-seq 𝓤 H A W 𝓣 E (gx g16 t1 l3) (gx g17 t1 l3) b9 b20 Δ0 (Typed.ask (s20 bs)) (at26 bs) (Relend.t-sl-aggregate 𝓤 H A W E
-              NodeRecordT.row 𝓣 (Relend.asMut NodeRecordT.row) (gx g16 t1 l3) 14 15 4 y7 y8 (λ x. x) (Scalar.oBig Syntax.w64 1024) (Reads.as-is 𝓤 H A
-              (Relend.msptr NodeRecordT.row y7 4)) (Reads.room-gone 𝓤 H A y9) record { lower = record { fits = Dec'.lit< tt } } Path'.refl Path'.refl λ b o k.
-              tt) d26
+              NodeRecordT.row 𝓣 (Relend.asMut NodeRecordT.row) (gx g16 t1 l3) 14 15 4 y7 y8 (λ x. x) (Scalar.oInt Syntax.w64 768) (Reads.as-is 𝓤 H A
+              (Relend.msptr NodeRecordT.row y7 4)) (Reads.room-gone 𝓤 H A y9) tt Path'.refl Path'.refl λ b o k. tt) d26
           d28 : Typed.Typed 𝓤 H A 𝓣 E (gx g15 t1 l3) b22 Δ0 (at28 bs)
           d28 = Typed.s-seq 𝓤 H A W 𝓣 E (gx g15 t1 l3) (gx g16 t1 l3) b8 b21 Δ0 (Typed.give (s19 bs)) (at27 bs) (Borrow.t-arr-borrow 𝓤 H A W E 𝓣
-              NodeRecordT.row (gx g15 t1 l3) 7 14 1024 4 y7 (λ x. x) (Reads.as-is 𝓤 H A (Rows.arrF NodeRecordT.row 1024 0)) (Reads.room-gone 𝓤 H A y7)
+              NodeRecordT.row (gx g15 t1 l3) 7 14 768 4 y7 (λ x. x) (Reads.as-is 𝓤 H A (Rows.arrF NodeRecordT.row 768 0)) (Reads.room-gone 𝓤 H A y7)
               Path'.refl (λ b o. tt) (Dec'.lit< tt, Dec'.lit< tt)) d27
           d29 : Typed.Typed 𝓤 H A 𝓣 E (gx g15 t1 l2) b22 Δ0 (at29 bs)
           d29 = Typed.g-pre 𝓤 H A W 𝓣 E (gx g15 t1 l2) (gx g15 t1 l3) b22 Δ0 (λ Ψ. Ψ) (at28 bs) (Lifetime.g-begin 𝓤 H A W E (gx g15 t1 l2) 4 (tt, (tt, (tt,
@@ -756,14 +753,14 @@ module _ (claims· : Claims) where
               (gx t12 t1 l0) 11 WriterRecordT.value (Local.room-whole 𝓤 H A W WriterRecordT.row WriterRecordT.value Path'.refl)) d32
           d34 : Typed.Typed 𝓤 H A 𝓣 E (gx t11 t1 l0) b24 Δ0 (at34 bs)
           d34 = Typed.g-pre 𝓤 H A W 𝓣 E (gx t11 t1 l0) (gx t12 t1 l0) b24 Δ0 (Typed.pass (cx t11 t1) (cx t12 t1) (s13 bs)) (at33 bs) (AtSlots.g-as-by 𝓤 H A W
-              E (λ ρ. Unit) (gx t11 t1 l0) 9 (Rows.arrF WriterRecordT.row 1024 0) (λ x. x) (Own.told-none 𝓤 H A ((gx t11 t1 l0) .slots)) λ ρ told.
-              Repeat.whole-arr 𝓤 H A W WriterRecordT.row 1024 tt ρ) d33
+              E (λ ρ. Unit) (gx t11 t1 l0) 9 (Rows.arrF WriterRecordT.row 768 0) (λ x. x) (Own.told-none 𝓤 H A ((gx t11 t1 l0) .slots)) λ ρ told.
+              Repeat.whole-arr 𝓤 H A W WriterRecordT.row 768 tt ρ) d33
           d35 : Typed.Typed 𝓤 H A 𝓣 E (gx t10 t1 l0) b25 Δ0 (at35 bs)
           d35 = Typed.s-seq 𝓤 H A W 𝓣 E (gx t10 t1 l0) (gx t11 t1 l0) b5 b24 Δ0 (Typed.pass (cx t10 t1) (cx t11 t1) (s12 bs)) (at34 bs) (Repeat.t-repeat-by 𝓤
-              H A W E 𝓣 WriterRecordT.row (Laws′.lawful WriterRecord.the-type Laws′′.the-laws 𝓤 H A W) (WriterRecordT.copies .copy 𝓤 H A W) 1024 (gx t10 t1
-              l0) 9 (Scalar.oAt 11 WriterRecordT.value λ x. Steps.only (WriterRecordT.copies .vals x)) (λ m. m .1 .1 .1 .1 .1 .1 .1 .1 .1 .1 .1 .0) (λ ρ.
-              Unit) (Reads.room-gone 𝓤 H A y1) (Reads′.reads-struct 𝓤 H A W WriterRecord.the-type Laws′′.the-laws, Path'.refl) Path'.refl (Own.told-none 𝓤 H A
-              ((gx t10 t1 l0) .slots)) λ ρ m pf wa. Gives.elem-local 𝓤 H A W E ρ WriterRecordT.row (λ x. Steps.only (WriterRecordT.copies .vals x))
+              H A W E 𝓣 WriterRecordT.row (Laws′.lawful WriterRecord.the-type Laws′′.the-laws 𝓤 H A W) (WriterRecordT.copies .copy 𝓤 H A W) 768 (gx t10 t1 l0)
+              9 (Scalar.oAt 11 WriterRecordT.value λ x. Steps.only (WriterRecordT.copies .vals x)) (λ m. m .1 .1 .1 .1 .1 .1 .1 .1 .1 .1 .1 .0) (λ ρ. Unit)
+              (Reads.room-gone 𝓤 H A y1) (Reads′.reads-struct 𝓤 H A W WriterRecord.the-type Laws′′.the-laws, Path'.refl) Path'.refl (Own.told-none 𝓤 H A ((gx
+              t10 t1 l0) .slots)) λ ρ m pf wa. Gives.elem-local 𝓤 H A W E ρ WriterRecordT.row (λ x. Steps.only (WriterRecordT.copies .vals x))
               (WriterRecordT.copies .tells) (Row.out 9 ((gx t10 t1 l0) .locals)) m (λ ρ. Unit) pf 11 WriterRecordT.value (λ x. x) (Yields.yields-copy 𝓤 H A W
               (λ ρ. Unit) WriterRecordT.row Path'.refl (WriterRecordT.copies .copy 𝓤 H A W) WriterRecordT.whole (λ x. x) (λ x. x) (λ ρ told. Local.mem-whole 𝓤
               H A W WriterRecordT.row ρ) λ ρ told. Local.whole-mem 𝓤 H A W WriterRecordT.row ρ)) d34
@@ -776,11 +773,11 @@ module _ (claims· : Claims) where
               t8 t1 l0) 10 NodeRecordT.value (Local.room-whole 𝓤 H A W NodeRecordT.row NodeRecordT.value Path'.refl)) d36
           d38 : Typed.Typed 𝓤 H A 𝓣 E (gx t7 t1 l0) b26 Δ0 (at38 bs)
           d38 = Typed.g-pre 𝓤 H A W 𝓣 E (gx t7 t1 l0) (gx t8 t1 l0) b26 Δ0 (Typed.pass (cx t7 t1) (cx t8 t1) (s9 bs)) (at37 bs) (AtSlots.g-as-by 𝓤 H A W E (λ
-              ρ. Unit) (gx t7 t1 l0) 8 (Rows.arrF NodeRecordT.row 1024 0) (λ x. x) (Own.told-none 𝓤 H A ((gx t7 t1 l0) .slots)) λ ρ told. Repeat.whole-arr 𝓤 H
-              A W NodeRecordT.row 1024 tt ρ) d37
+              ρ. Unit) (gx t7 t1 l0) 8 (Rows.arrF NodeRecordT.row 768 0) (λ x. x) (Own.told-none 𝓤 H A ((gx t7 t1 l0) .slots)) λ ρ told. Repeat.whole-arr 𝓤 H
+              A W NodeRecordT.row 768 tt ρ) d37
           d39 : Typed.Typed 𝓤 H A 𝓣 E (gx t5 t1 l0) b27 Δ0 (at39 bs)
           d39 = Typed.s-seq 𝓤 H A W 𝓣 E (gx t5 t1 l0) (gx t7 t1 l0) b3 b26 Δ0 (Typed.pass (cx t5 t1) (cx t7 t1) (s8 bs)) (at38 bs) (Repeat.t-repeat-by 𝓤 H A W
-              E 𝓣 NodeRecordT.row (Laws′.lawful NodeRecord.the-type Laws′′′.the-laws 𝓤 H A W) (NodeRecordT.copies .copy 𝓤 H A W) 1024 (gx t5 t1 l0) 8
+              E 𝓣 NodeRecordT.row (Laws′.lawful NodeRecord.the-type Laws′′′.the-laws 𝓤 H A W) (NodeRecordT.copies .copy 𝓤 H A W) 768 (gx t5 t1 l0) 8
               (Scalar.oAt 10 NodeRecordT.value λ x. Steps.only (NodeRecordT.copies .vals x)) (λ m. m .1 .1 .1 .1 .1 .1 .1 .1 .1 .1 .0) (λ ρ. Unit)
               (Reads.room-gone 𝓤 H A y0) (Reads′.reads-struct 𝓤 H A W NodeRecord.the-type Laws′′′.the-laws, Path'.refl) Path'.refl (Own.told-none 𝓤 H A ((gx
               t5 t1 l0) .slots)) λ ρ m pf wa. Gives.elem-local 𝓤 H A W E ρ NodeRecordT.row (λ x. Steps.only (NodeRecordT.copies .vals x)) (NodeRecordT.copies
@@ -796,11 +793,11 @@ module _ (claims· : Claims) where
               t5 t1 l0) 10 NodeRecordT.value (Local.room-whole 𝓤 H A W NodeRecordT.row NodeRecordT.value Path'.refl)) d40
           d42 : Typed.Typed 𝓤 H A 𝓣 E (gx t4 t1 l0) b28 Δ0 (at42 bs)
           d42 = Typed.g-pre 𝓤 H A W 𝓣 E (gx t4 t1 l0) (gx t5 t1 l0) b28 Δ0 (Typed.pass (cx t4 t1) (cx t5 t1) (s5 bs)) (at41 bs) (AtSlots.g-as-by 𝓤 H A W E (λ
-              ρ. Unit) (gx t4 t1 l0) 7 (Rows.arrF NodeRecordT.row 1024 0) (λ x. x) (Own.told-none 𝓤 H A ((gx t4 t1 l0) .slots)) λ ρ told. Repeat.whole-arr 𝓤 H
-              A W NodeRecordT.row 1024 tt ρ) d41
+              ρ. Unit) (gx t4 t1 l0) 7 (Rows.arrF NodeRecordT.row 768 0) (λ x. x) (Own.told-none 𝓤 H A ((gx t4 t1 l0) .slots)) λ ρ told. Repeat.whole-arr 𝓤 H
+              A W NodeRecordT.row 768 tt ρ) d41
           d43 : Typed.Typed 𝓤 H A 𝓣 E (gx t3 t1 l0) b29 Δ0 (at43 bs)
           d43 = Typed.s-seq 𝓤 H A W 𝓣 E (gx t3 t1 l0) (gx t4 t1 l0) b1 b28 Δ0 (Typed.pass (cx t3 t1) (cx t4 t1) (s4 bs)) (at42 bs) (Repeat.t-repeat-by 𝓤 H A W
-              E 𝓣 NodeRecordT.row (Laws′.lawful NodeRecord.the-type Laws′′′.the-laws 𝓤 H A W) (NodeRecordT.copies .copy 𝓤 H A W) 1024 (gx t3 t1 l0) 7
+              E 𝓣 NodeRecordT.row (Laws′.lawful NodeRecord.the-type Laws′′′.the-laws 𝓤 H A W) (NodeRecordT.copies .copy 𝓤 H A W) 768 (gx t3 t1 l0) 7
               (Scalar.oAt 10 NodeRecordT.value λ x. Steps.only (NodeRecordT.copies .vals x)) (λ m. m .1 .1 .1 .1 .1 .1 .1 .1 .1 .1 .0) (λ ρ. Unit)
               (Reads.room-gone 𝓤 H A y0) (Reads′.reads-struct 𝓤 H A W NodeRecord.the-type Laws′′′.the-laws, Path'.refl) Path'.refl (Own.told-none 𝓤 H A ((gx
               t3 t1 l0) .slots)) λ ρ m pf wa. Gives.elem-local 𝓤 H A W E ρ NodeRecordT.row (λ x. Steps.only (NodeRecordT.copies .vals x)) (NodeRecordT.copies
@@ -976,7 +973,7 @@ module _ (claims· : Claims) where
         pub before : After-combine-arg
         pub t : After-t·own before
       abbrev pub Need-slice-aggregate-combine : Type 0
-      Need-slice-aggregate-combine = (c : After-t) → Relend.CountIs (cx t16 t1) 14 15 (λ x. x) (λ u. 1024) (m18 (c .before) (c .t .given))
+      Need-slice-aggregate-combine = (c : After-t) → Relend.CountIs (cx t16 t1) 14 15 (λ x. x) (λ u. 768) (m18 (c .before) (c .t .given))
       abbrev pub m19 : (before : After-combine-arg) → (given : s19 (before .before .before .before .before .before .before .before .blocks) .gives (m17
           (before .before) (before .combine-arg .given))) → Typed.Mo (cx t17 t1)
       m19 = λ before given. s20 (before .before .before .before .before .before .before .before .blocks) .next (m18 before given)
@@ -991,7 +988,7 @@ module _ (claims· : Claims) where
         pub before : After-t
         pub u : After-u·own before
       abbrev pub Need-slice-aggregate-combine-2 : Type 0
-      Need-slice-aggregate-combine-2 = (c : After-u) → Relend.CountIs (cx t18 t19) 16 17 (λ x. x) (λ u. 1024) (m20 (c .before) (c .u .given))
+      Need-slice-aggregate-combine-2 = (c : After-u) → Relend.CountIs (cx t18 t19) 16 17 (λ x. x) (λ u. 768) (m20 (c .before) (c .u .given))
       abbrev pub m21 : (before : After-t) → (given : s22 (before .before .before .before .before .before .before .before .before .blocks) .gives (m19 (before
           .before) (before .t .given))) → Typed.Mo (cx t18 t20)
       m21 = λ before given. s23 (before .before .before .before .before .before .before .before .before .blocks) .next (m20 before given)
@@ -1007,7 +1004,7 @@ module _ (claims· : Claims) where
         pub before : After-u
         pub v : After-v·own before
       abbrev pub Need-slice-aggregate-combine-3 : Type 0
-      Need-slice-aggregate-combine-3 = (c : After-v) → Relend.CountIs (cx t21 t22) 18 19 (λ x. x) (λ u. 1024) (m22 (c .before) (c .v .given))
+      Need-slice-aggregate-combine-3 = (c : After-v) → Relend.CountIs (cx t21 t22) 18 19 (λ x. x) (λ u. 768) (m22 (c .before) (c .v .given))
       abbrev pub m23 : (before : After-u) → (given : s25 (before .before .before .before .before .before .before .before .before .before .blocks) .gives (m21
           (before .before) (before .u .given))) → Typed.Mo (cx t21 t23)
       m23 = λ before given. s26 (before .before .before .before .before .before .before .before .before .before .blocks) .next (m22 before given)
@@ -1153,24 +1150,24 @@ module _ (claims· : Claims) where
         lay3 : (c : After-no-writer-record) → at35 (c .before .before .before .before .before .before .blocks) (W0 (c .before .before .before .before .before
             .before .κs) (c .before .before .before .before .before .before .args) (c .before .before .before .before .before .before .blocks)) (m12 (c
             .before) (After-no-writer-record·gave c))
-        lay3 = λ c. λ g. (Path'.refl, λ g'. (Relend.count-is (cx t16 t1) 14 15 (λ x. x) (λ u. 1024) (m18 record { before = record { before = c .before;
+        lay3 = λ c. λ g. (Path'.refl, λ g'. (Relend.count-is (cx t16 t1) 14 15 (λ x. x) (λ u. 768) (m18 record { before = record { before = c .before;
             no-writer-record = c .no-writer-record }; combine-arg = record { given = g } } g') (slice-aggregate-combine record { before = record { before =
             record { before = c .before; no-writer-record = c .no-writer-record }; combine-arg = record { given = g } }; t = record { given = g' } }), λ g''.
-            (Relend.count-is (cx t18 t19) 16 17 (λ x. x) (λ u. 1024) (m20 record { before = record { before = record { before = c .before; no-writer-record =
-            c .no-writer-record }; combine-arg = record { given = g } }; t = record { given = g' } } g'') (slice-aggregate-combine-2 record { before = record
-            { before = record { before = record { before = c .before; no-writer-record = c .no-writer-record }; combine-arg = record { given = g } }; t =
-            record { given = g' } }; u = record { given = g'' } }), λ g'3. (Relend.count-is (cx t21 t22) 18 19 (λ x. x) (λ u. 1024) (m22 record { before =
-            record { before = record { before = record { before = c .before; no-writer-record = c .no-writer-record }; combine-arg = record { given = g } }; t
-            = record { given = g' } }; u = record { given = g'' } } g'3) (slice-aggregate-combine-3 record { before = record { before = record { before =
-            record { before = record { before = c .before; no-writer-record = c .no-writer-record }; combine-arg = record { given = g } }; t = record { given
-            = g' } }; u = record { given = g'' } }; v = record { given = g'3 } }), (combine-requires record { before = record { before = record { before =
-            record { before = record { before = c .before; no-writer-record = c .no-writer-record }; combine-arg = record { given = g } }; t = record { given
-            = g' } }; u = record { given = g'' } }; v = record { given = g'3 } }, λ g'4. lay4 record { before = record { before = record { before = record {
+            (Relend.count-is (cx t18 t19) 16 17 (λ x. x) (λ u. 768) (m20 record { before = record { before = record { before = c .before; no-writer-record = c
+            .no-writer-record }; combine-arg = record { given = g } }; t = record { given = g' } } g'') (slice-aggregate-combine-2 record { before = record {
             before = record { before = record { before = c .before; no-writer-record = c .no-writer-record }; combine-arg = record { given = g } }; t = record
-            { given = g' } }; u = record { given = g'' } }; v = record { given = g'3 } }; combine = Called.called ps·2 r·2 (claims· .5) (cx t21 t23) (Num.vAt
-            1 λ x. x, (Num.vAt 2 λ x. x, (Num.vAt 3 λ x. x, (record { pos = 4; ty = y20; ref = λ x. x }, (record { pos = 5; ty = y21; ref = λ x. x }, (record
-            { pos = 13; ty = y3; ref = λ x. x }, (record { pos = 15; ty = y8; ref = λ x. x }, (record { pos = 17; ty = y8; ref = λ x. x }, (record { pos = 19;
-            ty = y12; ref = λ x. x }, tt))))))))) (m23 record { before = record { before = record { before = record { before = c .before; no-writer-record = c
+            { given = g' } }; u = record { given = g'' } }), λ g'3. (Relend.count-is (cx t21 t22) 18 19 (λ x. x) (λ u. 768) (m22 record { before = record {
+            before = record { before = record { before = c .before; no-writer-record = c .no-writer-record }; combine-arg = record { given = g } }; t = record
+            { given = g' } }; u = record { given = g'' } } g'3) (slice-aggregate-combine-3 record { before = record { before = record { before = record {
+            before = record { before = c .before; no-writer-record = c .no-writer-record }; combine-arg = record { given = g } }; t = record { given = g' } };
+            u = record { given = g'' } }; v = record { given = g'3 } }), (combine-requires record { before = record { before = record { before = record {
+            before = record { before = c .before; no-writer-record = c .no-writer-record }; combine-arg = record { given = g } }; t = record { given = g' } };
+            u = record { given = g'' } }; v = record { given = g'3 } }, λ g'4. lay4 record { before = record { before = record { before = record { before =
+            record { before = record { before = c .before; no-writer-record = c .no-writer-record }; combine-arg = record { given = g } }; t = record { given
+            = g' } }; u = record { given = g'' } }; v = record { given = g'3 } }; combine = Called.called ps·2 r·2 (claims· .5) (cx t21 t23) (Num.vAt 1 λ x.
+            x, (Num.vAt 2 λ x. x, (Num.vAt 3 λ x. x, (record { pos = 4; ty = y20; ref = λ x. x }, (record { pos = 5; ty = y21; ref = λ x. x }, (record { pos =
+            13; ty = y3; ref = λ x. x }, (record { pos = 15; ty = y8; ref = λ x. x }, (record { pos = 17; ty = y8; ref = λ x. x }, (record { pos = 19; ty =
+            y12; ref = λ x. x }, tt))))))))) (m23 record { before = record { before = record { before = record { before = c .before; no-writer-record = c
             .no-writer-record }; combine-arg = record { given = g } }; t = record { given = g' } }; u = record { given = g'' } } g'3) g'4 })))))
         lay2 : (c : After-no-record2) → at39 (c .before .before .before .before .before .blocks) (W0 (c .before .before .before .before .before .κs) (c
             .before .before .before .before .before .args) (c .before .before .before .before .before .blocks)) (m8 (c .before) (After-no-record2·gave c))

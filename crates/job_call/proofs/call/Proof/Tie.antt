@@ -1,5 +1,5 @@
 -- Generated: the needs of call at its contract, and how its theorem closes.
--- From 051e1c7e546c9a6a, as aa70cfabb3e33cf4.
+-- From d738873de74f0b52, as aa70cfabb3e33cf4.
 use borrow.Fn.Run
 use borrow.Fn.Written
 use contract.Running.{givenOf, tablesOf}

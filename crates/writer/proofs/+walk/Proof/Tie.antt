@@ -1,5 +1,5 @@
 -- Generated: how the theorem of walk, which calls itself, closes.
--- From 62d382ebce643db0, as a06ee97b4f85cbeb.
+-- From 86830da4e154dde4, as a06ee97b4f85cbeb.
 use Prim.Native.Nat.{ℕ, _<_}
 use borrow.Fn.Kinds.{In}
 use borrow.Fn.PlainCycle

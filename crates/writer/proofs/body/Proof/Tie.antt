@@ -1,5 +1,5 @@
 -- Generated: the needs of body at its contract, and how its theorem closes.
--- From 62d382ebce643db0, as c4efcfe17db09187.
+-- From 86830da4e154dde4, as c4efcfe17db09187.
 use borrow.Fn.Run
 use borrow.Fn.Written
 use contract.Running.{givenOf, tablesOf}

@@ -1,5 +1,5 @@
 -- Generated: the derivation of a body.
--- From 62d382ebce643db0, as 9a0e212ef615e95b.
+-- From 86830da4e154dde4, as a9d00a20dba0d5f4.
 use Prim.Native.Nat
 use Rattle.answers.proofs.Refusal
 use Rattle.answers.proofs.Refusal.Laws
@@ -363,7 +363,7 @@ b19 = Syntax.cond (Syntax.copy (Syntax.place 8 [])) b17 b18
 abbrev b20 : Syntax.Body
 b20 = Syntax.assign (Syntax.place 13 []) (Syntax.op1 (Syntax.cast Syntax.unsigned Syntax.unsigned Syntax.w64) (Syntax.copy (Syntax.place 2 [])))
 abbrev b21 : Syntax.Body
-b21 = Syntax.assign (Syntax.place 8 []) (Syntax.op2 (Syntax.lt Syntax.unsigned) (Syntax.intBig Syntax.w64 1024) (Syntax.copy (Syntax.place 13 [])))
+b21 = Syntax.assign (Syntax.place 8 []) (Syntax.op2 (Syntax.lt Syntax.unsigned) (Syntax.int Syntax.w64 768) (Syntax.copy (Syntax.place 13 [])))
 abbrev b22 : Syntax.Body
 b22 = Syntax.assign (Syntax.place 15 []) (Syntax.aggregate ((Syntax.int Syntax.w8 2) ∷ []))
 abbrev b23 : Syntax.Body
@@ -385,7 +385,7 @@ b30 = Syntax.cond (Syntax.copy (Syntax.place 8 [])) b28 b29
 abbrev b31 : Syntax.Body
 b31 = Syntax.assign (Syntax.place 13 []) (Syntax.rvOpd (Syntax.copy (Syntax.place 5 ((Syntax.field 1) ∷ []))))
 abbrev b32 : Syntax.Body
-b32 = Syntax.assign (Syntax.place 8 []) (Syntax.op2 (Syntax.lt Syntax.unsigned) (Syntax.copy (Syntax.place 13 [])) (Syntax.intBig Syntax.w64 1024))
+b32 = Syntax.assign (Syntax.place 8 []) (Syntax.op2 (Syntax.lt Syntax.unsigned) (Syntax.copy (Syntax.place 13 [])) (Syntax.int Syntax.w64 768))
 abbrev b33 : Syntax.Body
 b33 = Syntax.assign (Syntax.place 17 []) (Syntax.aggregate ((Syntax.int Syntax.w8 3) ∷ []))
 abbrev b34 : Syntax.Body
@@ -954,7 +954,7 @@ module _ (claims· : Claims) where
   s22 = λ bs. Scalar.k-op1 T16 (Syntax.cast Syntax.unsigned Syntax.unsigned Syntax.w64) (Scalar.oAt 2 y5 (Row.valS (Row.sInt Syntax.w32))) 13 (Rows'.sc-here
       (Row.sInt Syntax.w64)) (Row.sInt Syntax.w64 .of)
   abbrev s23 : (bs : List Nat.ℕ) → Typed.Asks T26 T27
-  s23 = λ bs. Scalar.k-op2 T26 (Syntax.lt Syntax.unsigned) (Scalar.oBig Syntax.w64 1024) (Scalar.oAt 13 y2 (Row.valS (Row.sInt Syntax.w64))) 8 (Rows'.sc-here
+  s23 = λ bs. Scalar.k-op2 T26 (Syntax.lt Syntax.unsigned) (Scalar.oInt Syntax.w64 768) (Scalar.oAt 13 y2 (Row.valS (Row.sInt Syntax.w64))) 8 (Rows'.sc-here
       Row.sBool) (Row.sBool .of)
   abbrev s24 : (bs : List Nat.ℕ) → Typed.Mo T27 → Typed.Mo T29
   s24 = λ bs. Scalar.n-room T27 13 y2
@@ -979,7 +979,7 @@ module _ (claims· : Claims) where
   abbrev s34 : (bs : List Nat.ℕ) → Typed.Mo T28 → Typed.Mo T39
   s34 = λ bs. Scalar.n-use T28 (Scalar.oFld 5 ((Syntax.field 1) ∷ []) y2 8 Shared.lenV) 13 (Rows'.sc-here (Row.sInt Syntax.w64)) (Row.sInt Syntax.w64 .of)
   abbrev s35 : (bs : List Nat.ℕ) → Typed.Asks T39 T40
-  s35 = λ bs. Scalar.k-op2 T39 (Syntax.lt Syntax.unsigned) (Scalar.oAt 13 y2 (Row.valS (Row.sInt Syntax.w64))) (Scalar.oBig Syntax.w64 1024) 8 (Rows'.sc-here
+  s35 = λ bs. Scalar.k-op2 T39 (Syntax.lt Syntax.unsigned) (Scalar.oAt 13 y2 (Row.valS (Row.sInt Syntax.w64))) (Scalar.oInt Syntax.w64 768) 8 (Rows'.sc-here
       Row.sBool) (Row.sBool .of)
   abbrev s36 : (bs : List Nat.ℕ) → Typed.Mo T40 → Typed.Mo T42
   s36 = λ bs. Scalar.n-room T40 13 y2
@@ -2226,9 +2226,9 @@ module _ (claims· : Claims) where
           d122 = Typed.t-seq 𝓤 H A W 𝓣 E G40 G41 b41 b98 Δ0 (at49 bs) (at121 bs) d49 d121
           d123 : Typed.Typed 𝓤 H A 𝓣 E G39 b100 Δ0 (at123 bs)
           d123 = Typed.s-seq 𝓤 H A W 𝓣 E G39 G40 b32 b99 Δ0 (Typed.ask (s35 bs)) (at122 bs) (Scalar.t-op2 𝓤 H A W E 𝓣 G39 (Syntax.lt Syntax.unsigned)
-              (Scalar.oAt 13 y2 (Row.valS (Row.sInt Syntax.w64))) (Scalar.oBig Syntax.w64 1024) 8 (Rows'.sc-here Row.sBool) Syntax.tyBool (Row.valS Row.sBool)
-              (Row.sBool .of) (Scalar.reads-sc 𝓤 H A W (Row.sInt Syntax.w64), Path'.refl) record { lower = record { fits = Dec'.lit< tt } } (Reads'.room-gone
-              𝓤 H A Syntax.tyBool) (Scalar.holds-sc 𝓤 H A W Row.sBool) Path'.refl (λ u. Path'.refl) λ u. tt) d122
+              (Scalar.oAt 13 y2 (Row.valS (Row.sInt Syntax.w64))) (Scalar.oInt Syntax.w64 768) 8 (Rows'.sc-here Row.sBool) Syntax.tyBool (Row.valS Row.sBool)
+              (Row.sBool .of) (Scalar.reads-sc 𝓤 H A W (Row.sInt Syntax.w64), Path'.refl) tt (Reads'.room-gone 𝓤 H A Syntax.tyBool) (Scalar.holds-sc 𝓤 H A W
+              Row.sBool) Path'.refl (λ u. Path'.refl) λ u. tt) d122
           d124 : Typed.Typed 𝓤 H A 𝓣 E G28 b101 Δ0 (at124 bs)
           d124 = Typed.s-seq 𝓤 H A W 𝓣 E G28 G39 b31 b100 Δ0 (Typed.pass T28 T39 (s34 bs)) (at123 bs) (Scalar.t-use 𝓤 H A W E 𝓣 G28 (Scalar.oFld 5
               ((Syntax.field 1) ∷ []) y2 8 Shared.lenV) 13 (Rows'.sc-here (Row.sInt Syntax.w64)) y2 (Row.valS (Row.sInt Syntax.w64)) (Row.sInt Syntax.w64 .of)
@@ -2238,9 +2238,9 @@ module _ (claims· : Claims) where
           d125 = Typed.t-seq 𝓤 H A W 𝓣 E G27 G28 b30 b101 Δ0 (at36 bs) (at124 bs) d36 d124
           d126 : Typed.Typed 𝓤 H A 𝓣 E G26 b103 Δ0 (at126 bs)
           d126 = Typed.s-seq 𝓤 H A W 𝓣 E G26 G27 b21 b102 Δ0 (Typed.ask (s23 bs)) (at125 bs) (Scalar.t-op2 𝓤 H A W E 𝓣 G26 (Syntax.lt Syntax.unsigned)
-              (Scalar.oBig Syntax.w64 1024) (Scalar.oAt 13 y2 (Row.valS (Row.sInt Syntax.w64))) 8 (Rows'.sc-here Row.sBool) Syntax.tyBool (Row.valS Row.sBool)
-              (Row.sBool .of) record { lower = record { fits = Dec'.lit< tt } } (Scalar.reads-sc 𝓤 H A W (Row.sInt Syntax.w64), Path'.refl) (Reads'.room-gone
-              𝓤 H A Syntax.tyBool) (Scalar.holds-sc 𝓤 H A W Row.sBool) Path'.refl (λ u. Path'.refl) λ u. tt) d125
+              (Scalar.oInt Syntax.w64 768) (Scalar.oAt 13 y2 (Row.valS (Row.sInt Syntax.w64))) 8 (Rows'.sc-here Row.sBool) Syntax.tyBool (Row.valS Row.sBool)
+              (Row.sBool .of) tt (Scalar.reads-sc 𝓤 H A W (Row.sInt Syntax.w64), Path'.refl) (Reads'.room-gone 𝓤 H A Syntax.tyBool) (Scalar.holds-sc 𝓤 H A W
+              Row.sBool) Path'.refl (λ u. Path'.refl) λ u. tt) d125
           d127 : Typed.Typed 𝓤 H A 𝓣 E G16 b104 Δ0 (at127 bs)
           d127 = Typed.s-seq 𝓤 H A W 𝓣 E G16 G26 b20 b103 Δ0 (Typed.ask (s22 bs)) (at126 bs) (Scalar.t-op1 𝓤 H A W E 𝓣 G16 (Syntax.cast Syntax.unsigned
               Syntax.unsigned Syntax.w64) (Scalar.oAt 2 y5 (Row.valS (Row.sInt Syntax.w32))) 13 (Rows'.sc-here (Row.sInt Syntax.w64)) y2 (Row.valS (Row.sInt
@@ -2427,7 +2427,7 @@ module _ (claims· : Claims) where
       m25 = λ before. s24 (before .before .before .before .blocks) (m24 before)
       module _ (before· : Else2) where
         pub record Then3·own : Type 0 where
-          pub taken : Nat._<_ 1024 (Row.get 13 (T26 .locals) (m23 (before· .before)))
+          pub taken : Nat._<_ 768 (Row.get 13 (T26 .locals) (m23 (before· .before)))
       pub record Then3 : Type 0 where
         pub before : Else2
         pub if3 : Then3·own before
@@ -2467,7 +2467,7 @@ module _ (claims· : Claims) where
           .before .before .args)) (m33 (c .before) (After-early3·gave c) .1)))
       module _ (before· : Else2) where
         pub record Else3·own : Type 0 where
-          pub left : Nat._≤_ (Row.get 13 (T26 .locals) (m23 (before· .before))) 1024
+          pub left : Nat._≤_ (Row.get 13 (T26 .locals) (m23 (before· .before))) 768
       pub record Else3 : Type 0 where
         pub before : Else2
         pub if3 : Else3·own before
@@ -2485,7 +2485,7 @@ module _ (claims· : Claims) where
       m37 = λ before. s36 (before .before .before .before .before .blocks) (m36 before)
       module _ (before· : Else3) where
         pub record Then4·own : Type 0 where
-          pub taken : Nat._<_ (Row.get 13 (T39 .locals) (m35 (before· .before))) 1024
+          pub taken : Nat._<_ (Row.get 13 (T39 .locals) (m35 (before· .before))) 768
       pub record Then4 : Type 0 where
         pub before : Else3
         pub if4 : Then4·own before
@@ -2532,7 +2532,7 @@ module _ (claims· : Claims) where
           .before .before .before .before .κs) (c .before .before .before .before .before .before .before .args)) (m45 (c .before) (After-early4·gave c) .1)))
       module _ (before· : Else3) where
         pub record Else4·own : Type 0 where
-          pub left : Nat._≤_ 1024 (Row.get 13 (T39 .locals) (m35 (before· .before)))
+          pub left : Nat._≤_ 768 (Row.get 13 (T39 .locals) (m35 (before· .before)))
       pub record Else4 : Type 0 where
         pub before : Else3
         pub if4 : Else4·own before
@@ -3028,8 +3028,8 @@ module _ (claims· : Claims) where
         lay12 : (c : Else3) → at124 (c .before .before .before .before .before .blocks) (W0 (c .before .before .before .before .before .κs) (c .before .before
             .before .before .before .args) (c .before .before .before .before .before .blocks)) (m34 (c .before))
         lay12 = λ c. (tt, (λ taken. lay13 record { before = record { before = c .before; if3 = c .if3 }; if4 = record { taken = Tests.ltb-true (Row.get 13
-            (T39 .locals) (m35 (c .before))) 1024 taken } }, λ left. lay15 record { before = record { before = c .before; if3 = c .if3 }; if4 = record { left
-            = Tests.ltb-false (Row.get 13 (T39 .locals) (m35 (c .before))) 1024 left } }))
+            (T39 .locals) (m35 (c .before))) 768 taken } }, λ left. lay15 record { before = record { before = c .before; if3 = c .if3 }; if4 = record { left =
+            Tests.ltb-false (Row.get 13 (T39 .locals) (m35 (c .before))) 768 left } }))
         lay11 : (c : Else3) → at34 (c .before .before .before .before .before .blocks) (W3 (c .before .before)) (m25 (c .before .before))
         lay11 = λ c. lay12 record { before = c .before; if3 = c .if3 }
         lay10 : (c : After-early3) → at29 (c .before .before .before .before .before .before .blocks) (W3 (c .before .before .before)) (m28 (c .before)
@@ -3041,8 +3041,8 @@ module _ (claims· : Claims) where
         lay8 : (c : Else2) → at127 (c .before .before .before .before .blocks) (W0 (c .before .before .before .before .κs) (c .before .before .before .before
             .args) (c .before .before .before .before .blocks)) (m22 (c .before))
         lay8 = λ c. (Facts.fits-bits 32 tt (c .before .before .before .before .good .1 .0 .1), (tt, (λ taken. lay9 record { before = record { before = c
-            .before; if2 = c .if2 }; if3 = record { taken = Tests.ltb-true 1024 (Row.get 13 (T26 .locals) (m23 (c .before))) taken } }, λ left. lay11 record {
-            before = record { before = c .before; if2 = c .if2 }; if3 = record { left = Tests.ltb-false 1024 (Row.get 13 (T26 .locals) (m23 (c .before))) left
+            .before; if2 = c .if2 }; if3 = record { taken = Tests.ltb-true 768 (Row.get 13 (T26 .locals) (m23 (c .before))) taken } }, λ left. lay11 record {
+            before = record { before = c .before; if2 = c .if2 }; if3 = record { left = Tests.ltb-false 768 (Row.get 13 (T26 .locals) (m23 (c .before))) left
             } })))
         lay7 : (c : Else2) → at22 (c .before .before .before .before .blocks) (W2 (c .before .before)) (m13 (c .before .before))
         lay7 = λ c. lay8 record { before = c .before; if2 = c .if2 }
