@@ -24,12 +24,12 @@ use Rattle.theory_reading.specs.Rooted.{Rooted, reading-ordered, rooted-decides
 use Rattle.elements.specs.Abstraction.{contextOf, refOf, openList}
 use Rattle.elements.specs.OpenLaws.{open-none}
 use Rattle.node_records.specs.Records.{noRecord}
-use Rattle.work_table.specs.TableLaws.{tableOf}
+use Rattle.work_table.specs.TableLaws.{tableOf, Held}
 use Rattle.reader.specs.Simulation.{child-of}
 use Rattle.reader.specs.Advance.{stateAt, bars-record}
 use Rattle.reader.specs.OpenCells.{ReadReached}
 use Rattle.cursors.specs.Cursors.{firstRun}
-use Rattle.reader.specs.Loop.{firstOpens, stands-first}
+use Rattle.reader.specs.Loop.{firstOpens, stands-first, ReachedBy}
 use Rattle.checker.specs.CheckCorrect.{checkedBy, Reads, all-reads, check-options, check-table, check-correct}
 use Rattle.reader.specs.ReadOn.{ReadTo, readAll, read-length, read-reaches}
 use Rattle.blocks.specs.Load.{LoadTo, staysIn, wholeBy, refusedLoad, loadOf, load, load-options, load-table, load-on}
@@ -115,9 +115,11 @@ module _ (n : ℕ) (bytes : List ℕ) (t : List NodeRecord) where
   abbrev z : ReadTo
   z = readAll n bytes wordLimit firstRun firstOpens t
 
+  reaches : n ≤ optionLimit → tableLimit ≤ length t → ReachedBy n bytes wordLimit (z .reached) (z .table)
+  reaches few room = read-reaches n bytes few wordLimit firstRun firstOpens t (stands-first n bytes t room) (omega arith)
+
   reads : n ≤ optionLimit → tableLimit ≤ length t → Reads n bytes (z .reached) (z .table)
-  reads few room = all-reads n bytes (z .reached) (z .table) few (read-reaches n bytes few wordLimit firstRun firstOpens t
-      (stands-first n bytes t room) (omega arith))
+  reads few room = all-reads n bytes (z .reached) (z .table) few (reaches few room)
 
   -- the three ways
   load-ways : (P : LoadTo → Type 0) → (optionLimit < n → P (refusedLoad C.optionCount t))
@@ -167,6 +169,13 @@ module _ (n : ℕ) (bytes : List ℕ) (t : List NodeRecord) (x : LoadTo) (called
   -- which is ordered.
   pub load-ordered : Ordered (tableOf (x .table) (x .size))
   load-ordered = by-whole (λ (x : LoadTo). Ordered (tableOf (x .table) (x .size))) (λ few h k. whole-ordered n bytes _ _ h k)
+
+  -- The records are those that reading keeps: each says of the words below its node what they are.
+  pub load-held : Held (x .table) (x .size)
+  load-held = subst (λ (x : LoadTo). Held (x .table) (x .size)) (sym called)
+      (load-ways n bytes t (λ (x : LoadTo). x .whole ≡ true → Held (x .table) (x .size))
+      (λ h e. absurd (false≢true e)) (λ few h e. absurd (false≢true e)) (λ few room e. reaches n bytes t few room .stands .kept .held)
+      (ap (λ (x : LoadTo). x .whole) (sym called) ∙ whole))
 
   -- The number has a level, unless it is the terminal's.
   pub load-deep : 0 < x .number → 1 ≤ node (tableOf (x .table) (x .size)) (x .number) .level

@@ -1,17 +1,17 @@
 -- What finding the next admitted word comes to, from what its loop reaches. Assumes nothing.
 use mathlib.Core.Path.{_≡_, refl, sym, ap, ap₂, _∙_, subst}
-use mathlib.Core.Bool.{Bool, true, false, cond}
+use mathlib.Core.Bool.{Bool, true, false, cond, true≢false}
 use mathlib.Core.List.{List}
 use mathlib.Core.Option.{none, some}
 use Prim.Native.Nat.{ℕ, _<_, _≤_, _^_}
 use native.Mathlib.Omega.{arith}
-use lib.Dec.{eqb}
+use lib.Dec.{ltb, eqb}
 use lib.ListN.{length}
 use borrow.Author.Tests.{lt-ltb, le-ltb, lt-leb, le-leb}
 use Rattle.theory_reading.specs.Limits.{optionLimit, tableLimit, wordLimit}
 use Rattle.theory_reading.specs.Causes as C
 use Rattle.theory_reading.specs.Reading.{Reading, reading}
-use Rattle.theory_reading.specs.Deciding.{trace}
+use Rattle.theory_reading.specs.Deciding.{Decision, undecided, decided, decisionOf, decision, trace}
 use Rattle.theory_reading.specs.Calls as R
 use Rattle.theory_reading.specs.NextWord.{next-word, next-none}
 use Rattle.theory_reading.specs.Prefix.{trace-reading}
@@ -27,6 +27,7 @@ use Rattle.reader.specs.Loop.{stands-covered, Ends, ReachedBy}
 use Rattle.reader.specs.ReadOn.{readFrom, read-called}
 use Rattle.checker.specs.CheckCorrect.{lateOf, cleared-after, Reads, halted-reads, all-reads, table-after}
 use Rattle.blocks.specs.BlockLaws.{stands-all}
+use Rattle.finder.specs.LeastDecided.{isValue}
 use Rattle.finder.specs.Seeking.{Seeks}
 
 -- ---- Definitions -----------------------------------------------------------------------------
@@ -41,18 +42,18 @@ foundBy r v = cond (r .faulty) (C.refused (lateOf r)) (C.done (R.word v))
 -- ---- The call --------------------------------------------------------------------------------
 
 -- what is reached, by another name
-pub seeks-same : (n : ℕ) (bytes : List ℕ) (w : ℕ) (x y : Reached) (os : List (List ℕ)) (v : ℕ) (u : List NodeRecord) (long : ℕ) → y ≡ x
-    → Seeks n bytes w (reachedIn x os) v u long → Seeks n bytes w (reachedIn y os) v u long
-seeks-same n bytes w x y os v u long e h = subst (λ (r : Reached). Seeks n bytes w (reachedIn r os) v u long) (sym e) h
+pub seeks-same : (n : ℕ) (bytes : List ℕ) (w : ℕ) (a : Bool) (x y : Reached) (os : List (List ℕ)) (v : ℕ) (u : List NodeRecord) (long : ℕ) → y ≡ x
+    → Seeks n bytes w a (reachedIn x os) v u long → Seeks n bytes w a (reachedIn y os) v u long
+seeks-same n bytes w a x y os v u long e h = subst (λ (r : Reached). Seeks n bytes w a (reachedIn r os) v u long) (sym e) h
 
 -- Clearing all records then leaves what the paper says,
-pub seeks-cleared : (n : ℕ) (bytes : List ℕ) (w : ℕ) (r : ReadReached) (v : ℕ) (u t : List NodeRecord) → Seeks n bytes w r v u (length t)
+pub seeks-cleared : (n : ℕ) (bytes : List ℕ) (w : ℕ) (a : Bool) (r : ReadReached) (v : ℕ) (u t : List NodeRecord) → Seeks n bytes w a r v u (length t)
     → (z : List NodeRecord) → z ≡ clearTo noRecord u (length u) → z ≡ C.cleared noRecord t
-seeks-cleared n bytes w r v u t h z e = cleared-after n bytes (h .stop) r u (h .reached) t (h .kept) z e
+seeks-cleared n bytes w a r v u t h z e = cleared-after n bytes (h .stop) r u (h .reached) t (h .kept) z e
 
 -- and reading on to the end reads the stream. c: the cursor, as code has it; x, y: what is reached, and the table then
 module _ (n : ℕ) (bytes : List ℕ) (few : n ≤ optionLimit) (w : ℕ) (r : Reached) (os : List (List ℕ)) (v : ℕ) (u : List NodeRecord) (long : ℕ)
-    (h : Seeks n bytes w (reachedIn r os) v u long) (c : Cursor) (ce : c ≡ record { run = r .run; depth = r .depth }) (x : ReadReached)
+    (h : Seeks n bytes w true (reachedIn r os) v u long) (c : Cursor) (ce : c ≡ record { run = r .run; depth = r .depth }) (x : ReadReached)
     (y : List NodeRecord) (called : record { reached = x; table = y } ≡ readFrom n bytes wordLimit (cursorIn c os) u) where
   to-end : ReachedBy n bytes wordLimit x y
   to-end = read-called n bytes few wordLimit (omega arith) (record { run = r .run; opens = opensIn os (r .depth) }) u (h .reached .stands)
@@ -65,6 +66,26 @@ module _ (n : ℕ) (bytes : List ℕ) (few : n ≤ optionLimit) (w : ℕ) (r : R
   pub end-cleared : (t : List NodeRecord) → length y ≡ length u → long ≡ length t → (z : List NodeRecord) → z ≡ clearTo noRecord y (length y)
       → z ≡ C.cleared noRecord t
   end-cleared t l k z e = cleared-after n bytes wordLimit x y to-end t (l ∙ h .kept ∙ k) z e
+
+-- A word that is not decided yes is not admitted,
+none-admitted : (n : ℕ) (bytes : List ℕ) (j : ℕ) → isValue true (decision n bytes j) ≡ false → R.isAdmitted (R.verdict n (trace n bytes) j) ≡ false
+unfolding decision
+none-admitted n bytes j e = go (ltb j (trace n bytes .reading .state .covered))
+  where
+    by : (d : Decision) → isValue true d ≡ false → R.isAdmitted (R.verdictOf d) ≡ false
+    by undecided e = refl
+    by (decided true) e = absurd (true≢false e)
+    by (decided false) e = refl
+
+    go : (b : Bool) → R.isAdmitted (cond b (R.verdictOf (decisionOf n (trace n bytes) j)) R.notYet) ≡ false
+    go true = by (decisionOf n (trace n bytes) j) e
+    go false = refl
+
+-- and one that is is.
+is-yes : (n : ℕ) (bytes : List ℕ) (j : ℕ) → j < trace n bytes .reading .state .covered → decision n bytes j ≡ decided true
+    → R.verdict n (trace n bytes) j ≡ R.isYes
+unfolding decision
+is-yes n bytes j l e = rw (lt-ltb j (trace n bytes .reading .state .covered) l) (ap R.verdictOf e)
 
 module _ (n : ℕ) (bytes : List ℕ) (t : List NodeRecord) (w : ℕ) where
   pub find-options : (a : C.Result R.NextWord) → optionLimit < n → a ≡ C.refused (C.refusal C.optionCount 0 0)
@@ -108,12 +129,12 @@ module _ (n : ℕ) (bytes : List ℕ) (t : List NodeRecord) (w : ℕ) where
 
     -- Where the search has halted, there is no word.
     pub find-ended : (a : C.Result R.NextWord) (z : List NodeRecord) (r : ReadReached) (v : ℕ) (u : List NodeRecord) (long : ℕ)
-        → Seeks n bytes w r v u long → r .halted ≡ true → a ≡ endedBy n r → z ≡ C.cleared noRecord t
+        → Seeks n bytes w true r v u long → r .halted ≡ true → a ≡ endedBy n r → z ≡ C.cleared noRecord t
         → record { answer = a; table = z } ≡ R.findNext noRecord n bytes w t
     find-ended a z r v u long h e ae ze =
         find-correct a z r u (cond (eqb (r .run .covered) (2 ^ n)) R.noWord R.notKnown) reads (λ _.
-        next-none n (trace n bytes) w (λ j p q. h .ended e j p (omega
-        (arith, q, all, subst (Ends n bytes (h .stop) r u (h .reached .stands .steps)) e (h .reached .ends) .0)))
+        next-none n (trace n bytes) w (λ j p q. none-admitted n bytes j (h .ended e j p (omega
+        (arith, q, all, subst (Ends n bytes (h .stop) r u (h .reached .stands .steps)) e (h .reached .ends) .0))))
         ∙ ap (λ (c : ℕ). cond (eqb c (2 ^ n)) R.noWord R.notKnown) all) ae ze
       where
         reads : Reads n bytes r u
@@ -124,9 +145,11 @@ module _ (n : ℕ) (bytes : List ℕ) (t : List NodeRecord) (w : ℕ) where
 
     -- Where it has found v, that is the word; x, y: what reading to the end reaches, and the table then.
     pub find-found : (a : C.Result R.NextWord) (z : List NodeRecord) (r : ReadReached) (v : ℕ) (u : List NodeRecord) (long : ℕ)
-        → Seeks n bytes w r v u long → r .halted ≡ false → (x : ReadReached) (y : List NodeRecord) → Reads n bytes x y → a ≡ foundBy x v
+        → Seeks n bytes w true r v u long → r .halted ≡ false → (x : ReadReached) (y : List NodeRecord) → Reads n bytes x y → a ≡ foundBy x v
         → z ≡ C.cleared noRecord t → record { answer = a; table = z } ≡ R.findNext noRecord n bytes w t
     find-found a z r v u long h e x y reads ae ze =
         let f = h .found e in
-        find-correct a z x y (R.word v) reads (λ _. next-word n (trace n bytes) w v (f .0)
-        (omega (arith, f .1 .0, stands-all n bytes (r .run) (r .opens) u (h .reached .stands), trace-covered n bytes)) (f .1 .1 .0) (f .1 .1 .1)) ae ze
+        let l : v < trace n bytes .reading .state .covered
+        = omega (arith, f .1 .0, stands-all n bytes (r .run) (r .opens) u (h .reached .stands), trace-covered n bytes) in
+        find-correct a z x y (R.word v) reads (λ _. next-word n (trace n bytes) w v (f .0) l (is-yes n bytes v l (f .1 .1 .0))
+        (λ j p q. none-admitted n bytes j (f .1 .1 .1 j p q))) ae ze

@@ -4,11 +4,16 @@ use mathlib.Core.Bool.{Bool, cond}
 use mathlib.Core.List.{List}
 use Prim.Native.Nat.{ℕ, zero, suc, _+_, _-_, _^_}
 use lib.Dec.{ltb}
+use Rattle.theory_lists.specs.Lists.{differ}
 use Rattle.node_records.specs.Edges.{firstEdge, secondEdge}
 use Rattle.node_records.specs.Words.{someYes}
 use Rattle.node_records.specs.declared.Edge.{Edge}
 use Rattle.node_records.specs.declared.NodeRecord.{NodeRecord}
 use Rattle.work_table.specs.Table.{getIn}
+
+-- what e stands for, turned about if b: its words that are yes are those of e that are no
+abbrev pub turnedEdge : Bool → Edge → Edge
+turnedEdge b e = record { number = e .number; complement = differ b (e .complement) }
 
 -- some word below what e stands for is yes, in a table of z numbers
 abbrev pub someIn : List NodeRecord → ℕ → Edge → Bool

@@ -7,12 +7,13 @@ use Prim.Native.Nat.{ℕ, zero, suc, _+_, _-_, _<_, _≤_, _^_}
 use native.Mathlib.Omega.{arith}
 use lib.Dec.{ltb, eqb}
 use borrow.Author.Tests.{ne-eqb, eq-eqb, lt-ltb, le-ltb, ltb-true, ltb-false}
-use Rattle.theory_lists.specs.Lists.{decide-le, decide-eq}
+use Rattle.theory_lists.specs.Lists.{differ, decide-le, decide-eq}
 use Rattle.theory_reading.specs.Nodes.{Node, node, isChild}
-use Rattle.theory_reading.specs.Deciding.{options, Decision, undecided, decided}
+use Rattle.theory_reading.specs.Deciding.{options, Decision, undecided, decided, complemented}
 use Rattle.theory_reading.specs.Calls.{verdictOf, isAdmitted}
 use Rattle.theory_reading.specs.Words.{options-low, options-high}
 use Rattle.theory_reading.specs.Lasting.{Ordered}
+use Rattle.theory_reading.specs.TableWalk.{tableWalk}
 use Rattle.node_records.specs.Edges.{firstEdge, secondEdge}
 use Rattle.node_records.specs.Words.{someYes, firstChild, secondChild, someBelow}
 use Rattle.node_records.specs.Records.{noRecord}
@@ -21,8 +22,9 @@ use Rattle.node_records.specs.declared.NodeRecord.{NodeRecord}
 use Rattle.work_table.specs.Table.{getIn, get-above}
 use Rattle.work_table.specs.TableLaws.{bit-back, recordNode, tableOf, table-node, RightAt, Held}
 use Rattle.work_table.specs.WalkLaws.{edgeWalk, walk-terminal, walk-over, walk-first, walk-second}
+use Rattle.finder.specs.LeastDecided.{isValue}
 use Rattle.finder.specs.SearchSteps.{least-below}
-use Rattle.finder.specs.Search.{someIn, firstIn, secondIn, leastIn, startIn, halvesTo, fromIn}
+use Rattle.finder.specs.Search.{turnedEdge, someIn, firstIn, secondIn, leastIn, startIn, halvesTo, fromIn}
 
 -- v is the least number from w on, below c, with p; c: there is none
 pub record Least (p : ℕ → Bool) (w c v : ℕ) : Type 0 where
@@ -364,3 +366,47 @@ module _ (t : List NodeRecord) (z : ℕ) (held : Held t z) (ordered : Ordered (t
       by first second true s false p =
           let k : 2 ^ m ≤ w = ltb-false w (2 ^ m) p in
           high-least m i e w (w - 2 ^ m) _ (omega (arith, k)) (λ u a b. absurd (omega (arith, a, b, k))) (second (omega (arith, l, k)))
+
+  -- ---- Turned about
+
+  turned-decision : (b c : Bool) (d : Decision) → complemented (differ b c) d ≡ complemented b (complemented c d)
+  turned-decision b c undecided = refl
+  turned-decision false c (decided d) = go (complemented c (decided d))
+    where
+      go : (d : Decision) → d ≡ complemented false d
+      go undecided = refl
+      go (decided d) = refl
+  turned-decision true false (decided d) = refl
+  turned-decision true true (decided true) = refl
+  turned-decision true true (decided false) = refl
+
+  turned-walk : (b : Bool) (i : ℕ) (e : Edge) (os : List Bool) → edgeWalk (tableOf t z) i (turnedEdge b e) os
+      ≡ complemented b (edgeWalk (tableOf t z) i e os)
+  turned-walk b i e os = turned-decision b (e .complement) (tableWalk (tableOf t z) i (e .number) os)
+
+  -- The number lies where it does, and every word is decided still.
+  pub turned-sits : (b : Bool) (i : ℕ) (e : Edge) (m : ℕ) → Sits i e m → Sits i (turnedEdge b e) m
+  turned-sits b i e m h = record {
+    inside = h .inside;
+    deep = h .deep;
+    whole = λ v l. let w = h .whole v l in whole (w .0) (turned-walk b i e (options m v) ∙ ap (complemented b) (w .1));
+  }
+    where
+      go : (b d : Bool) → complemented b (decided d) ≡ decided (differ b d)
+      go true d = refl
+      go false d = refl
+
+      whole : {x : Decision} (d : Bool) → x ≡ complemented b (decided d) → (d : Bool) × (x ≡ decided d)
+      whole d e = (differ b d, e ∙ go b d)
+
+  -- THE WORDS THAT ARE v are those that are yes, turned about if v is no.
+  pub turned-yes : (a : Bool) (i : ℕ) (e : Edge) (m v : ℕ) → yes i (turnedEdge (not a) e) m v ≡ isValue a (edgeWalk (tableOf t z) i e (options m v))
+  turned-yes a i e m v = ap (λ (d : Decision). isAdmitted (verdictOf d)) (turned-walk (not a) i e (options m v))
+      ∙ go a (edgeWalk (tableOf t z) i e (options m v))
+    where
+      go : (a : Bool) (d : Decision) → isAdmitted (verdictOf (complemented (not a) d)) ≡ isValue a d
+      go a undecided = refl
+      go true (decided true) = refl
+      go true (decided false) = refl
+      go false (decided true) = refl
+      go false (decided false) = refl

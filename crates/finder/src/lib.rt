@@ -1,4 +1,4 @@
-// Finding the next admitted word.
+// Finding the next admitted word, and searching a stream or its table for a word of either value.
 ghost use mathlib.Core.Path.{_≡_};
 ghost use mathlib.Core.List.{[]};
 ghost use Prim.Native.Nat.{_+_, _-_, _<_, _≤_, _^_};
@@ -10,9 +10,10 @@ ghost use Rattle.theory_lists.specs.Lists.{differ};
 ghost use Rattle.reader.specs.OpenCells.{reachedIn};
 ghost use Rattle.blocks.specs.Blocks.{edgeAt};
 ghost use Rattle.answers.specs.Answers.{findingOf};
-ghost use Rattle.finder.specs.Search.{someIn, leastIn, startIn, fromIn};
+ghost use Rattle.finder.specs.Search.{turnedEdge, someIn, leastIn, startIn, fromIn};
 ghost use Rattle.finder.specs.Seeking.{soughtAt, Seeks};
 ghost use Rattle.finder.specs.FindCorrect.{endedBy, foundBy};
+ghost use Rattle.finder.specs.TextSearch.{searchText, searchNodes, wordOf};
 use answers::Finding;
 use answers::NextWord;
 use answers::Refusal;
@@ -100,17 +101,36 @@ fn word_from(t: &[NodeRecord], z: u32, m: u32, i: u32, e: Edge, w: u64) -> u64
     half + start_word(t, z, m - 1, i + 1, g)
 }
 
-// ---- The call
+// What e stands for, turned about if b: its words that are yes are those of e that are no.
+fn turned_edge(e: Edge, b: bool) -> Edge
+    ensures { λ r. ⌜ r ≡ turnedEdge b e ⌝ }
+{
+    Edge {
+        number: e.number,
+        complement: differs(b, e.complement),
+    }
+}
 
-// The least word from w on that is yes, of those that the loop's last element passed, w among them; the covered count if none is.
-fn word_at(t: &[NodeRecord], o: &[[u32; 4]; OPEN_LIMIT], n: u32, r: Reached, w: u64) -> u64
+// ---- The search in a stream
+
+// The least word from w on that is yes or, if `noes`, that is no, of those that the loop's last element passed, w among them; the covered count if none
+// is.
+fn word_at(
+    t: &[NodeRecord],
+    o: &[[u32; 4]; OPEN_LIMIT],
+    n: u32,
+    r: Reached,
+    w: u64,
+    noes: bool,
+) -> u64
     requires { ⌜ (n ≤ optionLimit) × ((r .deep ≤ openLimit) × ((r .from ≤ w) × ((w < r .from + 2 ^ (n - r .deep)) × (w ≤ wordLimit)))) ⌝ }
-    ensures { λ x. ⌜ x ≡ soughtAt (now (t .entry)) n (reachedIn r (now (o .entry))) w ⌝ }
+    ensures { λ x. ⌜ x ≡ soughtAt noes (now (t .entry)) n (reachedIn r (now (o .entry))) w ⌝ }
 {
     let q = r.run;
     let d = r.deep;
     let i = d as u32 + 1;
-    r.from + word_from(t, q.size, below(n, d), i, edge_of(r, o), w - r.from)
+    let e = turned_edge(edge_of(r, o), noes);
+    r.from + word_from(t, q.size, below(n, d), i, e, w - r.from)
 }
 
 // What the search reaches: where reading stands, and the word that it found there, unless reading halted.
@@ -151,10 +171,17 @@ fn odd_of(r: Reached, o: &[[u32; 4]; OPEN_LIMIT]) -> bool
     differs(e.complement, q.complement)
 }
 
-// Reads on to a word from w on that is yes: to w, and past the words that are no. o: the open nodes, as reading leaves them
-fn seek(n: u32, s: &[u8], t: &mut [NodeRecord], o: &mut [[u32; 4]; OPEN_LIMIT], w: u64) -> Sought
+// Reads on to a word from w on that is v, yes or no: to w, and past the words that are not. o: the open nodes, as reading leaves them
+fn seek(
+    n: u32,
+    s: &[u8],
+    t: &mut [NodeRecord],
+    o: &mut [[u32; 4]; OPEN_LIMIT],
+    w: u64,
+    v: bool,
+) -> Sought
     requires { ⌜ (n ≤ optionLimit) × ((tableLimit ≤ length (now t)) × ((w < 2 ^ n) × (now o ≡ replicate openLimit (replicate 4 0)))) ⌝ }
-    ensures { λ x. ⌜ Seeks n (now (s .entry)) w (reachedIn (x .reached) (now (o .exit))) (x .word) (now (t .exit)) (length (now (t .entry))) ⌝ }
+    ensures { λ x. ⌜ Seeks n (now (s .entry)) w v (reachedIn (x .reached) (now (o .exit))) (x .word) (now (t .exit)) (length (now (t .entry))) ⌝ }
 {
     let r = read_on(n, s, t, o, first_cursor(), w);
     let h = r.halted;
@@ -164,14 +191,14 @@ fn seek(n: u32, s: &[u8], t: &mut [NodeRecord], o: &mut [[u32; 4]; OPEN_LIMIT], 
             word: 0,
         };
     }
-    let u = word_at(t, o, n, r, w);
+    let u = word_at(t, o, n, r, w, !v);
     if u < covered_of(r) {
         return Sought {
             reached: r,
             word: u,
         };
     }
-    let x = search_on(n, s, t, o, cursor_of(r), odd_of(r, o));
+    let x = search_on(n, s, t, o, cursor_of(r), odd_of(r, o), !v);
     let g = x.halted;
     if g {
         return Sought {
@@ -179,12 +206,14 @@ fn seek(n: u32, s: &[u8], t: &mut [NodeRecord], o: &mut [[u32; 4]; OPEN_LIMIT], 
             word: 0,
         };
     }
-    let v = word_at(t, o, n, x, x.from);
+    let k = word_at(t, o, n, x, x.from, !v);
     Sought {
         reached: x,
-        word: v,
+        word: k,
     }
 }
+
+// ---- The next admitted word
 
 // Where no word is found.
 fn ended_at(n: u32, r: Reached) -> Finding
@@ -226,7 +255,7 @@ pub fn find_next(n: u32, s: &[u8], w: u64, t: &mut [NodeRecord]) -> Finding
         return Finding::Refused(early(Cause::WordRange));
     }
     let mut o = [[0u32; 4]; OPEN_LIMIT];
-    let x = seek(n, s, t, &mut o, w);
+    let x = seek(n, s, t, &mut o, w, true);
     let r = reached_of(x);
     let h = r.halted;
     if h {
@@ -238,4 +267,57 @@ pub fn find_next(n: u32, s: &[u8], w: u64, t: &mut [NodeRecord]) -> Finding
     let z = t.len();
     clear_records(t, z);
     found_at(e, x.word)
+}
+
+// ---- A word of either value
+
+// The word that the search comes to: where reading has halted the covered count, or w if that is more.
+fn word_of(x: Sought, w: u64) -> u64
+    ensures { λ r. ⌜ r ≡ wordOf (x .reached .halted) (x .reached .run .covered) (x .word) w ⌝ }
+{
+    let r = x.reached;
+    let h = r.halted;
+    if !h {
+        return x.word;
+    }
+    let c = covered_of(r);
+    if c < w {
+        return w;
+    }
+    c
+}
+
+// SEARCHING A STREAM: of the words that it covers the least one from w on that it decides as v, where they end if it decides none so, w if they end
+// before w. It is read no further than that. The table is left clear. Past the limits the answer is w, and the table as it was.
+pub fn search_text(n: u32, s: &[u8], w: u64, v: bool, t: &mut [NodeRecord]) -> u64
+    ensures { λ r. ⌜ record { word = r; table = now (t .exit) } ≡ searchText n (now (s .entry)) w v (now (t .entry)) ⌝ }
+{
+    if OPTION_LIMIT < n {
+        return w;
+    }
+    if t.len() < TABLE_LIMIT {
+        return w;
+    }
+    if 1u64 << n <= w {
+        return w;
+    }
+    let mut o = [[0u32; 4]; OPEN_LIMIT];
+    let x = seek(n, s, t, &mut o, w, v);
+    let z = t.len();
+    clear_records(t, z);
+    word_of(x, w)
+}
+
+// SEARCHING A TABLE of z numbers that has the outermost node, without reading: of its words, e being its edge, the least one from w on that is v, 2^n if
+// none is. Past the limits the answer is w.
+pub fn search_nodes(n: u32, t: &[NodeRecord], z: u32, e: Edge, w: u64, v: bool) -> u64
+    ensures { λ r. ⌜ r ≡ searchNodes n (now (t .entry)) z e w v ⌝ }
+{
+    if OPTION_LIMIT < n {
+        return w;
+    }
+    if 1u64 << n <= w {
+        return w;
+    }
+    word_from(t, z, n, 1, turned_edge(e, !v), w)
 }

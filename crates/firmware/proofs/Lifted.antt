@@ -1,5 +1,5 @@
 -- Generated: what callers cite of the lifted functions.
--- From 3e80bec9652ba80a, as 51175208ea457fc0.
+-- From f3654dd10a004eea, as 51175208ea457fc0.
 pub mod rule_check
 pub mod rule_decide
 pub mod rule_next

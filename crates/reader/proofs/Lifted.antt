@@ -1,5 +1,5 @@
 -- Generated: what callers cite of the lifted functions.
--- From 78663303f6fac913, as ed3d81d8c560d983.
+-- From 634908cb81292027, as ed3d81d8c560d983.
 pub mod barred
 pub mod update_table
 pub mod iterate

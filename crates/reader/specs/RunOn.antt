@@ -1,5 +1,5 @@
--- The code's loop as a function, with fuel for its iterations. Reading on, its stop stays; searching on, the stop moves behind words of which none is yes,
--- and what the open nodes turn about is kept from iteration to iteration. Assumes nothing.
+-- The code's loop as a function, with fuel for its iterations. Reading on, its stop stays; searching on, the stop moves behind words of which none is
+-- sought, and what the open nodes turn about is kept from iteration to iteration. Assumes nothing.
 use mathlib.Core.Path.{_≡_, refl, sym, ap, ap₂, _∙_, subst}
 use mathlib.Core.Bool.{Bool, true, false, cond}
 use mathlib.Core.List.{List}
@@ -38,24 +38,26 @@ abbrev pub parityTo : Bool → ℕ → Open → Iteration → Bool
 parityTo p d low y = cond (eqb d 0) false (cond (ltb (y .depth) d) (differ (complementIn low) p)
     (differ (complementIn (y .low)) (differ (complementIn low) p)))
 
--- what ended last, turned about by the open nodes if p
+-- what ended last, turned about if p
 abbrev pub lastEdge : Run → Bool → Edge
 lastEdge r p = record { number = r .last .number; complement = differ p (r .complement) }
 
--- some word below what ended last is yes
+-- some word below what ended last, turned about if p, is yes
 abbrev pub someAt : List NodeRecord → Run → Bool → Bool
 someAt t r p = someYes (getIn t (r .size) (r .last .number)) (lastEdge r p)
 
--- the stop after an element, for a search: behind the words that it passed, if none of them is yes
+-- the stop after an element, for a search: behind the words that it passed, if none of them is
 abbrev pub stopTo : List NodeRecord → Run → ℕ → Bool → ℕ
 stopTo t r stop p = cond (ltb stop (r .covered)) (cond (ltb wordLimit (r .covered)) stop (cond (someAt t r p) stop (r .covered))) stop
 
-abbrev pub goalOf : ℕ → Bool → Goal
-goalOf stop odd = record { stop = stop; odd = odd }
+-- noes: words that are no are sought, which are yes turned about
+abbrev pub goalOf : ℕ → Bool → Bool → Goal
+goalOf stop odd noes = record { stop = stop; odd = odd; noes = noes }
 
 -- the goal after an iteration y, with the lent table t after it
 abbrev pub goalTo : Bool → List NodeRecord → Goal → ℕ → Open → Iteration → Goal
-goalTo seeks t g d low y = cond seeks (goalOf (stopTo t (y .run) (g .stop) (parityTo (g .odd) d low y)) (parityTo (g .odd) d low y)) g
+goalTo seeks t g d low y =
+    cond seeks (goalOf (stopTo t (y .run) (g .stop) (differ (g .noes) (parityTo (g .odd) d low y))) (parityTo (g .odd) d low y) (g .noes)) g
 
 -- the loop, at most so many iterations
 unfoldable pub runOn : ℕ → ℕ → List ℕ → Bool → Goal → Run → Opens → ℕ → ℕ → List NodeRecord → ReadTo
@@ -76,12 +78,12 @@ runAll n bytes seeks g r o t = runOn (suc (length bytes)) n bytes seeks g r o 0 
 abbrev pub restingOf : Cursor → Reached
 restingOf c = record { run = c .run; depth = c .depth; from = 0; deep = 0; halted = true; faulty = false; cause = WrongByte; byte = 0 }
 
--- SEARCHING ON from a cursor, until words are passed of which some is yes; past the limits nothing is read. odd: whether an odd number of open nodes
--- turns about
-unfoldable pub searchFrom : ℕ → List ℕ → ReadCursor → Bool → List NodeRecord → ReadTo
+-- SEARCHING ON from a cursor, until words are passed of which some is yes or, if `noes`, some is no; past the limits nothing is read. odd: whether an odd
+-- number of open nodes turns about
+unfoldable pub searchFrom : ℕ → List ℕ → ReadCursor → Bool → Bool → List NodeRecord → ReadTo
 unfolding runOn
-searchFrom n bytes c odd t = cond (offBy n (c .opens .depth) (c .run .covered)) (record { reached = restingAt c; table = t })
-    (runAll n bytes true (goalOf (c .run .covered) odd) (c .run) (c .opens) t)
+searchFrom n bytes c odd noes t = cond (offBy n (c .opens .depth) (c .run .covered)) (record { reached = restingAt c; table = t })
+    (runAll n bytes true (goalOf (c .run .covered) odd noes) (c .run) (c .opens) t)
 
 -- ---- As code goes ----------------------------------------------------------------------------
 
@@ -129,15 +131,18 @@ module _ (t : List NodeRecord) (g : Goal) (d : ℕ) (low : Open) (y : Iteration)
   pub goal-stays : seeks ≡ false → g ≡ goalTo seeks t g d low y
   goal-stays e = rw e refl
 
-  pub goal-moves : seeks ≡ true → (p : Bool) → p ≡ parityTo (g .odd) d low y → (v : ℕ) → v ≡ stopTo t (y .run) (g .stop) p
-      → goalOf v p ≡ goalTo seeks t g d low y
-  goal-moves e p pe v ve = ap (λ (v : ℕ). goalOf v p) ve ∙ ap (λ (q : Bool). goalOf (stopTo t (y .run) (g .stop) q) q) pe ∙ rw e refl
+  pub goal-moves : seeks ≡ true → (p : Bool) → p ≡ parityTo (g .odd) d low y → (q : Bool) → q ≡ differ (g .noes) p → (v : ℕ)
+      → v ≡ stopTo t (y .run) (g .stop) q → goalOf v p (g .noes) ≡ goalTo seeks t g d low y
+  goal-moves e p pe q qe v ve =
+      ap (λ (v : ℕ). goalOf v p (g .noes)) (ve ∙ ap (stopTo t (y .run) (g .stop)) qe)
+      ∙ ap (λ (p : Bool). goalOf (stopTo t (y .run) (g .stop) (differ (g .noes) p)) p (g .noes)) pe
+      ∙ rw e refl
 
   goal-fits : g .stop ≤ wordLimit → goalTo seeks t g d low y .stop ≤ wordLimit
   goal-fits h = go seeks
     where
       go : (b : Bool) → goalTo b t g d low y .stop ≤ wordLimit
-      go true = stop-fits t (y .run) (g .stop) (parityTo (g .odd) d low y) h
+      go true = stop-fits t (y .run) (g .stop) (differ (g .noes) (parityTo (g .odd) d low y)) h
       go false = h
 
 -- ---- Reading on ------------------------------------------------------------------------------
@@ -257,17 +262,17 @@ module _ (z : ReadTo) (n : ℕ) (bytes : List ℕ) (seeks : Bool) (g : Goal) (r 
 
 -- ---- From a cursor ---------------------------------------------------------------------------
 
-module _ (n : ℕ) (bytes : List ℕ) (c : ReadCursor) (odd : Bool) (t : List NodeRecord) where
+module _ (n : ℕ) (bytes : List ℕ) (c : ReadCursor) (odd noes : Bool) (t : List NodeRecord) where
   abbrev choose : Bool → ReadTo
-  choose b = cond b (record { reached = restingAt c; table = t }) (runAll n bytes true (goalOf (c .run .covered) odd) (c .run) (c .opens) t)
+  choose b = cond b (record { reached = restingAt c; table = t }) (runAll n bytes true (goalOf (c .run .covered) odd noes) (c .run) (c .opens) t)
 
   -- So past the limits,
-  pub search-off : offBy n (c .opens .depth) (c .run .covered) ≡ true → record { reached = restingAt c; table = t } ≡ searchFrom n bytes c odd t
+  pub search-off : offBy n (c .opens .depth) (c .run .covered) ≡ true → record { reached = restingAt c; table = t } ≡ searchFrom n bytes c odd noes t
   unfolding searchFrom
   search-off h = sym (ap choose h)
 
   -- and within them.
   pub search-within : offBy n (c .opens .depth) (c .run .covered) ≡ false
-      → searchFrom n bytes c odd t ≡ runAll n bytes true (goalOf (c .run .covered) odd) (c .run) (c .opens) t
+      → searchFrom n bytes c odd noes t ≡ runAll n bytes true (goalOf (c .run .covered) odd noes) (c .run) (c .opens) t
   unfolding searchFrom
   search-within h = ap choose h

@@ -572,10 +572,12 @@ fn put_open(o: &mut [[u32; 4]; OPEN_LIMIT], d: usize, e: Open)
 
 // ---- The loop's goal
 
-// The loop reads on while no more than `stop` words are covered. odd: whether an odd number of open nodes turns about, if it seeks words that are yes
+// The loop reads on while no more than `stop` words are covered. If it seeks words, odd: whether an odd number of open nodes turns about; noes: it seeks
+// words that are no, not words that are yes
 struct Goal {
     stop: u64,
     odd: bool,
+    noes: bool,
 }
 
 // The place is in the second child, and the edge to it is complemented.
@@ -601,7 +603,7 @@ fn parity_on(p: bool, d: usize, low: Open, x: Iteration) -> bool
     differs(complements(l), q)
 }
 
-// What ended last, turned about by the open nodes if p.
+// What ended last, turned about if p.
 fn last_edge(r: Run, p: bool) -> Edge
     ensures { λ e. ⌜ e ≡ lastEdge r p ⌝ }
 {
@@ -612,7 +614,7 @@ fn last_edge(r: Run, p: bool) -> Edge
     }
 }
 
-// The stop after an element, for a search: behind the words that it passed, if none of them is yes. p: an odd number of open nodes turns about
+// The stop after an element, for a search: behind the words that it passed, if none of them, turned about if p, is yes.
 fn stop_after(t: &[NodeRecord], r: Run, stop: u64, p: bool) -> u64
     ensures { λ x. ⌜ x ≡ stopTo (now (t .entry)) r stop p ⌝ }
 {
@@ -638,8 +640,12 @@ fn goal_after(t: &[NodeRecord], seeks: bool, g: Goal, d: usize, low: Open, x: It
     }
     let p = parity_on(g.odd, d, low, x);
     let r = x.run;
-    let v = stop_after(t, r, g.stop, p);
-    Goal { stop: v, odd: p }
+    let v = stop_after(t, r, g.stop, differs(g.noes, p));
+    Goal {
+        stop: v,
+        odd: p,
+        noes: g.noes,
+    }
 }
 
 // Reads on to the goal, inside the open nodes o, of which there are `around`.
@@ -717,12 +723,13 @@ fn is_off(n: u32, d: usize, stop: u64) -> bool
     WORD_LIMIT < stop
 }
 
-fn goal_of(stop: u64, odd: bool) -> Goal
-    ensures { λ g. ⌜ g ≡ goalOf stop odd ⌝ }
+fn goal_of(stop: u64, odd: bool, noes: bool) -> Goal
+    ensures { λ g. ⌜ g ≡ goalOf stop odd noes ⌝ }
 {
     Goal {
         stop: stop,
         odd: odd,
+        noes: noes,
     }
 }
 
@@ -760,10 +767,12 @@ pub fn read_on(
         return resting(c);
     }
     let k = kinds();
-    run_on(&k, n, s, t, o, q, c.depth, false, goal_of(stop, false))
+    let g = goal_of(stop, false, false);
+    run_on(&k, n, s, t, o, q, c.depth, false, g)
 }
 
-// SEARCHING ON: reads on until words are passed of which some is yes. o: the open nodes, as reading left them; odd: an odd number of them turns about
+// SEARCHING ON: reads on until words are passed of which some is yes or, if `noes`, some is no. o: the open nodes, as reading left them; odd: an odd number
+// of them turns about
 pub fn search_on(
     n: u32,
     s: &[u8],
@@ -771,14 +780,16 @@ pub fn search_on(
     o: &mut [[u32; 4]; OPEN_LIMIT],
     c: Cursor,
     odd: bool,
+    noes: bool,
 ) -> Reached
     ensures { λ y. ⌜ record { reached = reachedIn y (now (o .exit)); table = now (t .exit) }
-        ≡ searchFrom n (now (s .entry)) (cursorIn c (now (o .entry))) odd (now (t .entry)) ⌝ }
+        ≡ searchFrom n (now (s .entry)) (cursorIn c (now (o .entry))) odd noes (now (t .entry)) ⌝ }
 {
     let q = c.run;
     if is_off(n, c.depth, q.covered) {
         return resting(c);
     }
     let k = kinds();
-    run_on(&k, n, s, t, o, q, c.depth, true, goal_of(q.covered, odd))
+    let g = goal_of(q.covered, odd, noes);
+    run_on(&k, n, s, t, o, q, c.depth, true, g)
 }

@@ -1,2 +1,2 @@
 # crates/finder/src/lib.rt
-s/^    if 1u64 << n <= w {/    if 1u64 << n < w {/
+/^pub fn find_next/,/^}/s/^    if 1u64 << n <= w {/    if 1u64 << n < w {/

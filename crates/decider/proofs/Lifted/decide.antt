@@ -1,5 +1,5 @@
 -- Generated: what callers cite of decide.
--- From e322c9cd9610f764, as 36f070e2b4b9ed58.
+-- From f89873f381dc12be, as 36f070e2b4b9ed58.
 use Rattle.answers.proofs.Deciding
 use Rattle.answers.proofs.Deciding.Laws
 use Rattle.node_records.proofs.Tables.NodeRecord as NodeRecordT

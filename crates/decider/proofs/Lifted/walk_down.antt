@@ -1,5 +1,5 @@
 -- Generated: what callers cite of walk_down.
--- From e322c9cd9610f764, as 27a05ba2eb9a4923.
+-- From f89873f381dc12be, as 27a05ba2eb9a4923.
 use Rattle.answers.proofs.Verdict
 use Rattle.answers.proofs.Verdict.Laws
 use Rattle.node_records.proofs.Edge

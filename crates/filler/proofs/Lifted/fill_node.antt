@@ -1,5 +1,5 @@
 -- Generated: what callers cite of fill_node.
--- From dbeff140315b0513, as 39dc884295aca6eb.
+-- From 12921ecf0188929d, as 39dc884295aca6eb.
 use Rattle.node_records.proofs.Edge
 use Rattle.node_records.proofs.Edge.Laws
 use Rattle.node_records.proofs.Tables.NodeRecord as NodeRecordT

@@ -1,5 +1,5 @@
 -- Generated: what callers cite of seek.
--- From 16ce22b0ced54d7f, as 7c215e0e11f68a85.
+-- From 4b098d8b5bc2dd43, as 8eee37490700d3a8.
 use Rattle.finder.proofs.Sought
 use Rattle.finder.proofs.Sought.Laws
 use Rattle.node_records.proofs.Tables.NodeRecord as NodeRecordT
@@ -29,7 +29,7 @@ use denote.Triple.Clauses
 use Rattle.finder.proofs.seek as own
 
 abbrev pub ps : List.List (Kinds.PK 3)
-ps = List._∷_ (Kinds.pNum Syntax.w32) (List._∷_ (ShrSlice.pShrS (Referent.rtF (Referent.fInt Syntax.w8)) 0 tt) (List._∷_ (MutSlice.pMutS NodeRecordT.row 1 tt) (List._∷_ (Kinds.pMut (Array.Array (Array.Array (Referent.rtF (Referent.fInt Syntax.w32)) 4) 32) 2 tt) (List._∷_ (Kinds.pNum Syntax.w64) List.[]))))
+ps = List._∷_ (Kinds.pNum Syntax.w32) (List._∷_ (ShrSlice.pShrS (Referent.rtF (Referent.fInt Syntax.w8)) 0 tt) (List._∷_ (MutSlice.pMutS NodeRecordT.row 1 tt) (List._∷_ (Kinds.pMut (Array.Array (Array.Array (Referent.rtF (Referent.fInt Syntax.w32)) 4) 32) 2 tt) (List._∷_ (Kinds.pNum Syntax.w64) (List._∷_ Kinds.pBool List.[])))))
 abbrev pub r : Kinds.RK 3
 r = Value.rVal record { ty = Declared.row Sought.the-type; one = Path'.refl; val = Laws'.val Sought.the-type Laws.the-laws; tells = Laws'.tells Sought.the-type Laws.the-laws; still = Laws'.still Sought.the-type Laws.the-copy Exit.yes; row = Rows.whole (Declared.row Sought.the-type); rd = λ x. x; mk = λ x. x } λ M 𝓤 H A W. record { copies = Laws'.copy Sought.the-type Laws.the-copy 𝓤 H A W; lawful = Laws'.lawful Sought.the-type Laws.the-laws 𝓤 H A W; makes = Laws'.makes Sought.the-type Laws.the-plain 𝓤 H A; in-mem = Local.mem-whole 𝓤 H A W (Declared.row Sought.the-type); of-mem = Local.whole-mem 𝓤 H A W (Declared.row Sought.the-type) }
 abbrev pub Ghost : Type 0

@@ -1,5 +1,5 @@
 -- Generated: what callers cite of word_at.
--- From 16ce22b0ced54d7f, as 11024fa66d61c08b.
+-- From 4b098d8b5bc2dd43, as d59d4ff3ed45b8e0.
 use Rattle.node_records.proofs.Tables.NodeRecord as NodeRecordT
 use Rattle.reader.proofs.Reached
 use Rattle.reader.proofs.Reached.Laws
@@ -28,7 +28,7 @@ use denote.Triple.Clauses
 use Rattle.finder.proofs.word_at as own
 
 abbrev pub ps : List.List (Kinds.PK 2)
-ps = List._∷_ (ShrSlice.pShrS NodeRecordT.row 0 tt) (List._∷_ (Kinds.pShr (Array.Array (Array.Array (Referent.rtF (Referent.fInt Syntax.w32)) 4) 32) 1 tt) (List._∷_ (Kinds.pNum Syntax.w32) (List._∷_ (Value.pVal record { ty = Declared.row Reached.the-type; one = Path'.refl; val = Laws'.val Reached.the-type Laws.the-laws; tells = Laws'.tells Reached.the-type Laws.the-laws; still = Laws'.still Reached.the-type Laws.the-copy Exit.yes; row = Rows.whole (Declared.row Reached.the-type); rd = λ x. x; mk = λ x. x } λ M 𝓤 H A W. record { copies = Laws'.copy Reached.the-type Laws.the-copy 𝓤 H A W; lawful = Laws'.lawful Reached.the-type Laws.the-laws 𝓤 H A W; makes = Laws'.makes Reached.the-type Laws.the-plain 𝓤 H A; in-mem = Local.mem-whole 𝓤 H A W (Declared.row Reached.the-type); of-mem = Local.whole-mem 𝓤 H A W (Declared.row Reached.the-type) }) (List._∷_ (Kinds.pNum Syntax.w64) List.[]))))
+ps = List._∷_ (ShrSlice.pShrS NodeRecordT.row 0 tt) (List._∷_ (Kinds.pShr (Array.Array (Array.Array (Referent.rtF (Referent.fInt Syntax.w32)) 4) 32) 1 tt) (List._∷_ (Kinds.pNum Syntax.w32) (List._∷_ (Value.pVal record { ty = Declared.row Reached.the-type; one = Path'.refl; val = Laws'.val Reached.the-type Laws.the-laws; tells = Laws'.tells Reached.the-type Laws.the-laws; still = Laws'.still Reached.the-type Laws.the-copy Exit.yes; row = Rows.whole (Declared.row Reached.the-type); rd = λ x. x; mk = λ x. x } λ M 𝓤 H A W. record { copies = Laws'.copy Reached.the-type Laws.the-copy 𝓤 H A W; lawful = Laws'.lawful Reached.the-type Laws.the-laws 𝓤 H A W; makes = Laws'.makes Reached.the-type Laws.the-plain 𝓤 H A; in-mem = Local.mem-whole 𝓤 H A W (Declared.row Reached.the-type); of-mem = Local.whole-mem 𝓤 H A W (Declared.row Reached.the-type) }) (List._∷_ (Kinds.pNum Syntax.w64) (List._∷_ Kinds.pBool List.[])))))
 abbrev pub r : Kinds.RK 2
 r = Kinds.rNum Syntax.w64
 abbrev pub Ghost : Type 0

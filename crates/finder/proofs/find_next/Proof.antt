@@ -3,6 +3,7 @@
 mod Lts
 mod Tie
 use mathlib.Core.Path.{refl, ap, _∙_}
+use mathlib.Core.Bool.{true}
 use Prim.Native.Nat.{_≤_}
 use native.Mathlib.Omega.{arith}
 use Rattle.theory_lists.specs.Powers.{shifted}
@@ -97,11 +98,11 @@ returns-4 c =
     let c14 = c12 .before .before in
     let a = c14 .args in
     let few : a .n ≤ optionLimit = omega (arith, c12 .if1 .left) in
-    let sought = seeks-same (a .n) (a .s .now) (a .w) (c7 .seek .result .reached) (c5 .reached-of .result) (c7 .seek .last .1 .1 .1 .0)
+    let sought = seeks-same (a .n) (a .s .now) (a .w) true (c7 .seek .result .reached) (c5 .reached-of .result) (c7 .seek .last .1 .1 .1 .0)
     (c7 .seek .result .word) (c7 .seek .last .1 .1 .0) _ (c5 .reached-of .ensures) (c7 .seek .ensures) in
     find-ended (a .n) (a .s .now) (a .t .now) (a .w) few (omega (arith, c11 .if2 .left))
     (omega (arith, c10 .if3 .left, shifted (a .n) (omega (arith, few)))) _ _ _ _ _ _ sought (c4 .if4 .taken) (c .ended-at .ensures)
-    (seeks-cleared (a .n) (a .s .now) (a .w) _ _ _ (a .t .now) sought _ (c2 .clear-records .ensures))
+    (seeks-cleared (a .n) (a .s .now) (a .w) true _ _ _ (a .t .now) sought _ (c2 .clear-records .ensures))
 
 cursor-of-requires : tie.Need-cursor-of-requires
 cursor-of-requires c κs = search needs
@@ -133,7 +134,7 @@ returns-5 c =
     let c19 = c17 .before .before in
     let a = c19 .args in
     let few : a .n ≤ optionLimit = omega (arith, c17 .if1 .left) in
-    let sought = seeks-same (a .n) (a .s .now) (a .w) (c12 .seek .result .reached) (c10 .reached-of .result) (c12 .seek .last .1 .1 .1 .0)
+    let sought = seeks-same (a .n) (a .s .now) (a .w) true (c12 .seek .result .reached) (c10 .reached-of .result) (c12 .seek .last .1 .1 .1 .0)
     (c12 .seek .result .word) (c12 .seek .last .1 .1 .0) _ (c10 .reached-of .ensures) (c12 .seek .ensures) in
     find-found (a .n) (a .s .now) (a .t .now) (a .w) few (omega (arith, c16 .if2 .left))
     (omega (arith, c15 .if3 .left, shifted (a .n) (omega (arith, few)))) _ _ _ _ _ _ sought (c9 .if4 .left) _ _

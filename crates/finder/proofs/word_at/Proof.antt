@@ -8,7 +8,7 @@ use lib.Pow.{pow-mono}
 use Rattle.theory_reading.specs.Limits.{optionLimit}
 use Rattle.node_records.specs.declared.Edge.{Edge}
 use Rattle.finder.specs.SearchSteps.{from-most}
-use Rattle.finder.specs.Search.{fromIn}
+use Rattle.finder.specs.Search.{turnedEdge, fromIn}
 use borrow.Author.Needs.{needs}
 use Rattle.finder.proofs.word_at.Statement.{statement}
 use Rattle.finder.proofs.word_at.Proof.Tie as tie
@@ -23,27 +23,30 @@ add-i c =
     let c1 = c .before in
     omega (arith, c1 .pre .1 .0)
 
-below-requires : tie.Need-below-requires
-below-requires c κs = search needs
-
 edge-of-requires : tie.Need-edge-of-requires
 edge-of-requires c κs = search needs
 
+turned-edge-requires : tie.Need-turned-edge-requires
+turned-edge-requires c κs = search needs
+
+below-requires : tie.Need-below-requires
+below-requires c κs = search needs
+
 sub-word-from : tie.Need-sub-word-from
 sub-word-from c =
-    let c4 = c .before .before .before .before in
-    c4 .pre .1 .1 .0
+    let c5 = c .before .before .before .before .before in
+    c5 .pre .1 .1 .0
 
 word-from-requires : tie.Need-word-from-requires
 word-from-requires c κs =
-    let c2 = c .before .before in
-    let c4 = c2 .before .before in
-    let p = c4 .pre in (
-      omega (arith, p .0, c2 .below .ensures),
+    let c1 = c .before in
+    let c5 = c1 .before .before .before .before in
+    let p = c5 .pre in (
+      omega (arith, p .0, c1 .below .ensures),
       (
-        omega (arith, p .0, p .1 .0, c2 .below .ensures),
+        omega (arith, p .0, p .1 .0, c1 .below .ensures),
         subst
-            (λ (m : ℕ). c4 .args .w - c4 .args .r .from < 2 ^ m) (sym (c2 .below .ensures)) (omega (arith, p .1 .1 .0, p .1 .1 .1 .0)),
+            (λ (m : ℕ). c5 .args .w - c5 .args .r .from < 2 ^ m) (sym (c1 .below .ensures)) (omega (arith, p .1 .1 .0, p .1 .1 .1 .0)),
       ),
     )
 
@@ -52,11 +55,11 @@ add-result c =
     let c1 = c .before in
     let c3 = c1 .before .before in
     let c4 = c3 .before in
-    let c6 = c4 .before .before in
-    let a = c6 .args in
-    let p = c6 .pre in
-    let m = c4 .below .result in
-    let few : m ≤ optionLimit = omega (arith, p .0, c4 .below .ensures) in
+    let c7 = c4 .before .before .before in
+    let a = c7 .args in
+    let p = c7 .pre in
+    let m = c3 .below .result in
+    let few : m ≤ optionLimit = omega (arith, p .0, c3 .below .ensures) in
     omega (
       arith,
       p .1 .1 .0,
@@ -64,8 +67,8 @@ add-result c =
       c1 .word-from .ensures,
       pow-mono {i = m} {j = optionLimit} few,
       from-most m (a .t .now)
-          (a .r .run .size) (a .r .deep + 1) (c3 .edge-of .result) (a .w - a .r .from)
-          (subst (λ (k : ℕ). a .w - a .r .from < 2 ^ k) (sym (c4 .below .ensures)) (omega (arith, p .1 .1 .0, p .1 .1 .1 .0))),
+          (a .r .run .size) (a .r .deep + 1) (c4 .turned-edge .result) (a .w - a .r .from)
+          (subst (λ (k : ℕ). a .w - a .r .from < 2 ^ k) (sym (c3 .below .ensures)) (omega (arith, p .1 .1 .0, p .1 .1 .1 .0))),
     )
 
 returns : tie.Need-returns
@@ -73,11 +76,13 @@ returns c =
     let c1 = c .before in
     let c3 = c1 .before .before in
     let c4 = c3 .before in
-    let c6 = c4 .before .before in
-    let a = c6 .args in
+    let c5 = c4 .before in
+    let c7 = c5 .before .before in
+    let a = c7 .args in
     let r = a .r in
     ap (λ (k : ℕ). r .from + k) (c1 .word-from .ensures ∙ ap₂ (λ (m : ℕ) (e : Edge). fromIn m (a .t .now) (r .run .size) (r .deep + 1) e
-    (a .w - r .from)) (c4 .below .ensures) (c3 .edge-of .ensures))
+    (a .w - r .from)) (c3 .below .ensures) (c4 .turned-edge .ensures ∙ ap (turnedEdge (a .noes)) (c5 .edge-of .ensures)))
 
 pub word-at-spec : {M : Type 1} → statement M
-word-at-spec = tie.close (tie.spec cast-i add-i below-requires edge-of-requires sub-word-from word-from-requires add-result returns)
+word-at-spec =
+    tie.close (tie.spec cast-i add-i edge-of-requires turned-edge-requires below-requires sub-word-from word-from-requires add-result returns)

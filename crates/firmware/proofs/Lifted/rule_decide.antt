@@ -1,5 +1,5 @@
 -- Generated: what callers cite of rule_decide.
--- From 3e80bec9652ba80a, as 7b1d1359fc928a90.
+-- From f3654dd10a004eea, as 7b1d1359fc928a90.
 use Rattle.c_answers.proofs.RuleDecided
 use Rattle.c_answers.proofs.RuleDecided.Laws
 use Rattle.node_records.proofs.Tables.NodeRecord as NodeRecordT

@@ -1,5 +1,5 @@
 -- Generated: what callers cite of rule_fill.
--- From 3e80bec9652ba80a, as 820be47d1d58c220.
+-- From f3654dd10a004eea, as 820be47d1d58c220.
 use Rattle.c_answers.proofs.RuleFilled
 use Rattle.c_answers.proofs.RuleFilled.Laws
 use Rattle.node_records.proofs.Tables.NodeRecord as NodeRecordT

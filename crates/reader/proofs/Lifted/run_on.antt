@@ -1,5 +1,5 @@
 -- Generated: what callers cite of run_on.
--- From 78663303f6fac913, as 7c91ad32661d0f40.
+-- From 634908cb81292027, as 7c91ad32661d0f40.
 use Rattle.cursors.proofs.Run
 use Rattle.cursors.proofs.Run.Laws
 use Rattle.node_records.proofs.Tables.NodeRecord as NodeRecordT

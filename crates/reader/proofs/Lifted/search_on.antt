@@ -1,5 +1,5 @@
 -- Generated: what callers cite of search_on.
--- From 78663303f6fac913, as f61401e34742901b.
+-- From 634908cb81292027, as 140354ee5dcdce06.
 use Rattle.cursors.proofs.Cursor
 use Rattle.cursors.proofs.Cursor.Laws
 use Rattle.node_records.proofs.Tables.NodeRecord as NodeRecordT
@@ -31,7 +31,7 @@ use denote.Triple.Clauses
 use Rattle.reader.proofs.search_on as own
 
 abbrev pub ps : List.List (Kinds.PK 3)
-ps = List._∷_ (Kinds.pNum Syntax.w32) (List._∷_ (ShrSlice.pShrS (Referent.rtF (Referent.fInt Syntax.w8)) 0 tt) (List._∷_ (MutSlice.pMutS NodeRecordT.row 1 tt) (List._∷_ (Kinds.pMut (Array.Array (Array.Array (Referent.rtF (Referent.fInt Syntax.w32)) 4) 32) 2 tt) (List._∷_ (Value.pVal record { ty = Declared.row Cursor.the-type; one = Path'.refl; val = Laws''.val Cursor.the-type Laws.the-laws; tells = Laws''.tells Cursor.the-type Laws.the-laws; still = Laws''.still Cursor.the-type Laws.the-copy Exit.yes; row = Rows.whole (Declared.row Cursor.the-type); rd = λ x. x; mk = λ x. x } λ M 𝓤 H A W. record { copies = Laws''.copy Cursor.the-type Laws.the-copy 𝓤 H A W; lawful = Laws''.lawful Cursor.the-type Laws.the-laws 𝓤 H A W; makes = Laws''.makes Cursor.the-type Laws.the-plain 𝓤 H A; in-mem = Local.mem-whole 𝓤 H A W (Declared.row Cursor.the-type); of-mem = Local.whole-mem 𝓤 H A W (Declared.row Cursor.the-type) }) (List._∷_ Kinds.pBool List.[])))))
+ps = List._∷_ (Kinds.pNum Syntax.w32) (List._∷_ (ShrSlice.pShrS (Referent.rtF (Referent.fInt Syntax.w8)) 0 tt) (List._∷_ (MutSlice.pMutS NodeRecordT.row 1 tt) (List._∷_ (Kinds.pMut (Array.Array (Array.Array (Referent.rtF (Referent.fInt Syntax.w32)) 4) 32) 2 tt) (List._∷_ (Value.pVal record { ty = Declared.row Cursor.the-type; one = Path'.refl; val = Laws''.val Cursor.the-type Laws.the-laws; tells = Laws''.tells Cursor.the-type Laws.the-laws; still = Laws''.still Cursor.the-type Laws.the-copy Exit.yes; row = Rows.whole (Declared.row Cursor.the-type); rd = λ x. x; mk = λ x. x } λ M 𝓤 H A W. record { copies = Laws''.copy Cursor.the-type Laws.the-copy 𝓤 H A W; lawful = Laws''.lawful Cursor.the-type Laws.the-laws 𝓤 H A W; makes = Laws''.makes Cursor.the-type Laws.the-plain 𝓤 H A; in-mem = Local.mem-whole 𝓤 H A W (Declared.row Cursor.the-type); of-mem = Local.whole-mem 𝓤 H A W (Declared.row Cursor.the-type) }) (List._∷_ Kinds.pBool (List._∷_ Kinds.pBool List.[]))))))
 abbrev pub r : Kinds.RK 3
 r = Value.rVal record { ty = Declared.row Reached.the-type; one = Path'.refl; val = Laws''.val Reached.the-type Laws'.the-laws; tells = Laws''.tells Reached.the-type Laws'.the-laws; still = Laws''.still Reached.the-type Laws'.the-copy Exit.yes; row = Rows.whole (Declared.row Reached.the-type); rd = λ x. x; mk = λ x. x } λ M 𝓤 H A W. record { copies = Laws''.copy Reached.the-type Laws'.the-copy 𝓤 H A W; lawful = Laws''.lawful Reached.the-type Laws'.the-laws 𝓤 H A W; makes = Laws''.makes Reached.the-type Laws'.the-plain 𝓤 H A; in-mem = Local.mem-whole 𝓤 H A W (Declared.row Reached.the-type); of-mem = Local.whole-mem 𝓤 H A W (Declared.row Reached.the-type) }
 abbrev pub Ghost : Type 0

@@ -1,5 +1,5 @@
 -- Generated: what callers cite of first_on.
--- From 684a6838d44c748f, as a6c946f7c0b6f16a.
+-- From 08d2dc670682ba80, as a6c946f7c0b6f16a.
 use Rattle.node_records.proofs.Tables.NodeRecord as NodeRecordT
 use Rattle.operands.proofs.Begun
 use Rattle.operands.proofs.Begun.Laws

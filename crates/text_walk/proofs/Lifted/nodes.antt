@@ -1,5 +1,5 @@
 -- Generated: what callers cite of nodes.
--- From 684a6838d44c748f, as 289a6780aefa074e.
+-- From 08d2dc670682ba80, as 289a6780aefa074e.
 use Rattle.node_records.proofs.Tables.NodeRecord as NodeRecordT
 use Rattle.node_records.proofs.Tables.WriterRecord as WriterRecordT
 use Rattle.operands.proofs.Begun

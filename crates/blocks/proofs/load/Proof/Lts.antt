@@ -1,5 +1,5 @@
 -- Generated: the derivation of a body.
--- From 2485c40c970bb072, as 13c596238782b6bf.
+-- From 8c6b66533af4a33b, as 13c596238782b6bf.
 use Prim.Native.Nat
 use Rattle.answers.proofs.Checked
 use Rattle.answers.proofs.Checked.Laws

@@ -1,5 +1,5 @@
 -- Generated: the needs of load at its contract, and how its theorem closes.
--- From 2485c40c970bb072, as 25cf3c4c1ba3d94e.
+-- From 8c6b66533af4a33b, as 25cf3c4c1ba3d94e.
 use borrow.Fn.Run
 use borrow.Fn.Written
 use contract.Running.{givenOf, tablesOf}

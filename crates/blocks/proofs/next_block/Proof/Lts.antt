@@ -1,5 +1,5 @@
 -- Generated: the derivation of a body.
--- From 2485c40c970bb072, as 378b19c712f63259.
+-- From 8c6b66533af4a33b, as 378b19c712f63259.
 use Prim.Native.Nat
 use Rattle.blocks.proofs.Block
 use Rattle.blocks.proofs.Block.Laws

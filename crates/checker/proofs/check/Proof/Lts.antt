@@ -1,5 +1,5 @@
 -- Generated: the derivation of a body.
--- From 610ddfa2998229bb, as 0ed1d4d22547af1d.
+-- From a6f1611a4e5475ed, as 0ed1d4d22547af1d.
 use Prim.Native.Nat
 use Rattle.answers.proofs.Checking
 use Rattle.answers.proofs.Checking.Laws

@@ -1,5 +1,5 @@
 -- Generated: the needs of check at its contract, and how its theorem closes.
--- From 610ddfa2998229bb, as 8933f36578aec6eb.
+-- From a6f1611a4e5475ed, as 8933f36578aec6eb.
 use borrow.Fn.Run
 use borrow.Fn.Written
 use contract.Running.{givenOf, tablesOf}

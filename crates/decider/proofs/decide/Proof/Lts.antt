@@ -1,5 +1,5 @@
 -- Generated: the derivation of a body.
--- From e322c9cd9610f764, as 86836fbdd831dc37.
+-- From f89873f381dc12be, as 86836fbdd831dc37.
 use Prim.Native.Nat
 use Rattle.answers.proofs.Deciding
 use Rattle.answers.proofs.Deciding.Laws

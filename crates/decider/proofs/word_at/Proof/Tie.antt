@@ -1,5 +1,5 @@
 -- Generated: the needs of word_at at its contract, and how its theorem closes.
--- From e322c9cd9610f764, as b576c79ad5664a11.
+-- From f89873f381dc12be, as b576c79ad5664a11.
 use borrow.Fn.Run
 use borrow.Fn.Written
 use contract.Running.{givenOf, tablesOf}

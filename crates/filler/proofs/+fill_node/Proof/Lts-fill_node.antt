@@ -1,5 +1,5 @@
 -- Generated: the derivation of a body.
--- From dbeff140315b0513, as 8e9d07037500748b.
+-- From 12921ecf0188929d, as 8e9d07037500748b.
 use Prim.Native.Nat
 use Rattle.node_records.proofs.Edge
 use Rattle.node_records.proofs.Edge.Laws

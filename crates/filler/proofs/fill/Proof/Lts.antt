@@ -1,5 +1,5 @@
 -- Generated: the derivation of a body.
--- From dbeff140315b0513, as fdff0890a4f18596.
+-- From 12921ecf0188929d, as fdff0890a4f18596.
 use Prim.Native.Nat
 use Rattle.answers.proofs.Filling
 use Rattle.answers.proofs.Filling.Laws

@@ -1,5 +1,5 @@
 -- Generated: the derivation of a body.
--- From 16ce22b0ced54d7f, as 11e93120f07234f1.
+-- From 4b098d8b5bc2dd43, as 11e93120f07234f1.
 use Prim.Native.Nat
 use Rattle.node_records.proofs.Edge
 use Rattle.node_records.proofs.Edge.Laws

@@ -1,5 +1,5 @@
 -- Generated: the derivation of a body.
--- From 3e80bec9652ba80a, as 9ed2b6f0ca108c30.
+-- From f3654dd10a004eea, as 9ed2b6f0ca108c30.
 use Prim.Native.Nat
 use Rattle.answers.proofs.Checking
 use Rattle.answers.proofs.Checking.Laws

@@ -1,5 +1,5 @@
 -- Generated: the derivation of a body.
--- From 3e80bec9652ba80a, as 41e4fdc9a611e6b8.
+-- From f3654dd10a004eea, as 41e4fdc9a611e6b8.
 use Prim.Native.Nat
 use Rattle.answers.proofs.Deciding
 use Rattle.answers.proofs.Deciding.Laws

@@ -1,5 +1,5 @@
 -- Generated: the derivation of a body.
--- From 3e80bec9652ba80a, as 90891f7d7c993af9.
+-- From f3654dd10a004eea, as 90891f7d7c993af9.
 use Prim.Native.Nat
 use Rattle.answers.proofs.Filling
 use Rattle.answers.proofs.Filling.Laws

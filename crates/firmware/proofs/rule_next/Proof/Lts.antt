@@ -1,5 +1,5 @@
 -- Generated: the derivation of a body.
--- From 3e80bec9652ba80a, as b3e894c570143545.
+-- From f3654dd10a004eea, as b3e894c570143545.
 use Prim.Native.Nat
 use Rattle.answers.proofs.Finding
 use Rattle.answers.proofs.Finding.Laws

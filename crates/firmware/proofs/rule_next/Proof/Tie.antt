@@ -1,5 +1,5 @@
 -- Generated: the needs of rule_next at its contract, and how its theorem closes.
--- From 3e80bec9652ba80a, as 0f050eab6391c7a6.
+-- From f3654dd10a004eea, as 0f050eab6391c7a6.
 use borrow.Fn.Run
 use borrow.Fn.Written
 use contract.Running.{givenOf, tablesOf}

@@ -1,5 +1,5 @@
 -- Generated: the needs of begin at its contract, and how its theorem closes.
--- From 443215b1a45a06eb, as 8d2e4e2671df3641.
+-- From 5ea5b9926eeb9801, as 8d2e4e2671df3641.
 use borrow.Fn.Run
 use borrow.Fn.Written
 use contract.Running.{givenOf, tablesOf}

@@ -1,5 +1,5 @@
 -- Generated: the derivation of a body.
--- From 443215b1a45a06eb, as 822d638237e1abcc.
+-- From 5ea5b9926eeb9801, as 822d638237e1abcc.
 use Prim.Native.Nat
 use Rattle.blocks.proofs.Block
 use Rattle.blocks.proofs.Block.Laws

@@ -1,5 +1,5 @@
 -- Generated: the needs of read_on at its contract, and how its theorem closes.
--- From 443215b1a45a06eb, as b5103e40c8c2a789.
+-- From 5ea5b9926eeb9801, as b5103e40c8c2a789.
 use borrow.Fn.Run
 use borrow.Fn.Written
 use contract.Running.{givenOf, tablesOf}

@@ -1,5 +1,5 @@
 -- Generated: the derivation of a body.
--- From 78663303f6fac913, as 08bf9079338e4097.
+-- From 634908cb81292027, as 08bf9079338e4097.
 use Prim.Native.Nat
 use Rattle.cursors.proofs.Pair
 use Rattle.cursors.proofs.Pair.Laws

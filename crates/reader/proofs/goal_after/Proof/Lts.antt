@@ -1,5 +1,5 @@
 -- Generated: the derivation of a body.
--- From 78663303f6fac913, as a4b5da57e852d55e.
+-- From 634908cb81292027, as 47e495ceaecccc42.
 use Prim.Native.Nat
 use Rattle.cursors.proofs.Run
 use Rattle.cursors.proofs.Run.Laws
@@ -84,7 +84,8 @@ abbrev y5 : Syntax.Ty
 y5 = Syntax.tyStruct (99 ∷ 117 ∷ 114 ∷ 115 ∷ 111 ∷ 114 ∷ 115 ∷ 58 ∷ 58 ∷ 82 ∷ 117 ∷ 110 ∷ []) (Syntax.tcons y1 (Syntax.tcons y2 (Syntax.tcons y3 (Syntax.tcons
     y3 (Syntax.tcons y0 (Syntax.tcons y4 (Syntax.tcons Syntax.tyBool Syntax.tnil)))))))
 abbrev y6 : Syntax.Ty
-y6 = Syntax.tyStruct (114 ∷ 101 ∷ 97 ∷ 100 ∷ 101 ∷ 114 ∷ 58 ∷ 58 ∷ 71 ∷ 111 ∷ 97 ∷ 108 ∷ []) (Syntax.tcons y3 (Syntax.tcons Syntax.tyBool Syntax.tnil))
+y6 = Syntax.tyStruct (114 ∷ 101 ∷ 97 ∷ 100 ∷ 101 ∷ 114 ∷ 58 ∷ 58 ∷ 71 ∷ 111 ∷ 97 ∷ 108 ∷ []) (Syntax.tcons y3 (Syntax.tcons Syntax.tyBool (Syntax.tcons
+    Syntax.tyBool Syntax.tnil)))
 abbrev y7 : Syntax.Ty
 y7 = Syntax.tyRef (Syntax.named 0) Syntax.imm NodeRecordT.behind
 abbrev y8 : Syntax.Ty
@@ -180,14 +181,18 @@ ps·0 = Bool.pBool ∷ (Num.pNum Syntax.w64) ∷ (Value.pVal record { ty = Decla
     W (Declared.row Iteration.the-type) }) ∷ []
 abbrev pub r·0 : Kinds.RK 0
 r·0 = Bool.rBool
-abbrev pub ps·1 : List (Kinds.PK 1)
-ps·1 = (ShrSlice.pShrS NodeRecordT.row 0 tt) ∷ (Value.pVal record { ty = Declared.row Run.the-type; one = Path'.refl; val = Laws'4.val Run.the-type
+abbrev pub ps·1 : List (Kinds.PK 0)
+ps·1 = Bool.pBool ∷ Bool.pBool ∷ []
+abbrev pub r·1 : Kinds.RK 0
+r·1 = Bool.rBool
+abbrev pub ps·2 : List (Kinds.PK 1)
+ps·2 = (ShrSlice.pShrS NodeRecordT.row 0 tt) ∷ (Value.pVal record { ty = Declared.row Run.the-type; one = Path'.refl; val = Laws'4.val Run.the-type
     Laws.the-laws; tells = Laws'4.tells Run.the-type Laws.the-laws; still = Laws'4.still Run.the-type Laws.the-copy Exit.yes; row = Rows.whole (Declared.row
     Run.the-type); rd = λ x. x; mk = λ x. x } λ M 𝓤 H A W. record { copies = Laws'4.copy Run.the-type Laws.the-copy 𝓤 H A W; lawful = Laws'4.lawful
     Run.the-type Laws.the-laws 𝓤 H A W; makes = Laws'4.makes Run.the-type Laws.the-plain 𝓤 H A; in-mem = Local.mem-whole 𝓤 H A W (Declared.row Run.the-type);
     of-mem = Local.whole-mem 𝓤 H A W (Declared.row Run.the-type) }) ∷ (Num.pNum Syntax.w64) ∷ Bool.pBool ∷ []
-abbrev pub r·1 : Kinds.RK 1
-r·1 = Num.rNum Syntax.w64
+abbrev pub r·2 : Kinds.RK 1
+r·2 = Num.rNum Syntax.w64
 abbrev pub hs : List Syntax.Home
 hs = Syntax.valueLocal ∷ Syntax.valueLocal ∷ Syntax.valueLocal ∷ Syntax.valueLocal ∷ Syntax.valueLocal ∷ Syntax.valueLocal ∷ Syntax.valueLocal ∷
     Syntax.valueLocal ∷ Syntax.valueLocal ∷ Syntax.valueLocal ∷ Syntax.valueLocal ∷ []
@@ -209,28 +214,34 @@ b6 = Syntax.call "reader::parity_on" ((Syntax.copy (Syntax.place 3 ((Syntax.fiel
 abbrev b7 : Syntax.Body
 b7 = Syntax.assign (Syntax.place 8 []) (Syntax.rvOpd (Syntax.copy (Syntax.place 6 ((Syntax.field 0) ∷ []))))
 abbrev b8 : Syntax.Body
-b8 = Syntax.call "reader::stop_after" ((Syntax.copy (Syntax.place 1 [])) ∷ (Syntax.copy (Syntax.place 8 [])) ∷ (Syntax.copy (Syntax.place 3 ((Syntax.field 0)
-    ∷ []))) ∷ (Syntax.copy (Syntax.place 7 [])) ∷ []) (Syntax.place 9 [])
+b8 = Syntax.call "node_records::differs" ((Syntax.copy (Syntax.place 3 ((Syntax.field 2) ∷ []))) ∷ (Syntax.copy (Syntax.place 7 [])) ∷ []) (Syntax.place 10
+    [])
 abbrev b9 : Syntax.Body
-b9 = Syntax.assign (Syntax.place 0 []) (Syntax.aggregate ((Syntax.copy (Syntax.place 9 [])) ∷ (Syntax.copy (Syntax.place 7 [])) ∷ []))
+b9 = Syntax.call "reader::stop_after" ((Syntax.copy (Syntax.place 1 [])) ∷ (Syntax.copy (Syntax.place 8 [])) ∷ (Syntax.copy (Syntax.place 3 ((Syntax.field 0)
+    ∷ []))) ∷ (Syntax.copy (Syntax.place 10 [])) ∷ []) (Syntax.place 9 [])
 abbrev b10 : Syntax.Body
-b10 = Syntax.return
+b10 = Syntax.assign (Syntax.place 0 []) (Syntax.aggregate ((Syntax.copy (Syntax.place 9 [])) ∷ (Syntax.copy (Syntax.place 7 [])) ∷ (Syntax.copy (Syntax.place
+    3 ((Syntax.field 2) ∷ []))) ∷ []))
 abbrev b11 : Syntax.Body
-b11 = Syntax.seq b9 b10
+b11 = Syntax.return
 abbrev b12 : Syntax.Body
-b12 = Syntax.seq b8 b11
+b12 = Syntax.seq b10 b11
 abbrev b13 : Syntax.Body
-b13 = Syntax.seq b7 b12
+b13 = Syntax.seq b9 b12
 abbrev b14 : Syntax.Body
-b14 = Syntax.seq b6 b13
+b14 = Syntax.seq b8 b13
 abbrev b15 : Syntax.Body
-b15 = Syntax.seq b5 b14
+b15 = Syntax.seq b7 b14
 abbrev b16 : Syntax.Body
-b16 = Syntax.seq b0 b15
+b16 = Syntax.seq b6 b15
+abbrev b17 : Syntax.Body
+b17 = Syntax.seq b5 b16
+abbrev b18 : Syntax.Body
+b18 = Syntax.seq b0 b17
 abbrev pub body : Syntax.Body
-body = b16
+body = b18
 abbrev pub Claims : Type 1
-Claims = Kinds.In 0 ps·0 × Kinds.Out 0 ps·0 r·0 × Kinds.In 1 ps·1 × Kinds.Out 1 ps·1 r·1
+Claims = Kinds.In 0 ps·0 × Kinds.Out 0 ps·0 r·0 × Kinds.In 0 ps·1 × Kinds.Out 0 ps·1 r·1 × Kinds.In 1 ps·2 × Kinds.Out 1 ps·2 r·2
 abbrev pub t0 : List Row.Entry
 t0 = e0 ∷ e1 ∷ e2 ∷ e3 ∷ e4 ∷ e5 ∷ e6 ∷ e7 ∷ e8 ∷ e9 ∷ e10 ∷ []
 abbrev pub t1 : List Row.Entry
@@ -258,21 +269,25 @@ t11 = e0 ∷ e1 ∷ e2 ∷ e3 ∷ e4 ∷ e5a ∷ e6 ∷ e7a ∷ e8a ∷ e9 ∷ e
 abbrev pub t12 : List Row.Entry
 t12 = e0 ∷ e1 ∷ e2 ∷ e3 ∷ e4 ∷ e5a ∷ e6a ∷ e7a ∷ e8a ∷ e9 ∷ e10 ∷ []
 abbrev pub t13 : List Row.Entry
-t13 = e0 ∷ e1 ∷ e2 ∷ e3 ∷ e4 ∷ e5a ∷ e6a ∷ e7a ∷ e8a ∷ e9a ∷ e10 ∷ []
+t13 = e0 ∷ e1 ∷ e2 ∷ e3 ∷ e4 ∷ e5a ∷ e6a ∷ e7a ∷ e8a ∷ e9 ∷ e10a ∷ []
 abbrev pub t14 : List Row.Entry
-t14 = e0 ∷ e1 ∷ e2 ∷ e3a ∷ e4 ∷ e5a ∷ e6a ∷ e7a ∷ e8a ∷ e9a ∷ e10 ∷ []
+t14 = e0 ∷ e1 ∷ e2 ∷ e3 ∷ e4 ∷ e5a ∷ e6a ∷ e7a ∷ e8a ∷ e9a ∷ e10a ∷ []
 abbrev pub t15 : List Row.Entry
-t15 = e0 ∷ e1 ∷ e2 ∷ e3a ∷ e4 ∷ e5a ∷ e6a ∷ e7a ∷ e8 ∷ e9a ∷ e10 ∷ []
+t15 = e0 ∷ e1 ∷ e2 ∷ e3 ∷ e4 ∷ e5a ∷ e6a ∷ e7a ∷ e8 ∷ e9a ∷ e10a ∷ []
 abbrev pub t16 : List Row.Entry
-t16 = e0b ∷ e1 ∷ e2 ∷ e3a ∷ e4 ∷ e5a ∷ e6a ∷ e7a ∷ e8 ∷ e9a ∷ e10 ∷ []
+t16 = e0 ∷ e1 ∷ e2 ∷ e3 ∷ e4 ∷ e5a ∷ e6a ∷ e7a ∷ e8 ∷ e9a ∷ e10 ∷ []
 abbrev pub t17 : List Row.Entry
-t17 = e0b ∷ e1 ∷ e2 ∷ e3a ∷ e4 ∷ e5a ∷ e6a ∷ e7 ∷ e8 ∷ e9a ∷ e10 ∷ []
+t17 = e0b ∷ e1 ∷ e2 ∷ e3 ∷ e4 ∷ e5a ∷ e6a ∷ e7a ∷ e8 ∷ e9a ∷ e10 ∷ []
 abbrev pub t18 : List Row.Entry
-t18 = e0b ∷ e1 ∷ e2 ∷ e3a ∷ e4 ∷ e5a ∷ e6a ∷ e7 ∷ e8 ∷ e9 ∷ e10 ∷ []
+t18 = e0b ∷ e1 ∷ e2 ∷ e3a ∷ e4 ∷ e5a ∷ e6a ∷ e7a ∷ e8 ∷ e9a ∷ e10 ∷ []
 abbrev pub t19 : List Row.Entry
-t19 = e0b ∷ e1 ∷ e2a ∷ e3a ∷ e4 ∷ e5a ∷ e6a ∷ e7 ∷ e8 ∷ e9 ∷ e10 ∷ []
+t19 = e0b ∷ e1 ∷ e2 ∷ e3a ∷ e4 ∷ e5a ∷ e6a ∷ e7 ∷ e8 ∷ e9a ∷ e10 ∷ []
 abbrev pub t20 : List Row.Entry
-t20 = e0b ∷ e1 ∷ e2a ∷ e3a ∷ e4a ∷ e5a ∷ e6a ∷ e7 ∷ e8 ∷ e9 ∷ e10 ∷ []
+t20 = e0b ∷ e1 ∷ e2 ∷ e3a ∷ e4 ∷ e5a ∷ e6a ∷ e7 ∷ e8 ∷ e9 ∷ e10 ∷ []
+abbrev pub t21 : List Row.Entry
+t21 = e0b ∷ e1 ∷ e2a ∷ e3a ∷ e4 ∷ e5a ∷ e6a ∷ e7 ∷ e8 ∷ e9 ∷ e10 ∷ []
+abbrev pub t22 : List Row.Entry
+t22 = e0b ∷ e1 ∷ e2a ∷ e3a ∷ e4a ∷ e5a ∷ e6a ∷ e7 ∷ e8 ∷ e9 ∷ e10 ∷ []
 abbrev pub T0 : Row.Cx
 T0 = record { locals = t0; slots = [] }
 abbrev pub T1 : Row.Cx
@@ -322,7 +337,11 @@ T22 = record { locals = t19; slots = [] }
 abbrev pub T23 : Row.Cx
 T23 = record { locals = t20; slots = [] }
 abbrev pub T24 : Row.Cx
-T24 = record { locals = t1; slots = [] }
+T24 = record { locals = t21; slots = [] }
+abbrev pub T25 : Row.Cx
+T25 = record { locals = t22; slots = [] }
+abbrev pub T26 : Row.Cx
+T26 = record { locals = t1; slots = [] }
 abbrev pub O0 : Typed.Outs
 O0 = record { next = Option.none; exits = []; returns = Option.some T1 }
 abbrev pub O1 : Typed.Outs
@@ -360,31 +379,38 @@ module _ (claims· : Claims) where
   abbrev s12 : (bs : List Nat.ℕ) → Typed.Mo T14 → Typed.Mo T15
   s12 = λ bs. Scalar.n-room T14 6 y10
   abbrev s13 : (bs : List Nat.ℕ) → Typed.Both T15 T16
-  s13 = λ bs. Call.callB ps·1 r·1 (claims· .2) (claims· .3) T15 (record { pos = 1; ty = y7; ref = λ x. x }, (record { pos = 8; st = []; d = 0; at = λ x. x },
-      (Num.vFld 3 ((Syntax.field 0) ∷ []) 0 λ x. Goal.struct .as-values x .0, (Bool.bAt 7 λ x. x, tt)))) 9 (0 ∷ []) y3
-  abbrev s14 : (bs : List Nat.ℕ) → Typed.Mo T16 → Typed.Mo T17
-  s14 = λ bs. Scalar.n-room T16 3 y6
+  s13 = λ bs. Call.callB ps·1 r·1 (claims· .2) (claims· .3) T15 (Bool.bFld 3 ((Syntax.field 2) ∷ []) 9 λ x. Goal.struct .as-values x .1 .1 .0, (Bool.bAt 7 λ
+      x. x, tt)) 10 [] Syntax.tyBool
+  abbrev s14 : (bs : List Nat.ℕ) → Typed.Both T16 T17
+  s14 = λ bs. Call.callB ps·2 r·2 (claims· .4) (claims· .5) T16 (record { pos = 1; ty = y7; ref = λ x. x }, (record { pos = 8; st = []; d = 0; at = λ x. x },
+      (Num.vFld 3 ((Syntax.field 0) ∷ []) 0 λ x. Goal.struct .as-values x .0, (Bool.bAt 10 λ x. x, tt)))) 9 (0 ∷ []) y3
   abbrev s15 : (bs : List Nat.ℕ) → Typed.Mo T17 → Typed.Mo T18
   s15 = λ bs. Scalar.n-room T17 8 y5
   abbrev s16 : (bs : List Nat.ℕ) → Typed.Mo T18 → Typed.Mo T19
-  s16 = λ bs. Make.n-struct-make (Apart.apartT Goal.the-type) T18 0 λ m. (m .1 .1 .1 .1 .1 .1 .1 .1 .1 .0, (m .1 .1 .1 .1 .1 .1 .1 .0, tt))
+  s16 = λ bs. Scalar.n-room T18 10 Syntax.tyBool
   abbrev s17 : (bs : List Nat.ℕ) → Typed.Mo T19 → Typed.Mo T20
-  s17 = λ bs. Scalar.n-room T19 7 Syntax.tyBool
+  s17 = λ bs. Make.n-struct-make (Apart.apartT Goal.the-type) T19 0 λ m. (m .1 .1 .1 .1 .1 .1 .1 .1 .1 .0, (m .1 .1 .1 .1 .1 .1 .1 .0, (Goal.struct .as-values
+      (m .1 .1 .1 .0) .1 .1 .0, tt)))
   abbrev s18 : (bs : List Nat.ℕ) → Typed.Mo T20 → Typed.Mo T21
-  s18 = λ bs. Scalar.n-room T20 9 y3
+  s18 = λ bs. Scalar.n-room T20 3 y6
   abbrev s19 : (bs : List Nat.ℕ) → Typed.Mo T21 → Typed.Mo T22
-  s19 = λ bs. Scalar.n-room T21 2 Syntax.tyBool
+  s19 = λ bs. Scalar.n-room T21 7 Syntax.tyBool
   abbrev s20 : (bs : List Nat.ℕ) → Typed.Mo T22 → Typed.Mo T23
-  s20 = λ bs. Scalar.n-room T22 4 y3
+  s20 = λ bs. Scalar.n-room T22 9 y3
   abbrev s21 : (bs : List Nat.ℕ) → Typed.Mo T23 → Typed.Mo T24
-  s21 = λ bs. AtSlots.n-as-by T23 0 (Rows.whole (Declared.row Goal.the-type)) λ v. Goal.struct .make v tt
+  s21 = λ bs. Scalar.n-room T23 2 Syntax.tyBool
+  abbrev s22 : (bs : List Nat.ℕ) → Typed.Mo T24 → Typed.Mo T25
+  s22 = λ bs. Scalar.n-room T24 4 y3
+  abbrev s23 : (bs : List Nat.ℕ) → Typed.Mo T25 → Typed.Mo T26
+  s23 = λ bs. AtSlots.n-as-by T25 0 (Rows.whole (Declared.row Goal.the-type)) λ v. Goal.struct .make v tt
   module _ (Pre· : (κs : Lifetimes.Lfts 1) → Kinds.Dens κs ps → Type 0) (Post· : (κs : Lifetimes.Lfts 1) → (a : Kinds.Dens κs ps) → Kinds.Plain 1 ps r κs)
       where
     module _ (M : Type 1) where
       abbrev pub Closed : Type 2
       Closed = (𝓤 : URA.URA M) (H : Wp.Heap 𝓤) (A : Atoms.Atoms 𝓤) (W : Kit.Given 𝓤 H A) (𝓣 : Wp.Tables 𝓤 H) (known0 : Plain.Known 𝓤 H A W 𝓣 0 ps·0 r·0
-          (claims· .0) (claims· .1) "reader::parity_on") (known1 : Plain.Known 𝓤 H A W 𝓣 1 ps·1 r·1 (claims· .2) (claims· .3) "reader::stop_after") →
-          Statement.Triple 𝓤 (Wp.WpFn 𝓤 H (𝓣 .C) (𝓣 .Λ) (Function.fnOf 1 ps r xs m hs body)) (Function.plainOf 𝓤 H A 1 ps r Pre· Post·)
+          (claims· .0) (claims· .1) "reader::parity_on") (known1 : Plain.Known 𝓤 H A W 𝓣 0 ps·1 r·1 (claims· .2) (claims· .3) "node_records::differs") (known2
+          : Plain.Known 𝓤 H A W 𝓣 1 ps·2 r·2 (claims· .4) (claims· .5) "reader::stop_after") → Statement.Triple 𝓤 (Wp.WpFn 𝓤 H (𝓣 .C) (𝓣 .Λ) (Function.fnOf 1
+          ps r xs m hs body)) (Function.plainOf 𝓤 H A 1 ps r Pre· Post·)
     module _ where
       abbrev at0 : (bs : List Nat.ℕ) → Typed.TF T10 O1
       at0 = λ bs. Typed.atRet O1
@@ -408,44 +434,48 @@ module _ (claims· : Claims) where
       at9 = λ bs. λ Ψ. Typed.pass T2 T11 (s8 bs) (at8 bs Ψ)
       abbrev at10 : (bs : List Nat.ℕ) → Typed.TF T2 O1
       at10 = λ bs. Scalar.Φcond T2 O1 10 (λ x. x) (at7 bs) (at9 bs)
-      abbrev at11 : (bs : List Nat.ℕ) → Typed.TF T24 O0
+      abbrev at11 : (bs : List Nat.ℕ) → Typed.TF T26 O0
       at11 = λ bs. Typed.atRet O0
-      abbrev at12 : (bs : List Nat.ℕ) → Typed.TF T23 O0
-      at12 = λ bs. λ Ψ. Typed.pass T23 T24 (s21 bs) (at11 bs Ψ)
-      abbrev at13 : (bs : List Nat.ℕ) → Typed.TF T22 O0
-      at13 = λ bs. λ Ψ. Typed.pass T22 T23 (s20 bs) (at12 bs Ψ)
-      abbrev at14 : (bs : List Nat.ℕ) → Typed.TF T21 O0
-      at14 = λ bs. λ Ψ. Typed.pass T21 T22 (s19 bs) (at13 bs Ψ)
-      abbrev at15 : (bs : List Nat.ℕ) → Typed.TF T20 O0
-      at15 = λ bs. λ Ψ. Typed.pass T20 T21 (s18 bs) (at14 bs Ψ)
-      abbrev at16 : (bs : List Nat.ℕ) → Typed.TF T19 O0
-      at16 = λ bs. λ Ψ. Typed.pass T19 T20 (s17 bs) (at15 bs Ψ)
-      abbrev at17 : (bs : List Nat.ℕ) → Typed.TF T18 O0
-      at17 = λ bs. λ Ψ. Typed.pass T18 T19 (s16 bs) (at16 bs Ψ)
-      abbrev at18 : (bs : List Nat.ℕ) → Typed.TF T17 O0
-      at18 = λ bs. λ Ψ. Typed.pass T17 T18 (s15 bs) (at17 bs Ψ)
-      abbrev at19 : (bs : List Nat.ℕ) → Typed.TF T16 O0
-      at19 = λ bs. λ Ψ. Typed.pass T16 T17 (s14 bs) (at18 bs Ψ)
-      abbrev at20 : (bs : List Nat.ℕ) → Typed.TF T15 O0
-      at20 = λ bs. λ Ψ. Typed.both (s13 bs) (at19 bs Ψ)
-      abbrev at21 : (bs : List Nat.ℕ) → Typed.TF T14 O0
-      at21 = λ bs. λ Ψ. Typed.pass T14 T15 (s12 bs) (at20 bs Ψ)
-      abbrev at22 : (bs : List Nat.ℕ) → Typed.TF T13 O0
-      at22 = λ bs. λ Ψ. Typed.both (s11 bs) (at21 bs Ψ)
-      abbrev at23 : (bs : List Nat.ℕ) → Typed.TF T12 O0
-      at23 = λ bs. λ Ψ. Typed.pass T12 T13 (s10 bs) (at22 bs Ψ)
-      abbrev at24 : (bs : List Nat.ℕ) → Typed.TF T3 O0
-      at24 = λ bs. λ Ψ. Typed.both (s9 bs) (at23 bs Ψ)
-      abbrev at25 : (bs : List Nat.ℕ) → Typed.TF T2 O0
-      at25 = λ bs. λ Ψ. at10 bs (Typed.wantNext T3 O0 (at24 bs Ψ) Ψ)
-      abbrev at26 : (bs : List Nat.ℕ) → Typed.TF T0 O0
-      at26 = λ bs. λ Ψ. Typed.ask (s0 bs) (at25 bs Ψ)
+      abbrev at12 : (bs : List Nat.ℕ) → Typed.TF T25 O0
+      at12 = λ bs. λ Ψ. Typed.pass T25 T26 (s23 bs) (at11 bs Ψ)
+      abbrev at13 : (bs : List Nat.ℕ) → Typed.TF T24 O0
+      at13 = λ bs. λ Ψ. Typed.pass T24 T25 (s22 bs) (at12 bs Ψ)
+      abbrev at14 : (bs : List Nat.ℕ) → Typed.TF T23 O0
+      at14 = λ bs. λ Ψ. Typed.pass T23 T24 (s21 bs) (at13 bs Ψ)
+      abbrev at15 : (bs : List Nat.ℕ) → Typed.TF T22 O0
+      at15 = λ bs. λ Ψ. Typed.pass T22 T23 (s20 bs) (at14 bs Ψ)
+      abbrev at16 : (bs : List Nat.ℕ) → Typed.TF T21 O0
+      at16 = λ bs. λ Ψ. Typed.pass T21 T22 (s19 bs) (at15 bs Ψ)
+      abbrev at17 : (bs : List Nat.ℕ) → Typed.TF T20 O0
+      at17 = λ bs. λ Ψ. Typed.pass T20 T21 (s18 bs) (at16 bs Ψ)
+      abbrev at18 : (bs : List Nat.ℕ) → Typed.TF T19 O0
+      at18 = λ bs. λ Ψ. Typed.pass T19 T20 (s17 bs) (at17 bs Ψ)
+      abbrev at19 : (bs : List Nat.ℕ) → Typed.TF T18 O0
+      at19 = λ bs. λ Ψ. Typed.pass T18 T19 (s16 bs) (at18 bs Ψ)
+      abbrev at20 : (bs : List Nat.ℕ) → Typed.TF T17 O0
+      at20 = λ bs. λ Ψ. Typed.pass T17 T18 (s15 bs) (at19 bs Ψ)
+      abbrev at21 : (bs : List Nat.ℕ) → Typed.TF T16 O0
+      at21 = λ bs. λ Ψ. Typed.both (s14 bs) (at20 bs Ψ)
+      abbrev at22 : (bs : List Nat.ℕ) → Typed.TF T15 O0
+      at22 = λ bs. λ Ψ. Typed.both (s13 bs) (at21 bs Ψ)
+      abbrev at23 : (bs : List Nat.ℕ) → Typed.TF T14 O0
+      at23 = λ bs. λ Ψ. Typed.pass T14 T15 (s12 bs) (at22 bs Ψ)
+      abbrev at24 : (bs : List Nat.ℕ) → Typed.TF T13 O0
+      at24 = λ bs. λ Ψ. Typed.both (s11 bs) (at23 bs Ψ)
+      abbrev at25 : (bs : List Nat.ℕ) → Typed.TF T12 O0
+      at25 = λ bs. λ Ψ. Typed.pass T12 T13 (s10 bs) (at24 bs Ψ)
+      abbrev at26 : (bs : List Nat.ℕ) → Typed.TF T3 O0
+      at26 = λ bs. λ Ψ. Typed.both (s9 bs) (at25 bs Ψ)
+      abbrev at27 : (bs : List Nat.ℕ) → Typed.TF T2 O0
+      at27 = λ bs. λ Ψ. at10 bs (Typed.wantNext T3 O0 (at26 bs Ψ) Ψ)
+      abbrev at28 : (bs : List Nat.ℕ) → Typed.TF T0 O0
+      at28 = λ bs. λ Ψ. Typed.ask (s0 bs) (at27 bs Ψ)
       abbrev pub Φ : (bs : List Nat.ℕ) → Typed.TF T0 O0
-      Φ = λ bs. at26 bs
+      Φ = λ bs. at28 bs
       module _ {M : Type 1} (𝓤 : URA.URA M) (H : Wp.Heap 𝓤) (A : Atoms.Atoms 𝓤) (W : Kit.Given 𝓤 H A) (𝓣 : Wp.Tables 𝓤 H) where
         abbrev Knowns : Type 1
-        Knowns = Plain.Known 𝓤 H A W 𝓣 0 ps·0 r·0 (claims· .0) (claims· .1) "reader::parity_on" × Plain.Known 𝓤 H A W 𝓣 1 ps·1 r·1 (claims· .2) (claims· .3)
-            "reader::stop_after"
+        Knowns = Plain.Known 𝓤 H A W 𝓣 0 ps·0 r·0 (claims· .0) (claims· .1) "reader::parity_on" × Plain.Known 𝓤 H A W 𝓣 0 ps·1 r·1 (claims· .2) (claims· .3)
+            "node_records::differs" × Plain.Known 𝓤 H A W 𝓣 1 ps·2 r·2 (claims· .4) (claims· .5) "reader::stop_after"
       module _ (κs : Lifetimes.Lfts 1) (qs : Lifetimes.Shares 1) where
         abbrev K0 : Row.Life
         K0 = Row.lease (κs .0) (qs .0)
@@ -500,7 +530,11 @@ module _ (claims· : Claims) where
         abbrev G23 : Row.Cx
         G23 = record { locals = t20; slots = l0 }
         abbrev G24 : Row.Cx
-        G24 = record { locals = t1; slots = l0 }
+        G24 = record { locals = t21; slots = l0 }
+        abbrev G25 : Row.Cx
+        G25 = record { locals = t22; slots = l0 }
+        abbrev G26 : Row.Cx
+        G26 = record { locals = t1; slots = l0 }
         abbrev Δ0 : Typed.Outs
         Δ0 = record { next = Option.none; exits = []; returns = Option.some G1 }
         abbrev Δ1 : Typed.Outs
@@ -544,50 +578,61 @@ module _ (claims· : Claims) where
               Row.sBool)) d8
           d10 : Typed.Typed 𝓤 H A 𝓣 E G2 b5 Δ1 (at10 bs)
           d10 = Scalar.t-cond 𝓤 H A W E 𝓣 G2 10 (λ x. x) b3 b4 Δ1 (at7 bs) (at9 bs) (Scalar.reads-sc 𝓤 H A W Row.sBool) Path'.refl d7 d9
-          d11 : Typed.Typed 𝓤 H A 𝓣 E G24 b10 Δ0 (at11 bs)
+          d11 : Typed.Typed 𝓤 H A 𝓣 E G26 b11 Δ0 (at11 bs)
           d11 = Typed.t-return 𝓤 H A W 𝓣 E Δ0 tt
-          d12 : Typed.Typed 𝓤 H A 𝓣 E G23 b10 Δ0 (at12 bs)
-          d12 = Typed.g-pre 𝓤 H A W 𝓣 E G23 G24 b10 Δ0 (Typed.pass T23 T24 (s21 bs)) (at11 bs) (AtSlots.g-as-by 𝓤 H A W E (λ ρ. Unit) G23 0 (Rows.whole
-              (Declared.row Goal.the-type)) (λ v. Goal.struct .make v tt) (Own.told-none 𝓤 H A (G23 .slots)) λ ρ told v b. Apart.folds 𝓤 H A Goal.the-type
+          d12 : Typed.Typed 𝓤 H A 𝓣 E G25 b11 Δ0 (at12 bs)
+          d12 = Typed.g-pre 𝓤 H A W 𝓣 E G25 G26 b11 Δ0 (Typed.pass T25 T26 (s23 bs)) (at11 bs) (AtSlots.g-as-by 𝓤 H A W E (λ ρ. Unit) G25 0 (Rows.whole
+              (Declared.row Goal.the-type)) (λ v. Goal.struct .make v tt) (Own.told-none 𝓤 H A (G25 .slots)) λ ρ told v b. Apart.folds 𝓤 H A Goal.the-type
               (Goal.struct .Ghost) (Goal.struct .make) (λ v g. Path'.refl) ρ v tt b) d11
-          d13 : Typed.Typed 𝓤 H A 𝓣 E G22 b10 Δ0 (at13 bs)
-          d13 = Typed.g-pre 𝓤 H A W 𝓣 E G22 G23 b10 Δ0 (Typed.pass T22 T23 (s20 bs)) (at12 bs) (Scalar.g-room 𝓤 H A W E G22 4 y3 (Scalar.room-sc 𝓤 H A W
+          d13 : Typed.Typed 𝓤 H A 𝓣 E G24 b11 Δ0 (at13 bs)
+          d13 = Typed.g-pre 𝓤 H A W 𝓣 E G24 G25 b11 Δ0 (Typed.pass T24 T25 (s22 bs)) (at12 bs) (Scalar.g-room 𝓤 H A W E G24 4 y3 (Scalar.room-sc 𝓤 H A W
               (Row.sInt Syntax.w64))) d12
-          d14 : Typed.Typed 𝓤 H A 𝓣 E G21 b10 Δ0 (at14 bs)
-          d14 = Typed.g-pre 𝓤 H A W 𝓣 E G21 G22 b10 Δ0 (Typed.pass T21 T22 (s19 bs)) (at13 bs) (Scalar.g-room 𝓤 H A W E G21 2 Syntax.tyBool (Scalar.room-sc 𝓤
+          d14 : Typed.Typed 𝓤 H A 𝓣 E G23 b11 Δ0 (at14 bs)
+          d14 = Typed.g-pre 𝓤 H A W 𝓣 E G23 G24 b11 Δ0 (Typed.pass T23 T24 (s21 bs)) (at13 bs) (Scalar.g-room 𝓤 H A W E G23 2 Syntax.tyBool (Scalar.room-sc 𝓤
               H A W Row.sBool)) d13
-          d15 : Typed.Typed 𝓤 H A 𝓣 E G20 b10 Δ0 (at15 bs)
-          d15 = Typed.g-pre 𝓤 H A W 𝓣 E G20 G21 b10 Δ0 (Typed.pass T20 T21 (s18 bs)) (at14 bs) (Scalar.g-room 𝓤 H A W E G20 9 y3 (Scalar.room-sc 𝓤 H A W
+          d15 : Typed.Typed 𝓤 H A 𝓣 E G22 b11 Δ0 (at15 bs)
+          d15 = Typed.g-pre 𝓤 H A W 𝓣 E G22 G23 b11 Δ0 (Typed.pass T22 T23 (s20 bs)) (at14 bs) (Scalar.g-room 𝓤 H A W E G22 9 y3 (Scalar.room-sc 𝓤 H A W
               (Row.sInt Syntax.w64))) d14
-          d16 : Typed.Typed 𝓤 H A 𝓣 E G19 b10 Δ0 (at16 bs)
-          d16 = Typed.g-pre 𝓤 H A W 𝓣 E G19 G20 b10 Δ0 (Typed.pass T19 T20 (s17 bs)) (at15 bs) (Scalar.g-room 𝓤 H A W E G19 7 Syntax.tyBool (Scalar.room-sc 𝓤
+          d16 : Typed.Typed 𝓤 H A 𝓣 E G21 b11 Δ0 (at16 bs)
+          d16 = Typed.g-pre 𝓤 H A W 𝓣 E G21 G22 b11 Δ0 (Typed.pass T21 T22 (s19 bs)) (at15 bs) (Scalar.g-room 𝓤 H A W E G21 7 Syntax.tyBool (Scalar.room-sc 𝓤
               H A W Row.sBool)) d15
-          d17 : Typed.Typed 𝓤 H A 𝓣 E G18 b11 Δ0 (at17 bs)
-          d17 = Typed.s-seq 𝓤 H A W 𝓣 E G18 G19 b9 b10 Δ0 (Typed.pass T18 T19 (s16 bs)) (at16 bs) (Make.t-struct-make 𝓤 H A W E 𝓣 (Apart.apartT Goal.the-type)
-              Laws''.the-laws Laws''.the-plain G18 0 ((Scalar.oAt 9 y3 (Row.valS (Row.sInt Syntax.w64))) ∷ (Scalar.oAt 7 Syntax.tyBool (Row.valS Row.sBool)) ∷
-              []) (λ m. (m .1 .1 .1 .1 .1 .1 .1 .1 .1 .0, (m .1 .1 .1 .1 .1 .1 .1 .0, tt))) (Reads'.room-gone 𝓤 H A y6) ((Scalar.reads-sc 𝓤 H A W (Row.sInt
-              Syntax.w64), Path'.refl), ((Scalar.reads-sc 𝓤 H A W Row.sBool, Path'.refl), tt)) Path'.refl (λ u. Path'.refl) λ m. Make.is-wt (Apart.apartT
-              Goal.the-type) Laws''.the-laws (Make.u64-wt, (Make.bool-wt, tt)) (m .1 .1 .1 .1 .1 .1 .1 .1 .1 .0, (m .1 .1 .1 .1 .1 .1 .1 .0, tt))) d16
-          d18 : Typed.Typed 𝓤 H A 𝓣 E G17 b11 Δ0 (at18 bs)
-          d18 = Typed.g-pre 𝓤 H A W 𝓣 E G17 G18 b11 Δ0 (Typed.pass T17 T18 (s15 bs)) (at17 bs) (Scalar.g-room 𝓤 H A W E G17 8 y5 (Local.room-whole 𝓤 H A W
-              (Declared.row Run.the-type) y5 Path'.refl)) d17
-          d19 : Typed.Typed 𝓤 H A 𝓣 E G16 b11 Δ0 (at19 bs)
-          d19 = Typed.g-pre 𝓤 H A W 𝓣 E G16 G17 b11 Δ0 (Typed.pass T16 T17 (s14 bs)) (at18 bs) (Scalar.g-room 𝓤 H A W E G16 3 y6 (Local.room-whole 𝓤 H A W
-              (Declared.row Goal.the-type) y6 Path'.refl)) d18
-          d20 : Typed.Typed 𝓤 H A 𝓣 E G15 b12 Δ0 (at20 bs)
-          d20 = Typed.s-seq 𝓤 H A W 𝓣 E G15 G16 b8 b11 Δ0 (Typed.both (s13 bs)) (at19 bs) (Plain.t-call-plain 𝓤 H A W 𝓣 1 ps·1 r·1 (claims· .2) (claims· .3)
-              "reader::stop_after" (known .1) E (λ pos β. β) G15 (record { pos = 1; ty = y7; ref = λ x. x }, (record { pos = 8; st = []; d = 0; at = λ x. x },
-              (Num.vFld 3 ((Syntax.field 0) ∷ []) 0 λ x. Goal.struct .as-values x .0, (Bool.bAt 7 λ x. x, tt)))) 9 (0 ∷ []) (Call.sub-id 𝓤 H A W (G15 .slots))
-              (ShrSlice.spares-sslice 𝓤 H A W NodeRecordT.row y7 0, Shared.reads-sslice 𝓤 H A W NodeRecordT.row y7 0, Path'.refl, ((Yields.yields-copy 𝓤 H A W
-              (λ ρ. Unit) (Declared.row Run.the-type) Path'.refl (Copies.cStruct Run.the-type Laws.the-laws Laws.the-copy .copy 𝓤 H A W) (Rows.whole
-              (Declared.row Run.the-type)) (λ x. x) (λ x. x) (λ ρ told. Local.mem-whole 𝓤 H A W (Declared.row Run.the-type) ρ) λ ρ told. Local.whole-mem 𝓤 H A
-              W (Declared.row Run.the-type) ρ, Path'.refl), ((Reads.reads-field 𝓤 H A W Goal.the-type Laws''.the-laws 0 y3 0 Path'.refl, Path'.refl),
-              ((Scalar.reads-sc 𝓤 H A W Row.sBool, Path'.refl), tt)))) (Reads'.room-gone 𝓤 H A y3) (tt, tt) Path'.refl) d19
-          d21 : Typed.Typed 𝓤 H A 𝓣 E G14 b12 Δ0 (at21 bs)
-          d21 = Typed.g-pre 𝓤 H A W 𝓣 E G14 G15 b12 Δ0 (Typed.pass T14 T15 (s12 bs)) (at20 bs) (Scalar.g-room 𝓤 H A W E G14 6 y10 (Local.room-whole 𝓤 H A W
-              (Declared.row Iteration.the-type) y10 Path'.refl)) d20
-          d22 : Typed.Typed 𝓤 H A 𝓣 E G13 b13 Δ0 (at22 bs)
-          d22 = Typed.s-seq 𝓤 H A W 𝓣 E G13 G14 b7 b12 Δ0 (Typed.both (s11 bs)) (at21 bs) (WayStmt.t-way-copy-out 𝓤 H A W E 𝓣 (Declared.row Run.the-type)
+          d17 : Typed.Typed 𝓤 H A 𝓣 E G20 b11 Δ0 (at17 bs)
+          d17 = Typed.g-pre 𝓤 H A W 𝓣 E G20 G21 b11 Δ0 (Typed.pass T20 T21 (s18 bs)) (at16 bs) (Scalar.g-room 𝓤 H A W E G20 3 y6 (Local.room-whole 𝓤 H A W
+              (Declared.row Goal.the-type) y6 Path'.refl)) d16
+          d18 : Typed.Typed 𝓤 H A 𝓣 E G19 b12 Δ0 (at18 bs)
+          d18 = Typed.s-seq 𝓤 H A W 𝓣 E G19 G20 b10 b11 Δ0 (Typed.pass T19 T20 (s17 bs)) (at17 bs) (Make.t-struct-make 𝓤 H A W E 𝓣 (Apart.apartT
+              Goal.the-type) Laws''.the-laws Laws''.the-plain G19 0 ((Scalar.oAt 9 y3 (Row.valS (Row.sInt Syntax.w64))) ∷ (Scalar.oAt 7 Syntax.tyBool
+              (Row.valS Row.sBool)) ∷ (Scalar.oFld 3 ((Syntax.field 2) ∷ []) Syntax.tyBool 9 (Reads.fieldV Goal.the-type Laws''.the-laws 2)) ∷ []) (λ m. (m .1
+              .1 .1 .1 .1 .1 .1 .1 .1 .0, (m .1 .1 .1 .1 .1 .1 .1 .0, (Goal.struct .as-values (m .1 .1 .1 .0) .1 .1 .0, tt)))) (Reads'.room-gone 𝓤 H A y6)
+              ((Scalar.reads-sc 𝓤 H A W (Row.sInt Syntax.w64), Path'.refl), ((Scalar.reads-sc 𝓤 H A W Row.sBool, Path'.refl), ((Reads.reads-field 𝓤 H A W
+              Goal.the-type Laws''.the-laws 2 Syntax.tyBool 9 Path'.refl, Path'.refl), tt))) Path'.refl (λ u. Path'.refl) λ m. Make.is-wt (Apart.apartT
+              Goal.the-type) Laws''.the-laws (Make.u64-wt, (Make.bool-wt, (Make.bool-wt, tt))) (m .1 .1 .1 .1 .1 .1 .1 .1 .1 .0, (m .1 .1 .1 .1 .1 .1 .1 .0,
+              (Goal.struct .as-values (m .1 .1 .1 .0) .1 .1 .0, tt)))) d17
+          d19 : Typed.Typed 𝓤 H A 𝓣 E G18 b12 Δ0 (at19 bs)
+          d19 = Typed.g-pre 𝓤 H A W 𝓣 E G18 G19 b12 Δ0 (Typed.pass T18 T19 (s16 bs)) (at18 bs) (Scalar.g-room 𝓤 H A W E G18 10 Syntax.tyBool (Scalar.room-sc 𝓤
+              H A W Row.sBool)) d18
+          d20 : Typed.Typed 𝓤 H A 𝓣 E G17 b12 Δ0 (at20 bs)
+          d20 = Typed.g-pre 𝓤 H A W 𝓣 E G17 G18 b12 Δ0 (Typed.pass T17 T18 (s15 bs)) (at19 bs) (Scalar.g-room 𝓤 H A W E G17 8 y5 (Local.room-whole 𝓤 H A W
+              (Declared.row Run.the-type) y5 Path'.refl)) d19
+          d21 : Typed.Typed 𝓤 H A 𝓣 E G16 b13 Δ0 (at21 bs)
+          d21 = Typed.s-seq 𝓤 H A W 𝓣 E G16 G17 b9 b12 Δ0 (Typed.both (s14 bs)) (at20 bs) (Plain.t-call-plain 𝓤 H A W 𝓣 1 ps·2 r·2 (claims· .4) (claims· .5)
+              "reader::stop_after" (known .2) E (λ pos β. β) G16 (record { pos = 1; ty = y7; ref = λ x. x }, (record { pos = 8; st = []; d = 0; at = λ x. x },
+              (Num.vFld 3 ((Syntax.field 0) ∷ []) 0 λ x. Goal.struct .as-values x .0, (Bool.bAt 10 λ x. x, tt)))) 9 (0 ∷ []) (Call.sub-id 𝓤 H A W (G16
+              .slots)) (ShrSlice.spares-sslice 𝓤 H A W NodeRecordT.row y7 0, Shared.reads-sslice 𝓤 H A W NodeRecordT.row y7 0, Path'.refl,
+              ((Yields.yields-copy 𝓤 H A W (λ ρ. Unit) (Declared.row Run.the-type) Path'.refl (Copies.cStruct Run.the-type Laws.the-laws Laws.the-copy .copy 𝓤
+              H A W) (Rows.whole (Declared.row Run.the-type)) (λ x. x) (λ x. x) (λ ρ told. Local.mem-whole 𝓤 H A W (Declared.row Run.the-type) ρ) λ ρ told.
+              Local.whole-mem 𝓤 H A W (Declared.row Run.the-type) ρ, Path'.refl), ((Reads.reads-field 𝓤 H A W Goal.the-type Laws''.the-laws 0 y3 0 Path'.refl,
+              Path'.refl), ((Scalar.reads-sc 𝓤 H A W Row.sBool, Path'.refl), tt)))) (Reads'.room-gone 𝓤 H A y3) (tt, tt) Path'.refl) d20
+          d22 : Typed.Typed 𝓤 H A 𝓣 E G15 b14 Δ0 (at22 bs)
+          d22 = Typed.s-seq 𝓤 H A W 𝓣 E G15 G16 b8 b13 Δ0 (Typed.both (s13 bs)) (at21 bs) (Plain.t-call-plain 𝓤 H A W 𝓣 0 ps·1 r·1 (claims· .2) (claims· .3)
+              "node_records::differs" (known .1) E (λ pos β. β) G15 (Bool.bFld 3 ((Syntax.field 2) ∷ []) 9 λ x. Goal.struct .as-values x .1 .1 .0, (Bool.bAt 7
+              λ x. x, tt)) 10 [] (Call.sub-id 𝓤 H A W (G15 .slots)) ((Reads.reads-field 𝓤 H A W Goal.the-type Laws''.the-laws 2 Syntax.tyBool 9 Path'.refl,
+              Path'.refl), ((Scalar.reads-sc 𝓤 H A W Row.sBool, Path'.refl), tt)) (Reads'.room-gone 𝓤 H A Syntax.tyBool) tt Path'.refl) d21
+          d23 : Typed.Typed 𝓤 H A 𝓣 E G14 b14 Δ0 (at23 bs)
+          d23 = Typed.g-pre 𝓤 H A W 𝓣 E G14 G15 b14 Δ0 (Typed.pass T14 T15 (s12 bs)) (at22 bs) (Scalar.g-room 𝓤 H A W E G14 6 y10 (Local.room-whole 𝓤 H A W
+              (Declared.row Iteration.the-type) y10 Path'.refl)) d22
+          d24 : Typed.Typed 𝓤 H A 𝓣 E G13 b15 Δ0 (at24 bs)
+          d24 = Typed.s-seq 𝓤 H A W 𝓣 E G13 G14 b7 b14 Δ0 (Typed.both (s11 bs)) (at23 bs) (WayStmt.t-way-copy-out 𝓤 H A W E 𝓣 (Declared.row Run.the-type)
               Path'.refl (Copies.cStruct Run.the-type Laws.the-laws Laws.the-copy .copy 𝓤 H A W) (λ ρ. Unit) G13 (Row.out 6 (G13 .locals)) (λ u. Row.drop 6
               (G13 .locals) u) (G13 .slots) 6 (λ t. (Syntax.field 0) ∷ t) y5 y5 8 (Rows.whole (Declared.row Run.the-type)) (λ x. x) (λ u. At.getAt
               (Iteration.the-type .parts) 0 (Iteration.struct .as-values (u .1 .1 .1 .1 .1 .1 .0))) (λ u. (Row.hd 0 (Row.tl (Row.tl (Row.tl (Row.tl (Row.tl
@@ -605,12 +650,12 @@ module _ (claims· : Claims) where
               (Row.tl (Row.tl (Row.tl (Row.tl bs)))))), 0) (Behind.look-at 𝓤 H A W q Iteration.the-type Laws'3.the-laws 0 0 Path'.refl Path'.refl (Row.hd 0
               (Row.tl (Row.tl (Row.tl (Row.tl (Row.tl (Row.tl bs)))))), 0) (u .1 .1 .1 .1 .1 .1 .0) (Iteration.struct .as-values (u .1 .1 .1 .1 .1 .1 .0))
               Path'.refl)) (Reads'.room-gone 𝓤 H A y5) (Yields.makes-mem 𝓤 H A W (λ ρ. Unit) (Declared.row Run.the-type) Path'.refl (Rows.whole (Declared.row
-              Run.the-type)) (λ x. x) λ ρ told. Local.whole-mem 𝓤 H A W (Declared.row Run.the-type) ρ) Path'.refl Path'.refl Path'.refl) d21
-          d23 : Typed.Typed 𝓤 H A 𝓣 E G12 b13 Δ0 (at23 bs)
-          d23 = Typed.g-pre 𝓤 H A W 𝓣 E G12 G13 b13 Δ0 (Typed.pass T12 T13 (s10 bs)) (at22 bs) (Scalar.g-room 𝓤 H A W E G12 5 y8 (Local.room-whole 𝓤 H A W
-              (Declared.row Open.the-type) y8 Path'.refl)) d22
-          d24 : Typed.Typed 𝓤 H A 𝓣 E G3 b14 Δ0 (at24 bs)
-          d24 = Typed.s-seq 𝓤 H A W 𝓣 E G3 G12 b6 b13 Δ0 (Typed.both (s9 bs)) (at23 bs) (Plain.t-call-plain 𝓤 H A W 𝓣 0 ps·0 r·0 (claims· .0) (claims· .1)
+              Run.the-type)) (λ x. x) λ ρ told. Local.whole-mem 𝓤 H A W (Declared.row Run.the-type) ρ) Path'.refl Path'.refl Path'.refl) d23
+          d25 : Typed.Typed 𝓤 H A 𝓣 E G12 b15 Δ0 (at25 bs)
+          d25 = Typed.g-pre 𝓤 H A W 𝓣 E G12 G13 b15 Δ0 (Typed.pass T12 T13 (s10 bs)) (at24 bs) (Scalar.g-room 𝓤 H A W E G12 5 y8 (Local.room-whole 𝓤 H A W
+              (Declared.row Open.the-type) y8 Path'.refl)) d24
+          d26 : Typed.Typed 𝓤 H A 𝓣 E G3 b16 Δ0 (at26 bs)
+          d26 = Typed.s-seq 𝓤 H A W 𝓣 E G3 G12 b6 b15 Δ0 (Typed.both (s9 bs)) (at25 bs) (Plain.t-call-plain 𝓤 H A W 𝓣 0 ps·0 r·0 (claims· .0) (claims· .1)
               "reader::parity_on" (known .0) E (λ pos β. β) G3 (Bool.bFld 3 ((Syntax.field 1) ∷ []) 8 λ x. Goal.struct .as-values x .1 .0, (Num.vAt 4 λ x. x,
               (record { pos = 5; st = []; d = 0; at = λ x. x }, (record { pos = 6; st = []; d = 0; at = λ x. x }, tt)))) 7 [] (Call.sub-id 𝓤 H A W (G3
               .slots)) ((Reads.reads-field 𝓤 H A W Goal.the-type Laws''.the-laws 1 Syntax.tyBool 8 Path'.refl, Path'.refl), ((Scalar.reads-sc 𝓤 H A W
@@ -620,15 +665,15 @@ module _ (claims· : Claims) where
               ((Yields.yields-copy 𝓤 H A W (λ ρ. Unit) (Declared.row Iteration.the-type) Path'.refl (Copies.cStruct Iteration.the-type Laws'3.the-laws
               Laws'3.the-copy .copy 𝓤 H A W) (Rows.whole (Declared.row Iteration.the-type)) (λ x. x) (λ x. x) (λ ρ told. Local.mem-whole 𝓤 H A W (Declared.row
               Iteration.the-type) ρ) λ ρ told. Local.whole-mem 𝓤 H A W (Declared.row Iteration.the-type) ρ, Path'.refl), tt)))) (Reads'.room-gone 𝓤 H A
-              Syntax.tyBool) tt Path'.refl) d23
-          d25 : Typed.Typed 𝓤 H A 𝓣 E G2 b15 Δ0 (at25 bs)
-          d25 = Typed.t-seq 𝓤 H A W 𝓣 E G2 G3 b5 b14 Δ0 (at10 bs) (at24 bs) d10 d24
-          d26 : Typed.Typed 𝓤 H A 𝓣 E G0 b16 Δ0 (at26 bs)
-          d26 = Typed.s-seq 𝓤 H A W 𝓣 E G0 G2 b0 b15 Δ0 (Typed.ask (s0 bs)) (at25 bs) (Scalar.t-op1 𝓤 H A W E 𝓣 G0 Syntax.bitNot (Scalar.oAt 2 Syntax.tyBool
+              Syntax.tyBool) tt Path'.refl) d25
+          d27 : Typed.Typed 𝓤 H A 𝓣 E G2 b17 Δ0 (at27 bs)
+          d27 = Typed.t-seq 𝓤 H A W 𝓣 E G2 G3 b5 b16 Δ0 (at10 bs) (at26 bs) d10 d26
+          d28 : Typed.Typed 𝓤 H A 𝓣 E G0 b18 Δ0 (at28 bs)
+          d28 = Typed.s-seq 𝓤 H A W 𝓣 E G0 G2 b0 b17 Δ0 (Typed.ask (s0 bs)) (at27 bs) (Scalar.t-op1 𝓤 H A W E 𝓣 G0 Syntax.bitNot (Scalar.oAt 2 Syntax.tyBool
               (Row.valS Row.sBool)) 10 (Rows.sc-here Row.sBool) Syntax.tyBool (Row.valS Row.sBool) (Row.sBool .of) (Scalar.reads-sc 𝓤 H A W Row.sBool,
-              Path'.refl) (Reads'.room-gone 𝓤 H A Syntax.tyBool) (Scalar.holds-sc 𝓤 H A W Row.sBool) Path'.refl (λ u. Path'.refl) λ u. tt) d25
-          pub typed : Typed.Typed 𝓤 H A 𝓣 E (Function.Γin 1 ps r xs m κs qs) b16 (Function.Δret 1 ps r xs m κs qs) (Φ bs)
-          typed = d26
+              Path'.refl) (Reads'.room-gone 𝓤 H A Syntax.tyBool) (Scalar.holds-sc 𝓤 H A W Row.sBool) Path'.refl (λ u. Path'.refl) λ u. tt) d27
+          pub typed : Typed.Typed 𝓤 H A 𝓣 E (Function.Γin 1 ps r xs m κs qs) b18 (Function.Δret 1 ps r xs m κs qs) (Φ bs)
+          typed = d28
       module _ (κs : Lifetimes.Lfts 1) where
         pub record Args : Type 0 where
           pub t : Kinds.Den {n = 1} κs (ShrSlice.pShrS NodeRecordT.row 0 tt)
@@ -670,7 +715,7 @@ module _ (claims· : Claims) where
       abbrev pub m1 : (κs : Lifetimes.Lfts 1) → (args : Args κs) → (blocks : List Nat.ℕ) → Typed.Mo T2
       m1 = λ κs args blocks. s0 blocks .next (m0 κs args blocks)
       abbrev W1 : (κs : Lifetimes.Lfts 1) → (args : Args κs) → (blocks : List Nat.ℕ) → Typed.Want O1
-      W1 = λ κs args blocks. Typed.wantNext T3 O0 (at24 blocks (W0 κs args blocks)) (W0 κs args blocks)
+      W1 = λ κs args blocks. Typed.wantNext T3 O0 (at26 blocks (W0 κs args blocks)) (W0 κs args blocks)
       abbrev pub m2 : (before : Start) → Typed.Mo T4
       m2 = λ before. s1 (before .blocks) (m1 (before .κs) (before .args) (before .blocks))
       abbrev pub m3 : (before : Start) → Typed.Mo T5
@@ -732,71 +777,96 @@ module _ (claims· : Claims) where
       pub record After-r : Type 0 where
         pub before : After-parity-on
         pub r : After-r·own before
-      abbrev pub Need-stop-after-requires : Type 0
-      Need-stop-after-requires = (c : After-r) → s13 (c .before .before .before .blocks) .asks (m13 (c .before) (c .r .given))
+      abbrev pub Need-differs-requires : Type 0
+      Need-differs-requires = (c : After-r) → s13 (c .before .before .before .blocks) .asks (m13 (c .before) (c .r .given))
       abbrev pub m14 : (before : After-r) → (given : s13 (before .before .before .before .blocks) .gives (m13 (before .before) (before .r .given))) → Typed.Mo
           T16
       m14 = λ before given. s13 (before .before .before .before .blocks) .next (m13 (before .before) (before .r .given)) given
       module _ (before· : After-r) where
-        abbrev pub After-stop-after·own : Type 0
-        After-stop-after·own = Called.Called ps·1 r·1 (claims· .3) T15 (record { pos = 1; ty = y7; ref = λ x. x }, (record { pos = 8; st = []; d = 0; at = λ
-            x. x }, (Num.vFld 3 ((Syntax.field 0) ∷ []) 0 λ x. Goal.struct .as-values x .0, (Bool.bAt 7 λ x. x, tt)))) (m13 (before· .before) (before· .r
-            .given))
-      pub record After-stop-after : Type 0 where
+        abbrev pub After-differs·own : Type 0
+        After-differs·own = Called.Called ps·1 r·1 (claims· .3) T15 (Bool.bFld 3 ((Syntax.field 2) ∷ []) 9 λ x. Goal.struct .as-values x .1 .1 .0, (Bool.bAt 7
+            λ x. x, tt)) (m13 (before· .before) (before· .r .given))
+      pub record After-differs : Type 0 where
         pub before : After-r
+        pub differs : After-differs·own before
+      abbrev pub After-differs·gave : (c : After-differs) → s13 (c .before .before .before .before .blocks) .gives (m13 (c .before .before) (c .before .r
+          .given))
+      After-differs·gave = λ c. Called.given ps·1 r·1 (claims· .3) T15 (Bool.bFld 3 ((Syntax.field 2) ∷ []) 9 λ x. Goal.struct .as-values x .1 .1 .0,
+          (Bool.bAt 7 λ x. x, tt)) (m13 (c .before .before) (c .before .r .given)) (c .differs)
+      abbrev pub Need-stop-after-requires : Type 0
+      Need-stop-after-requires = (c : After-differs) → s14 (c .before .before .before .before .blocks) .asks (m14 (c .before) (After-differs·gave c))
+      abbrev pub m15 : (before : After-differs) → (given : s14 (before .before .before .before .before .blocks) .gives (m14 (before .before)
+          (After-differs·gave before))) → Typed.Mo T17
+      m15 = λ before given. s14 (before .before .before .before .before .blocks) .next (m14 (before .before) (After-differs·gave before)) given
+      module _ (before· : After-differs) where
+        abbrev pub After-stop-after·own : Type 0
+        After-stop-after·own = Called.Called ps·2 r·2 (claims· .5) T16 (record { pos = 1; ty = y7; ref = λ x. x }, (record { pos = 8; st = []; d = 0; at = λ
+            x. x }, (Num.vFld 3 ((Syntax.field 0) ∷ []) 0 λ x. Goal.struct .as-values x .0, (Bool.bAt 10 λ x. x, tt)))) (m14 (before· .before)
+            (After-differs·gave before·))
+      pub record After-stop-after : Type 0 where
+        pub before : After-differs
         pub stop-after : After-stop-after·own before
-      abbrev pub After-stop-after·gave : (c : After-stop-after) → s13 (c .before .before .before .before .blocks) .gives (m13 (c .before .before) (c .before
-          .r .given))
-      After-stop-after·gave = λ c. Called.given ps·1 r·1 (claims· .3) T15 (record { pos = 1; ty = y7; ref = λ x. x }, (record { pos = 8; st = []; d = 0; at =
-          λ x. x }, (Num.vFld 3 ((Syntax.field 0) ∷ []) 0 λ x. Goal.struct .as-values x .0, (Bool.bAt 7 λ x. x, tt)))) (m13 (c .before .before) (c .before .r
-          .given)) (c .stop-after)
-      abbrev pub m15 : (before : After-r) → (given : s13 (before .before .before .before .blocks) .gives (m13 (before .before) (before .r .given))) → Typed.Mo
-          T17
-      m15 = λ before given. s14 (before .before .before .before .blocks) (m14 before given)
-      abbrev pub m16 : (before : After-r) → (given : s13 (before .before .before .before .blocks) .gives (m13 (before .before) (before .r .given))) → Typed.Mo
-          T18
-      m16 = λ before given. s15 (before .before .before .before .blocks) (m15 before given)
-      abbrev pub m17 : (before : After-r) → (given : s13 (before .before .before .before .blocks) .gives (m13 (before .before) (before .r .given))) → Typed.Mo
-          T19
-      m17 = λ before given. s16 (before .before .before .before .blocks) (m16 before given)
-      abbrev pub m18 : (before : After-r) → (given : s13 (before .before .before .before .blocks) .gives (m13 (before .before) (before .r .given))) → Typed.Mo
-          T20
-      m18 = λ before given. s17 (before .before .before .before .blocks) (m17 before given)
-      abbrev pub m19 : (before : After-r) → (given : s13 (before .before .before .before .blocks) .gives (m13 (before .before) (before .r .given))) → Typed.Mo
-          T21
-      m19 = λ before given. s18 (before .before .before .before .blocks) (m18 before given)
-      abbrev pub m20 : (before : After-r) → (given : s13 (before .before .before .before .blocks) .gives (m13 (before .before) (before .r .given))) → Typed.Mo
-          T22
-      m20 = λ before given. s19 (before .before .before .before .blocks) (m19 before given)
-      abbrev pub m21 : (before : After-r) → (given : s13 (before .before .before .before .blocks) .gives (m13 (before .before) (before .r .given))) → Typed.Mo
-          T23
-      m21 = λ before given. s20 (before .before .before .before .blocks) (m20 before given)
-      abbrev pub m22 : (before : After-r) → (given : s13 (before .before .before .before .blocks) .gives (m13 (before .before) (before .r .given))) → Typed.Mo
-          T24
-      m22 = λ before given. s21 (before .before .before .before .blocks) (m21 before given)
+      abbrev pub After-stop-after·gave : (c : After-stop-after) → s14 (c .before .before .before .before .before .blocks) .gives (m14 (c .before .before)
+          (After-differs·gave (c .before)))
+      After-stop-after·gave = λ c. Called.given ps·2 r·2 (claims· .5) T16 (record { pos = 1; ty = y7; ref = λ x. x }, (record { pos = 8; st = []; d = 0; at =
+          λ x. x }, (Num.vFld 3 ((Syntax.field 0) ∷ []) 0 λ x. Goal.struct .as-values x .0, (Bool.bAt 10 λ x. x, tt)))) (m14 (c .before .before)
+          (After-differs·gave (c .before))) (c .stop-after)
+      abbrev pub m16 : (before : After-differs) → (given : s14 (before .before .before .before .before .blocks) .gives (m14 (before .before)
+          (After-differs·gave before))) → Typed.Mo T18
+      m16 = λ before given. s15 (before .before .before .before .before .blocks) (m15 before given)
+      abbrev pub m17 : (before : After-differs) → (given : s14 (before .before .before .before .before .blocks) .gives (m14 (before .before)
+          (After-differs·gave before))) → Typed.Mo T19
+      m17 = λ before given. s16 (before .before .before .before .before .blocks) (m16 before given)
+      abbrev pub m18 : (before : After-differs) → (given : s14 (before .before .before .before .before .blocks) .gives (m14 (before .before)
+          (After-differs·gave before))) → Typed.Mo T20
+      m18 = λ before given. s17 (before .before .before .before .before .blocks) (m17 before given)
+      abbrev pub m19 : (before : After-differs) → (given : s14 (before .before .before .before .before .blocks) .gives (m14 (before .before)
+          (After-differs·gave before))) → Typed.Mo T21
+      m19 = λ before given. s18 (before .before .before .before .before .blocks) (m18 before given)
+      abbrev pub m20 : (before : After-differs) → (given : s14 (before .before .before .before .before .blocks) .gives (m14 (before .before)
+          (After-differs·gave before))) → Typed.Mo T22
+      m20 = λ before given. s19 (before .before .before .before .before .blocks) (m19 before given)
+      abbrev pub m21 : (before : After-differs) → (given : s14 (before .before .before .before .before .blocks) .gives (m14 (before .before)
+          (After-differs·gave before))) → Typed.Mo T23
+      m21 = λ before given. s20 (before .before .before .before .before .blocks) (m20 before given)
+      abbrev pub m22 : (before : After-differs) → (given : s14 (before .before .before .before .before .blocks) .gives (m14 (before .before)
+          (After-differs·gave before))) → Typed.Mo T24
+      m22 = λ before given. s21 (before .before .before .before .before .blocks) (m21 before given)
+      abbrev pub m23 : (before : After-differs) → (given : s14 (before .before .before .before .before .blocks) .gives (m14 (before .before)
+          (After-differs·gave before))) → Typed.Mo T25
+      m23 = λ before given. s22 (before .before .before .before .before .blocks) (m22 before given)
+      abbrev pub m24 : (before : After-differs) → (given : s14 (before .before .before .before .before .blocks) .gives (m14 (before .before)
+          (After-differs·gave before))) → Typed.Mo T26
+      m24 = λ before given. s23 (before .before .before .before .before .blocks) (m23 before given)
       abbrev pub Need-returns-2 : Type 0
-      Need-returns-2 = (c : After-stop-after) → Post· (c .before .before .before .before .κs) (dens (c .before .before .before .before .κs) (c .before .before
-          .before .before .args)) (Function.resV r (c .before .before .before .before .κs) (m22 (c .before) (After-stop-after·gave c) .0)) (Clauses.atExit
-          (Kinds.endedOf 1 ps r) (c .before .before .before .before .κs) (dens (c .before .before .before .before .κs) (c .before .before .before .before
-          .args)) (Enter.lastsP (c .before .before .before .before .κs) 1 ps xs (dens (c .before .before .before .before .κs) (c .before .before .before
-          .before .args)) (m22 (c .before) (After-stop-after·gave c) .1)))
-      module _ (returns : Need-returns) (parity-on-requires : Need-parity-on-requires) (stop-after-requires : Need-stop-after-requires) (returns-2 :
-          Need-returns-2) where
-        lay3 : (c : After-stop-after) → at19 (c .before .before .before .before .blocks) (W0 (c .before .before .before .before .κs) (c .before .before
-            .before .before .args) (c .before .before .before .before .blocks)) (m14 (c .before) (After-stop-after·gave c))
-        lay3 = λ c. ((Path'.refl, (tt, (tt, (tt, (tt, (tt, tt)))))), returns-2 record { before = c .before; stop-after = c .stop-after })
-        lay2 : (c : After-parity-on) → at23 (c .before .before .blocks) (W0 (c .before .before .κs) (c .before .before .args) (c .before .before .blocks))
+      Need-returns-2 = (c : After-stop-after) → Post· (c .before .before .before .before .before .κs) (dens (c .before .before .before .before .before .κs) (c
+          .before .before .before .before .before .args)) (Function.resV r (c .before .before .before .before .before .κs) (m24 (c .before)
+          (After-stop-after·gave c) .0)) (Clauses.atExit (Kinds.endedOf 1 ps r) (c .before .before .before .before .before .κs) (dens (c .before .before
+          .before .before .before .κs) (c .before .before .before .before .before .args)) (Enter.lastsP (c .before .before .before .before .before .κs) 1 ps
+          xs (dens (c .before .before .before .before .before .κs) (c .before .before .before .before .before .args)) (m24 (c .before) (After-stop-after·gave
+          c) .1)))
+      module _ (returns : Need-returns) (parity-on-requires : Need-parity-on-requires) (differs-requires : Need-differs-requires) (stop-after-requires :
+          Need-stop-after-requires) (returns-2 : Need-returns-2) where
+        lay4 : (c : After-stop-after) → at20 (c .before .before .before .before .before .blocks) (W0 (c .before .before .before .before .before .κs) (c
+            .before .before .before .before .before .args) (c .before .before .before .before .before .blocks)) (m15 (c .before) (After-stop-after·gave c))
+        lay4 = λ c. ((Path'.refl, (tt, (tt, (tt, (tt, (tt, tt)))))), returns-2 record { before = c .before; stop-after = c .stop-after })
+        lay3 : (c : After-differs) → at21 (c .before .before .before .before .blocks) (W0 (c .before .before .before .before .κs) (c .before .before .before
+            .before .args) (c .before .before .before .before .blocks)) (m14 (c .before) (After-differs·gave c))
+        lay3 = λ c. (stop-after-requires record { before = c .before; differs = c .differs }, λ g. lay4 record { before = record { before = c .before; differs
+            = c .differs }; stop-after = Called.called ps·2 r·2 (claims· .5) T16 (record { pos = 1; ty = y7; ref = λ x. x }, (record { pos = 8; st = []; d =
+            0; at = λ x. x }, (Num.vFld 3 ((Syntax.field 0) ∷ []) 0 λ x. Goal.struct .as-values x .0, (Bool.bAt 10 λ x. x, tt)))) (m14 (c .before)
+            (After-differs·gave c)) g })
+        lay2 : (c : After-parity-on) → at25 (c .before .before .blocks) (W0 (c .before .before .κs) (c .before .before .args) (c .before .before .blocks))
             (m10 (c .before) (After-parity-on·gave c))
-        lay2 = λ c. (tt, λ g. (stop-after-requires record { before = record { before = c .before; parity-on = c .parity-on }; r = record { given = g } }, λ
-            g'. lay3 record { before = record { before = record { before = c .before; parity-on = c .parity-on }; r = record { given = g } }; stop-after =
-            Called.called ps·1 r·1 (claims· .3) T15 (record { pos = 1; ty = y7; ref = λ x. x }, (record { pos = 8; st = []; d = 0; at = λ x. x }, (Num.vFld 3
-            ((Syntax.field 0) ∷ []) 0 λ x. Goal.struct .as-values x .0, (Bool.bAt 7 λ x. x, tt)))) (m13 record { before = c .before; parity-on = c .parity-on
-            } g) g' }))
-        lay1 : (c : Else1) → at24 (c .before .blocks) (W0 (c .before .κs) (c .before .args) (c .before .blocks)) (m9 (c .before))
+        lay2 = λ c. (tt, λ g. (differs-requires record { before = record { before = c .before; parity-on = c .parity-on }; r = record { given = g } }, λ g'.
+            lay3 record { before = record { before = record { before = c .before; parity-on = c .parity-on }; r = record { given = g } }; differs =
+            Called.called ps·1 r·1 (claims· .3) T15 (Bool.bFld 3 ((Syntax.field 2) ∷ []) 9 λ x. Goal.struct .as-values x .1 .1 .0, (Bool.bAt 7 λ x. x, tt))
+            (m13 record { before = c .before; parity-on = c .parity-on } g) g' }))
+        lay1 : (c : Else1) → at26 (c .before .blocks) (W0 (c .before .κs) (c .before .args) (c .before .blocks)) (m9 (c .before))
         lay1 = λ c. (parity-on-requires record { before = c .before; if1 = c .if1 }, λ g. lay2 record { before = record { before = c .before; if1 = c .if1 };
             parity-on = Called.called ps·0 r·0 (claims· .1) T3 (Bool.bFld 3 ((Syntax.field 1) ∷ []) 8 λ x. Goal.struct .as-values x .1 .0, (Num.vAt 4 λ x. x,
             (record { pos = 5; st = []; d = 0; at = λ x. x }, (record { pos = 6; st = []; d = 0; at = λ x. x }, tt)))) (m9 (c .before)) g })
-        pub laid : (c : Start) → at26 (c .blocks) (W0 (c .κs) (c .args) (c .blocks)) (m0 (c .κs) (c .args) (c .blocks))
+        pub laid : (c : Start) → at28 (c .blocks) (W0 (c .κs) (c .args) (c .blocks)) (m0 (c .κs) (c .args) (c .blocks))
         laid = λ c. (tt, (λ taken. ((Path'.refl, (tt, (tt, (tt, (tt, (tt, tt)))))), returns record { before = c; if1 = record { taken = taken } }), λ left.
             lay1 record { before = c; if1 = record { left = left } }))
         module _ (κs : Lifetimes.Lfts 1) (qs : Lifetimes.Shares 1) where
@@ -805,8 +875,8 @@ module _ (claims· : Claims) where
           asked = λ a good pre bs. laid record { κs = κs; args = record { t = a .0; seeks = a .1 .0; g = a .1 .1 .0; d = a .1 .1 .1 .0; low = a .1 .1 .1 .1
               .0; x = a .1 .1 .1 .1 .1 .0 }; blocks = bs; good = good; fits = record { d = record { fits = good .1 .1 .1 .0 .1 } }; pre = pre }
         module _ {M : Type 1} (𝓤 : URA.URA M) (H : Wp.Heap 𝓤) (A : Atoms.Atoms 𝓤) (W : Kit.Given 𝓤 H A) (𝓣 : Wp.Tables 𝓤 H) (known0 : Plain.Known 𝓤 H A W 𝓣 0
-            ps·0 r·0 (claims· .0) (claims· .1) "reader::parity_on") (known1 : Plain.Known 𝓤 H A W 𝓣 1 ps·1 r·1 (claims· .2) (claims· .3) "reader::stop_after")
-            where
+            ps·0 r·0 (claims· .0) (claims· .1) "reader::parity_on") (known1 : Plain.Known 𝓤 H A W 𝓣 0 ps·1 r·1 (claims· .2) (claims· .3)
+            "node_records::differs") (known2 : Plain.Known 𝓤 H A W 𝓣 1 ps·2 r·2 (claims· .4) (claims· .5) "reader::stop_after") where
           pub spec : Statement.Triple 𝓤 (Wp.WpFn 𝓤 H (𝓣 .C) (𝓣 .Λ) (Function.fnOf 1 ps r xs m hs body)) (Function.plainOf 𝓤 H A 1 ps r Pre· Post·)
-          spec = Plain.t-fn-plain 𝓤 H A W 𝓣 1 ps r xs m hs body (λ κs qs bs. Φ bs) (λ κs qs bs bd. typed κs qs 𝓤 H A W 𝓣 (known0, known1) bs bd) Pre· Post·
-              asked
+          spec = Plain.t-fn-plain 𝓤 H A W 𝓣 1 ps r xs m hs body (λ κs qs bs. Φ bs) (λ κs qs bs bd. typed κs qs 𝓤 H A W 𝓣 (known0, known1, known2) bs bd) Pre·
+              Post· asked

@@ -1,5 +1,5 @@
 -- Generated: the derivation of a body.
--- From 78663303f6fac913, as f0fc88155c7233ef.
+-- From 634908cb81292027, as f101d11de84aec1a.
 use Prim.Native.Nat
 use Rattle.cursors.proofs.Cursor
 use Rattle.cursors.proofs.Cursor.Laws
@@ -99,19 +99,20 @@ y6 = Syntax.tyInt Syntax.w8
 abbrev y7 : Syntax.Ty
 y7 = Syntax.tyArray y6 256
 abbrev y8 : Syntax.Ty
-y8 = Syntax.tyRef Syntax.erased Syntax.imm y7
+y8 = Syntax.tyStruct (114 ∷ 101 ∷ 97 ∷ 100 ∷ 101 ∷ 114 ∷ 58 ∷ 58 ∷ 71 ∷ 111 ∷ 97 ∷ 108 ∷ []) (Syntax.tcons y3 (Syntax.tcons Syntax.tyBool (Syntax.tcons
+    Syntax.tyBool Syntax.tnil)))
 abbrev y9 : Syntax.Ty
-y9 = Syntax.tyRef Syntax.erased Syntax.mut NodeRecordT.behind
+y9 = Syntax.tyRef Syntax.erased Syntax.imm y7
 abbrev y10 : Syntax.Ty
-y10 = Syntax.tyStruct (38 ∷ 91 ∷ 93 ∷ []) (Syntax.tcons y9 (Syntax.tcons y3 Syntax.tnil))
+y10 = Syntax.tyRef Syntax.erased Syntax.mut NodeRecordT.behind
 abbrev y11 : Syntax.Ty
-y11 = Syntax.tyArray y0 4
+y11 = Syntax.tyStruct (38 ∷ 91 ∷ 93 ∷ []) (Syntax.tcons y10 (Syntax.tcons y3 Syntax.tnil))
 abbrev y12 : Syntax.Ty
-y12 = Syntax.tyArray y11 32
+y12 = Syntax.tyArray y0 4
 abbrev y13 : Syntax.Ty
-y13 = Syntax.tyRef Syntax.erased Syntax.mut y12
+y13 = Syntax.tyArray y12 32
 abbrev y14 : Syntax.Ty
-y14 = Syntax.tyStruct (114 ∷ 101 ∷ 97 ∷ 100 ∷ 101 ∷ 114 ∷ 58 ∷ 58 ∷ 71 ∷ 111 ∷ 97 ∷ 108 ∷ []) (Syntax.tcons y3 (Syntax.tcons Syntax.tyBool Syntax.tnil))
+y14 = Syntax.tyRef Syntax.erased Syntax.mut y13
 abbrev y15 : Syntax.Ty
 y15 = Syntax.tyEnum (101 ∷ 108 ∷ 101 ∷ 109 ∷ 101 ∷ 110 ∷ 116 ∷ 115 ∷ 58 ∷ 58 ∷ 67 ∷ 97 ∷ 117 ∷ 115 ∷ 101 ∷ []) (Syntax.ttcons Syntax.tnil (Syntax.ttcons
     Syntax.tnil (Syntax.ttcons Syntax.tnil (Syntax.ttcons Syntax.tnil (Syntax.ttcons Syntax.tnil (Syntax.ttcons Syntax.tnil (Syntax.ttcons Syntax.tnil
@@ -125,7 +126,7 @@ y17 = Syntax.tyRef (Syntax.named 0) Syntax.imm y6
 abbrev y18 : Syntax.Ty
 y18 = Syntax.tyRef (Syntax.named 1) Syntax.mut NodeRecordT.behind
 abbrev y19 : Syntax.Ty
-y19 = Syntax.tyRef (Syntax.named 2) Syntax.mut y12
+y19 = Syntax.tyRef (Syntax.named 2) Syntax.mut y13
 abbrev y20 : Syntax.Ty
 y20 = Syntax.tyStruct (99 ∷ 117 ∷ 114 ∷ 115 ∷ 111 ∷ 114 ∷ 115 ∷ 58 ∷ 58 ∷ 67 ∷ 117 ∷ 114 ∷ 115 ∷ 111 ∷ 114 ∷ []) (Syntax.tcons y5 (Syntax.tcons y3
     Syntax.tnil))
@@ -148,17 +149,17 @@ e7 = (7, Rows'.any-gone y5)
 abbrev e8 : Row.Entry
 e8 = (8, Rows'.any-gone y7)
 abbrev e9 : Row.Entry
-e9 = (9, Rows'.any-gone Syntax.tyBool)
+e9 = (9, Rows'.any-gone y8)
 abbrev e10 : Row.Entry
-e10 = (10, Rows'.any-gone y7)
+e10 = (10, Rows'.any-gone Syntax.tyBool)
 abbrev e11 : Row.Entry
-e11 = (11, Rows'.any-gone y8)
+e11 = (11, Rows'.any-gone y7)
 abbrev e12 : Row.Entry
 e12 = (12, Rows'.any-gone y9)
 abbrev e13 : Row.Entry
 e13 = (13, Rows'.any-gone y10)
 abbrev e14 : Row.Entry
-e14 = (14, Rows'.any-gone y13)
+e14 = (14, Rows'.any-gone y11)
 abbrev e15 : Row.Entry
 e15 = (15, Rows'.any-gone y14)
 abbrev e0a : Row.Entry
@@ -169,32 +170,32 @@ abbrev e5a : Row.Entry
 e5a = (5, Rows'.any-gone y20)
 abbrev e7a : Row.Entry
 e7a = (7, Rows'.whole (Declared.row Run.the-type))
-abbrev e9a : Row.Entry
-e9a = (9, Rows'.sc-here Row.sBool)
 abbrev e10a : Row.Entry
-e10a = (10, Rows.arrF (Referent.rtF (Referent.fInt Syntax.w8)) 256 0)
+e10a = (10, Rows'.sc-here Row.sBool)
+abbrev e11a : Row.Entry
+e11a = (11, Rows.arrF (Referent.rtF (Referent.fInt Syntax.w8)) 256 0)
 abbrev e8a : Row.Entry
 e8a = (8, Rows.arrF (Referent.rtF (Referent.fInt Syntax.w8)) 256 0)
+abbrev e9a : Row.Entry
+e9a = (9, Rows'.whole (Declared.row Goal.the-type))
 abbrev e8b : Row.Entry
 e8b = (8, Rows'.sc-shr (Rows.arrF (Referent.rtF (Referent.fInt Syntax.w8)) 256 0) (Array'.Array (Referent.rtF (Referent.fInt Syntax.w8)) 256) (λ x. x) 3)
-abbrev e11a : Row.Entry
-e11a = (11, Rows'.sref (Array'.Array (Referent.rtF (Referent.fInt Syntax.w8)) 256) y8 3)
+abbrev e12a : Row.Entry
+e12a = (12, Rows'.sref (Array'.Array (Referent.rtF (Referent.fInt Syntax.w8)) 256) y9 3)
 abbrev e3a : Row.Entry
 e3a = (3, Relend.mslice-owed NodeRecordT.row y18 1 4 Row.off)
-abbrev e12a : Row.Entry
-e12a = (12, Relend.msptr NodeRecordT.row y9 4)
 abbrev e13a : Row.Entry
-e13a = (13, Mut.mslice NodeRecordT.row y9 4)
+e13a = (13, Relend.msptr NodeRecordT.row y10 4)
+abbrev e14a : Row.Entry
+e14a = (14, Mut.mslice NodeRecordT.row y10 4)
 abbrev e4a : Row.Entry
 e4a = (4, Rows'.mref-owed (Array'.Array (Array'.Array (Referent.rtF (Referent.fInt Syntax.w32)) 4) 32) y19 2 5 Row.off)
-abbrev e14a : Row.Entry
-e14a = (14, Rows'.mref (Array'.Array (Array'.Array (Referent.rtF (Referent.fInt Syntax.w32)) 4) 32) y13 5)
 abbrev e15a : Row.Entry
-e15a = (15, Rows'.whole (Declared.row Goal.the-type))
-abbrev e13b : Row.Entry
-e13b = (13, Mut.msleft NodeRecordT.row y9)
+e15a = (15, Rows'.mref (Array'.Array (Array'.Array (Referent.rtF (Referent.fInt Syntax.w32)) 4) 32) y14 5)
 abbrev e14b : Row.Entry
-e14b = (14, Rows'.mleft (Array'.Array (Array'.Array (Referent.rtF (Referent.fInt Syntax.w32)) 4) 32) y13)
+e14b = (14, Mut.msleft NodeRecordT.row y10)
+abbrev e15b : Row.Entry
+e15b = (15, Rows'.mleft (Array'.Array (Array'.Array (Referent.rtF (Referent.fInt Syntax.w32)) 4) 32) y14)
 abbrev pub ps : List (Kinds.PK 3)
 ps = (Num.pNum Syntax.w32) ∷ (ShrSlice.pShrS (Referent.rtF (Referent.fInt Syntax.w8)) 0 tt) ∷ (MutSlice.pMutS NodeRecordT.row 1 tt) ∷ (Kinds.pMut
     (Array'.Array (Array'.Array (Referent.rtF (Referent.fInt Syntax.w32)) 4) 32) 2 tt) ∷ (Value.pVal record { ty = Declared.row Cursor.the-type; one =
@@ -210,7 +211,7 @@ r = Value.rVal record { ty = Declared.row Reached.the-type; one = Path'.refl; va
     Laws'3.the-laws 𝓤 H A W; makes = Laws'4.makes Reached.the-type Laws'3.the-plain 𝓤 H A; in-mem = Local.mem-whole 𝓤 H A W (Declared.row Reached.the-type);
     of-mem = Local.whole-mem 𝓤 H A W (Declared.row Reached.the-type) }
 abbrev pub xs : List Syntax.Ty
-xs = y5 ∷ y7 ∷ Syntax.tyBool ∷ y7 ∷ y8 ∷ y9 ∷ y10 ∷ y13 ∷ y14 ∷ []
+xs = y5 ∷ y7 ∷ y8 ∷ Syntax.tyBool ∷ y7 ∷ y9 ∷ y10 ∷ y11 ∷ y14 ∷ []
 abbrev pub m : Nat.ℕ
 m = 3
 abbrev pub ps·0 : List (Kinds.PK 0)
@@ -234,7 +235,7 @@ ps·2 = []
 abbrev pub r·2 : Kinds.RK 0
 r·2 = Array.rArr (Array.eInt Syntax.w8) (Array.eInt-laws Syntax.w8) 256
 abbrev pub ps·3 : List (Kinds.PK 0)
-ps·3 = (Num.pNum Syntax.w64) ∷ Bool.pBool ∷ []
+ps·3 = (Num.pNum Syntax.w64) ∷ Bool.pBool ∷ Bool.pBool ∷ []
 abbrev pub r·3 : Kinds.RK 0
 r·3 = Value.rVal record { ty = Declared.row Goal.the-type; one = Path'.refl; val = Laws'4.val Goal.the-type Laws''.the-laws; tells = Laws'4.tells
     Goal.the-type Laws''.the-laws; still = Laws'4.still Goal.the-type Laws''.the-copy Exit.yes; row = Rows'.whole (Declared.row Goal.the-type); rd = λ x. x;
@@ -267,7 +268,7 @@ abbrev b0 : Syntax.Body
 b0 = Syntax.assign (Syntax.place 7 []) (Syntax.rvOpd (Syntax.copy (Syntax.place 5 ((Syntax.field 0) ∷ []))))
 abbrev b1 : Syntax.Body
 b1 = Syntax.call "reader::is_off" ((Syntax.copy (Syntax.place 1 [])) ∷ (Syntax.copy (Syntax.place 5 ((Syntax.field 1) ∷ []))) ∷ (Syntax.copy (Syntax.place 6
-    [])) ∷ []) (Syntax.place 9 [])
+    [])) ∷ []) (Syntax.place 10 [])
 abbrev b2 : Syntax.Body
 b2 = Syntax.call "reader::resting" ((Syntax.copy (Syntax.place 5 [])) ∷ []) (Syntax.place 0 [])
 abbrev b3 : Syntax.Body
@@ -277,25 +278,25 @@ b4 = Syntax.seq b2 b3
 abbrev b5 : Syntax.Body
 b5 = Syntax.skip
 abbrev b6 : Syntax.Body
-b6 = Syntax.cond (Syntax.copy (Syntax.place 9 [])) b4 b5
+b6 = Syntax.cond (Syntax.copy (Syntax.place 10 [])) b4 b5
 abbrev b7 : Syntax.Body
-b7 = Syntax.call "kinds::kinds" [] (Syntax.place 10 [])
+b7 = Syntax.call "kinds::kinds" [] (Syntax.place 11 [])
 abbrev b8 : Syntax.Body
-b8 = Syntax.assign (Syntax.place 8 []) (Syntax.rvOpd (Syntax.copy (Syntax.place 10 [])))
+b8 = Syntax.assign (Syntax.place 8 []) (Syntax.rvOpd (Syntax.copy (Syntax.place 11 [])))
 abbrev b9 : Syntax.Body
-b9 = Syntax.assign (Syntax.place 11 []) (Syntax.addrOf (Syntax.place 8 []))
+b9 = Syntax.call "reader::goal_of" ((Syntax.copy (Syntax.place 6 [])) ∷ Syntax.opdFalse ∷ Syntax.opdFalse ∷ []) (Syntax.place 9 [])
 abbrev b10 : Syntax.Body
-b10 = Syntax.assign (Syntax.place 12 []) (Syntax.addrOf (Syntax.place 3 ((Syntax.field 0) ∷ (Syntax.deref NodeRecordT.value) ∷ [])))
+b10 = Syntax.assign (Syntax.place 12 []) (Syntax.addrOf (Syntax.place 8 []))
 abbrev b11 : Syntax.Body
-b11 = Syntax.assign (Syntax.place 13 []) (Syntax.aggregate ((Syntax.copy (Syntax.place 12 [])) ∷ (Syntax.copy (Syntax.place 3 ((Syntax.field 1) ∷ []))) ∷ []))
+b11 = Syntax.assign (Syntax.place 13 []) (Syntax.addrOf (Syntax.place 3 ((Syntax.field 0) ∷ (Syntax.deref NodeRecordT.value) ∷ [])))
 abbrev b12 : Syntax.Body
-b12 = Syntax.assign (Syntax.place 14 []) (Syntax.addrOf (Syntax.place 4 ((Syntax.deref y12) ∷ [])))
+b12 = Syntax.assign (Syntax.place 14 []) (Syntax.aggregate ((Syntax.copy (Syntax.place 13 [])) ∷ (Syntax.copy (Syntax.place 3 ((Syntax.field 1) ∷ []))) ∷ []))
 abbrev b13 : Syntax.Body
-b13 = Syntax.call "reader::goal_of" ((Syntax.copy (Syntax.place 6 [])) ∷ Syntax.opdFalse ∷ []) (Syntax.place 15 [])
+b13 = Syntax.assign (Syntax.place 15 []) (Syntax.addrOf (Syntax.place 4 ((Syntax.deref y13) ∷ [])))
 abbrev b14 : Syntax.Body
-b14 = Syntax.call "reader::run_on" ((Syntax.copy (Syntax.place 11 [])) ∷ (Syntax.copy (Syntax.place 1 [])) ∷ (Syntax.copy (Syntax.place 2 [])) ∷ (Syntax.copy
-    (Syntax.place 13 [])) ∷ (Syntax.copy (Syntax.place 14 [])) ∷ (Syntax.copy (Syntax.place 7 [])) ∷ (Syntax.copy (Syntax.place 5 ((Syntax.field 1) ∷ []))) ∷
-    Syntax.opdFalse ∷ (Syntax.copy (Syntax.place 15 [])) ∷ []) (Syntax.place 0 [])
+b14 = Syntax.call "reader::run_on" ((Syntax.copy (Syntax.place 12 [])) ∷ (Syntax.copy (Syntax.place 1 [])) ∷ (Syntax.copy (Syntax.place 2 [])) ∷ (Syntax.copy
+    (Syntax.place 14 [])) ∷ (Syntax.copy (Syntax.place 15 [])) ∷ (Syntax.copy (Syntax.place 7 [])) ∷ (Syntax.copy (Syntax.place 5 ((Syntax.field 1) ∷ []))) ∷
+    Syntax.opdFalse ∷ (Syntax.copy (Syntax.place 9 [])) ∷ []) (Syntax.place 0 [])
 abbrev b15 : Syntax.Body
 b15 = Syntax.return
 abbrev b16 : Syntax.Body
@@ -332,9 +333,9 @@ t1 = e0a ∷ e1a ∷ e2 ∷ e3 ∷ e4 ∷ e5a ∷ (6, Rows'.any-gone y3) ∷ e7 
 abbrev pub t2 : List Row.Entry
 t2 = e0 ∷ e1 ∷ e2 ∷ e3 ∷ e4 ∷ e5 ∷ e6 ∷ e7a ∷ e8 ∷ e9 ∷ e10 ∷ e11 ∷ e12 ∷ e13 ∷ e14 ∷ e15 ∷ []
 abbrev pub t3 : List Row.Entry
-t3 = e0 ∷ e1 ∷ e2 ∷ e3 ∷ e4 ∷ e5 ∷ e6 ∷ e7a ∷ e8 ∷ e9a ∷ e10 ∷ e11 ∷ e12 ∷ e13 ∷ e14 ∷ e15 ∷ []
+t3 = e0 ∷ e1 ∷ e2 ∷ e3 ∷ e4 ∷ e5 ∷ e6 ∷ e7a ∷ e8 ∷ e9 ∷ e10a ∷ e11 ∷ e12 ∷ e13 ∷ e14 ∷ e15 ∷ []
 abbrev pub t4 : List Row.Entry
-t4 = e0 ∷ e1 ∷ e2 ∷ e3 ∷ e4 ∷ e5 ∷ e6 ∷ e7 ∷ e8 ∷ e9a ∷ e10 ∷ e11 ∷ e12 ∷ e13 ∷ e14 ∷ e15 ∷ []
+t4 = e0 ∷ e1 ∷ e2 ∷ e3 ∷ e4 ∷ e5 ∷ e6 ∷ e7 ∷ e8 ∷ e9 ∷ e10a ∷ e11 ∷ e12 ∷ e13 ∷ e14 ∷ e15 ∷ []
 abbrev pub t5 : List Row.Entry
 t5 = e0a ∷ e1 ∷ e2 ∷ e3 ∷ e4 ∷ e5 ∷ e6 ∷ e7 ∷ e8 ∷ e9 ∷ e10 ∷ e11 ∷ e12 ∷ e13 ∷ e14 ∷ e15 ∷ []
 abbrev pub t6 : List Row.Entry
@@ -342,37 +343,37 @@ t6 = e0a ∷ e1 ∷ e2 ∷ e3 ∷ e4 ∷ e5a ∷ e6 ∷ e7 ∷ e8 ∷ e9 ∷ e10
 abbrev pub t7 : List Row.Entry
 t7 = e0a ∷ e1a ∷ e2 ∷ e3 ∷ e4 ∷ e5a ∷ e6 ∷ e7 ∷ e8 ∷ e9 ∷ e10 ∷ e11 ∷ e12 ∷ e13 ∷ e14 ∷ e15 ∷ []
 abbrev pub t8 : List Row.Entry
-t8 = e0 ∷ e1 ∷ e2 ∷ e3 ∷ e4 ∷ e5 ∷ e6 ∷ e7a ∷ e8 ∷ e9 ∷ e10a ∷ e11 ∷ e12 ∷ e13 ∷ e14 ∷ e15 ∷ []
+t8 = e0 ∷ e1 ∷ e2 ∷ e3 ∷ e4 ∷ e5 ∷ e6 ∷ e7a ∷ e8 ∷ e9 ∷ e10 ∷ e11a ∷ e12 ∷ e13 ∷ e14 ∷ e15 ∷ []
 abbrev pub t9 : List Row.Entry
-t9 = e0 ∷ e1 ∷ e2 ∷ e3 ∷ e4 ∷ e5 ∷ e6 ∷ e7a ∷ e8a ∷ e9 ∷ e10a ∷ e11 ∷ e12 ∷ e13 ∷ e14 ∷ e15 ∷ []
+t9 = e0 ∷ e1 ∷ e2 ∷ e3 ∷ e4 ∷ e5 ∷ e6 ∷ e7a ∷ e8a ∷ e9 ∷ e10 ∷ e11a ∷ e12 ∷ e13 ∷ e14 ∷ e15 ∷ []
 abbrev pub t10 : List Row.Entry
 t10 = e0 ∷ e1 ∷ e2 ∷ e3 ∷ e4 ∷ e5 ∷ e6 ∷ e7a ∷ e8a ∷ e9 ∷ e10 ∷ e11 ∷ e12 ∷ e13 ∷ e14 ∷ e15 ∷ []
 abbrev pub t11 : List Row.Entry
-t11 = e0 ∷ e1 ∷ e2 ∷ e3 ∷ e4 ∷ e5 ∷ e6 ∷ e7a ∷ e8b ∷ e9 ∷ e10 ∷ e11a ∷ e12 ∷ e13 ∷ e14 ∷ e15 ∷ []
+t11 = e0 ∷ e1 ∷ e2 ∷ e3 ∷ e4 ∷ e5 ∷ e6 ∷ e7a ∷ e8a ∷ e9a ∷ e10 ∷ e11 ∷ e12 ∷ e13 ∷ e14 ∷ e15 ∷ []
 abbrev pub t12 : List Row.Entry
-t12 = e0 ∷ e1 ∷ e2 ∷ e3a ∷ e4 ∷ e5 ∷ e6 ∷ e7a ∷ e8b ∷ e9 ∷ e10 ∷ e11a ∷ e12a ∷ e13 ∷ e14 ∷ e15 ∷ []
+t12 = e0 ∷ e1 ∷ e2 ∷ e3 ∷ e4 ∷ e5 ∷ e6 ∷ e7a ∷ e8b ∷ e9a ∷ e10 ∷ e11 ∷ e12a ∷ e13 ∷ e14 ∷ e15 ∷ []
 abbrev pub t13 : List Row.Entry
-t13 = e0 ∷ e1 ∷ e2 ∷ e3a ∷ e4 ∷ e5 ∷ e6 ∷ e7a ∷ e8b ∷ e9 ∷ e10 ∷ e11a ∷ e12 ∷ e13a ∷ e14 ∷ e15 ∷ []
+t13 = e0 ∷ e1 ∷ e2 ∷ e3a ∷ e4 ∷ e5 ∷ e6 ∷ e7a ∷ e8b ∷ e9a ∷ e10 ∷ e11 ∷ e12a ∷ e13a ∷ e14 ∷ e15 ∷ []
 abbrev pub t14 : List Row.Entry
-t14 = e0 ∷ e1 ∷ e2 ∷ e3a ∷ e4a ∷ e5 ∷ e6 ∷ e7a ∷ e8b ∷ e9 ∷ e10 ∷ e11a ∷ e12 ∷ e13a ∷ e14a ∷ e15 ∷ []
+t14 = e0 ∷ e1 ∷ e2 ∷ e3a ∷ e4 ∷ e5 ∷ e6 ∷ e7a ∷ e8b ∷ e9a ∷ e10 ∷ e11 ∷ e12a ∷ e13 ∷ e14a ∷ e15 ∷ []
 abbrev pub t15 : List Row.Entry
-t15 = e0 ∷ e1 ∷ e2 ∷ e3a ∷ e4a ∷ e5 ∷ e6 ∷ e7a ∷ e8b ∷ e9 ∷ e10 ∷ e11a ∷ e12 ∷ e13a ∷ e14a ∷ e15a ∷ []
+t15 = e0 ∷ e1 ∷ e2 ∷ e3a ∷ e4a ∷ e5 ∷ e6 ∷ e7a ∷ e8b ∷ e9a ∷ e10 ∷ e11 ∷ e12a ∷ e13 ∷ e14a ∷ e15a ∷ []
 abbrev pub t16 : List Row.Entry
-t16 = e0a ∷ e1 ∷ e2 ∷ e3a ∷ e4a ∷ e5 ∷ e6 ∷ e7a ∷ e8b ∷ e9 ∷ e10 ∷ e11a ∷ e12 ∷ e13b ∷ e14b ∷ e15a ∷ []
+t16 = e0a ∷ e1 ∷ e2 ∷ e3a ∷ e4a ∷ e5 ∷ e6 ∷ e7a ∷ e8b ∷ e9a ∷ e10 ∷ e11 ∷ e12a ∷ e13 ∷ e14b ∷ e15b ∷ []
 abbrev pub t17 : List Row.Entry
-t17 = e0a ∷ e1 ∷ e2 ∷ e3a ∷ e4a ∷ e5 ∷ e6 ∷ e7a ∷ e8b ∷ e9 ∷ e10 ∷ e11 ∷ e12 ∷ e13b ∷ e14b ∷ e15a ∷ []
+t17 = e0a ∷ e1 ∷ e2 ∷ e3a ∷ e4a ∷ e5 ∷ e6 ∷ e7a ∷ e8b ∷ e9a ∷ e10 ∷ e11 ∷ e12 ∷ e13 ∷ e14b ∷ e15b ∷ []
 abbrev pub t18 : List Row.Entry
-t18 = e0a ∷ e1 ∷ e2 ∷ e3a ∷ e4a ∷ e5a ∷ e6 ∷ e7a ∷ e8b ∷ e9 ∷ e10 ∷ e11 ∷ e12 ∷ e13b ∷ e14b ∷ e15a ∷ []
+t18 = e0a ∷ e1 ∷ e2 ∷ e3a ∷ e4a ∷ e5a ∷ e6 ∷ e7a ∷ e8b ∷ e9a ∷ e10 ∷ e11 ∷ e12 ∷ e13 ∷ e14b ∷ e15b ∷ []
 abbrev pub t19 : List Row.Entry
-t19 = e0a ∷ e1 ∷ e2 ∷ e3a ∷ e4a ∷ e5a ∷ e6 ∷ e7 ∷ e8b ∷ e9 ∷ e10 ∷ e11 ∷ e12 ∷ e13b ∷ e14b ∷ e15a ∷ []
+t19 = e0a ∷ e1 ∷ e2 ∷ e3a ∷ e4a ∷ e5a ∷ e6 ∷ e7 ∷ e8b ∷ e9a ∷ e10 ∷ e11 ∷ e12 ∷ e13 ∷ e14b ∷ e15b ∷ []
 abbrev pub t20 : List Row.Entry
-t20 = e0a ∷ e1 ∷ e2 ∷ e3a ∷ e4a ∷ e5a ∷ e6 ∷ e7 ∷ e8b ∷ e9 ∷ e10 ∷ e11 ∷ e12 ∷ e13b ∷ e14b ∷ e15 ∷ []
+t20 = e0a ∷ e1 ∷ e2 ∷ e3a ∷ e4a ∷ e5a ∷ e6 ∷ e7 ∷ e8b ∷ e9 ∷ e10 ∷ e11 ∷ e12 ∷ e13 ∷ e14b ∷ e15b ∷ []
 abbrev pub t21 : List Row.Entry
-t21 = e0a ∷ e1 ∷ e2 ∷ e3a ∷ e4a ∷ e5a ∷ e6 ∷ e7 ∷ e8a ∷ e9 ∷ e10 ∷ e11 ∷ e12 ∷ e13b ∷ e14b ∷ e15 ∷ []
+t21 = e0a ∷ e1 ∷ e2 ∷ e3a ∷ e4a ∷ e5a ∷ e6 ∷ e7 ∷ e8a ∷ e9 ∷ e10 ∷ e11 ∷ e12 ∷ e13 ∷ e14b ∷ e15b ∷ []
 abbrev pub t22 : List Row.Entry
-t22 = e0a ∷ e1 ∷ e2 ∷ e3a ∷ e4a ∷ e5a ∷ e6 ∷ e7 ∷ e8 ∷ e9 ∷ e10 ∷ e11 ∷ e12 ∷ e13b ∷ e14b ∷ e15 ∷ []
+t22 = e0a ∷ e1 ∷ e2 ∷ e3a ∷ e4a ∷ e5a ∷ e6 ∷ e7 ∷ e8 ∷ e9 ∷ e10 ∷ e11 ∷ e12 ∷ e13 ∷ e14b ∷ e15b ∷ []
 abbrev pub t23 : List Row.Entry
-t23 = e0a ∷ e1 ∷ e2 ∷ e3 ∷ e4a ∷ e5a ∷ e6 ∷ e7 ∷ e8 ∷ e9 ∷ e10 ∷ e11 ∷ e12 ∷ e13 ∷ e14b ∷ e15 ∷ []
+t23 = e0a ∷ e1 ∷ e2 ∷ e3 ∷ e4a ∷ e5a ∷ e6 ∷ e7 ∷ e8 ∷ e9 ∷ e10 ∷ e11 ∷ e12 ∷ e13 ∷ e14 ∷ e15b ∷ []
 abbrev pub T0 : Row.Cx
 T0 = record { locals = t0; slots = [] }
 abbrev pub T1 : Row.Cx
@@ -405,14 +406,14 @@ abbrev pub T14 : Row.Cx
 T14 = record { locals = t9; slots = [] }
 abbrev pub T15 : Row.Cx
 T15 = record { locals = t10; slots = [] }
-abbrev pub T17 : Row.Cx
-T17 = record { locals = t11; slots = [] }
-abbrev pub T19 : Row.Cx
-T19 = record { locals = t12; slots = [] }
+abbrev pub T16 : Row.Cx
+T16 = record { locals = t11; slots = [] }
+abbrev pub T18 : Row.Cx
+T18 = record { locals = t12; slots = [] }
 abbrev pub T20 : Row.Cx
 T20 = record { locals = t13; slots = [] }
-abbrev pub T22 : Row.Cx
-T22 = record { locals = t14; slots = [] }
+abbrev pub T21 : Row.Cx
+T21 = record { locals = t14; slots = [] }
 abbrev pub T23 : Row.Cx
 T23 = record { locals = t15; slots = [] }
 abbrev pub T24 : Row.Cx
@@ -451,11 +452,11 @@ module _ (claims· : Claims) where
       Unit
   abbrev s2 : (bs : List Nat.ℕ) → Typed.Both T3 T4
   s2 = λ bs. Call.callB ps·0 r·0 (claims· .0) (claims· .1) T3 (Num.vAt 1 λ x. x, (Num.vFld 5 ((Syntax.field 1) ∷ []) 56 λ x. Cursor.struct .as-values x .1 .0,
-      (Num.vAt 6 λ x. x, tt))) 9 [] Syntax.tyBool
+      (Num.vAt 6 λ x. x, tt))) 10 [] Syntax.tyBool
   abbrev s3 : (bs : List Nat.ℕ) → Typed.Mo T4 → Typed.Mo T6
   s3 = λ bs. Scalar.n-room T4 7 y5
   abbrev s4 : (bs : List Nat.ℕ) → Typed.Mo T6 → Typed.Mo T7
-  s4 = λ bs. Scalar.n-room T6 9 Syntax.tyBool
+  s4 = λ bs. Scalar.n-room T6 10 Syntax.tyBool
   abbrev s5 : (bs : List Nat.ℕ) → Typed.Both T7 T8
   s5 = λ bs. Call.callB ps·1 r·1 (claims· .2) (claims· .3) T7 (record { pos = 5; st = []; d = 0; at = λ x. x }, tt) 0 [] y16
   abbrev s6 : (bs : List Nat.ℕ) → Typed.Mo T8 → Typed.Mo T9
@@ -465,46 +466,46 @@ module _ (claims· : Claims) where
   abbrev s8 : (bs : List Nat.ℕ) → Typed.Mo T10 → Typed.Mo T11
   s8 = λ bs. Scalar.n-room T10 6 y3
   abbrev s9 : (bs : List Nat.ℕ) → Typed.Mo T4 → Typed.Mo T12
-  s9 = λ bs. Scalar.n-room T4 9 Syntax.tyBool
+  s9 = λ bs. Scalar.n-room T4 10 Syntax.tyBool
   abbrev s10 : (bs : List Nat.ℕ) → Typed.Both T5 T13
-  s10 = λ bs. Call.callB ps·2 r·2 (claims· .4) (claims· .5) T5 tt 10 [] y7
+  s10 = λ bs. Call.callB ps·2 r·2 (claims· .4) (claims· .5) T5 tt 11 [] y7
   abbrev s11 : (bs : List Nat.ℕ) → Typed.Mo T13 → Typed.Mo T14
-  s11 = λ bs. LocalCopy.n-val-copy T13 10 8 (Array'.Array (Referent.rtF (Referent.fInt Syntax.w8)) 256) (Rows.arrF (Referent.rtF (Referent.fInt Syntax.w8))
+  s11 = λ bs. LocalCopy.n-val-copy T13 11 8 (Array'.Array (Referent.rtF (Referent.fInt Syntax.w8)) 256) (Rows.arrF (Referent.rtF (Referent.fInt Syntax.w8))
       256 0) (Rows.arrF (Referent.rtF (Referent.fInt Syntax.w8)) 256 0) (λ x. x) (λ x. x) λ x. x
   abbrev s12 : (bs : List Nat.ℕ) → Typed.Mo T14 → Typed.Mo T15
-  s12 = λ bs. Scalar.n-room T14 10 y7
-  abbrev s14 : (bs : List Nat.ℕ) → Typed.Gives T15 T17
-  s14 = λ bs. Local.k-sc-share T15 8 11 3 (Array'.Array (Referent.rtF (Referent.fInt Syntax.w8)) 256) y8 λ x. x
-  abbrev s16 : (bs : List Nat.ℕ) → Typed.Gives T17 T19
-  s16 = λ bs. Relend.k-sl-relend NodeRecordT.row T17 3 12 1 4 y18 y9 Row.off λ x. x
-  abbrev s17 : (bs : List Nat.ℕ) → Typed.Asks T19 T20
-  s17 = λ bs. Relend.k-sl-aggregate NodeRecordT.row (Relend.asMut NodeRecordT.row) T19 12 13 4 y9 y9 (λ x. x) (Scalar.oFld 3 ((Syntax.field 1) ∷ []) y3 8 λ v.
-      Shared.lenV (v .0))
-  abbrev s19 : (bs : List Nat.ℕ) → Typed.Gives T20 T22
-  s19 = λ bs. Reborrow.k-mref-relend T20 4 14 2 5 (Array'.Array (Array'.Array (Referent.rtF (Referent.fInt Syntax.w32)) 4) 32) y19 y13 Row.off [] λ x. x
-  abbrev s20 : (bs : List Nat.ℕ) → Typed.Both T22 T23
-  s20 = λ bs. Call.callB ps·3 r·3 (claims· .6) (claims· .7) T22 (Num.vAt 6 λ x. x, (Bool.bLit Bool'.false, tt)) 15 [] y14
+  s12 = λ bs. Scalar.n-room T14 11 y7
+  abbrev s13 : (bs : List Nat.ℕ) → Typed.Both T15 T16
+  s13 = λ bs. Call.callB ps·3 r·3 (claims· .6) (claims· .7) T15 (Num.vAt 6 λ x. x, (Bool.bLit Bool'.false, (Bool.bLit Bool'.false, tt))) 9 [] y8
+  abbrev s15 : (bs : List Nat.ℕ) → Typed.Gives T16 T18
+  s15 = λ bs. Local.k-sc-share T16 8 12 3 (Array'.Array (Referent.rtF (Referent.fInt Syntax.w8)) 256) y9 λ x. x
+  abbrev s17 : (bs : List Nat.ℕ) → Typed.Gives T18 T20
+  s17 = λ bs. Relend.k-sl-relend NodeRecordT.row T18 3 13 1 4 y18 y10 Row.off λ x. x
+  abbrev s18 : (bs : List Nat.ℕ) → Typed.Asks T20 T21
+  s18 = λ bs. Relend.k-sl-aggregate NodeRecordT.row (Relend.asMut NodeRecordT.row) T20 13 14 4 y10 y10 (λ x. x) (Scalar.oFld 3 ((Syntax.field 1) ∷ []) y3 8 λ
+      v. Shared.lenV (v .0))
+  abbrev s20 : (bs : List Nat.ℕ) → Typed.Gives T21 T23
+  s20 = λ bs. Reborrow.k-mref-relend T21 4 15 2 5 (Array'.Array (Array'.Array (Referent.rtF (Referent.fInt Syntax.w32)) 4) 32) y19 y14 Row.off [] λ x. x
   abbrev s21 : (bs : List Nat.ℕ) → Typed.Both T23 T24
-  s21 = λ bs. Call.callB ps·4 r·4 (claims· .8) (claims· .9) T23 (record { pos = 11; ty = y8; ref = λ x. x }, (Num.vAt 1 λ x. x, (record { pos = 2; ty = y17;
-      ref = λ x. x }, (record { pos = 13; ty = y9; ref = λ x. x }, (record { pos = 14; ty = y13; ref = λ x. x }, (record { pos = 7; st = []; d = 0; at = λ x.
-      x }, (Num.vFld 5 ((Syntax.field 1) ∷ []) 56 λ x. Cursor.struct .as-values x .1 .0, (Bool.bLit Bool'.false, (record { pos = 15; st = []; d = 0; at = λ x.
+  s21 = λ bs. Call.callB ps·4 r·4 (claims· .8) (claims· .9) T23 (record { pos = 12; ty = y9; ref = λ x. x }, (Num.vAt 1 λ x. x, (record { pos = 2; ty = y17;
+      ref = λ x. x }, (record { pos = 14; ty = y10; ref = λ x. x }, (record { pos = 15; ty = y14; ref = λ x. x }, (record { pos = 7; st = []; d = 0; at = λ x.
+      x }, (Num.vFld 5 ((Syntax.field 1) ∷ []) 56 λ x. Cursor.struct .as-values x .1 .0, (Bool.bLit Bool'.false, (record { pos = 9; st = []; d = 0; at = λ x.
       x }, tt))))))))) 0 (3 ∷ 0 ∷ 4 ∷ 5 ∷ []) y16
   abbrev s22 : (bs : List Nat.ℕ) → Typed.Mo T24 → Typed.Mo T25
-  s22 = λ bs. Scalar.n-room T24 11 y8
+  s22 = λ bs. Scalar.n-room T24 12 y9
   abbrev s23 : (bs : List Nat.ℕ) → Typed.Mo T25 → Typed.Mo T26
   s23 = λ bs. Scalar.n-room T25 5 y20
   abbrev s24 : (bs : List Nat.ℕ) → Typed.Mo T26 → Typed.Mo T27
   s24 = λ bs. Scalar.n-room T26 7 y5
   abbrev s25 : (bs : List Nat.ℕ) → Typed.Mo T27 → Typed.Mo T28
-  s25 = λ bs. Scalar.n-room T27 15 y14
+  s25 = λ bs. Scalar.n-room T27 9 y8
   abbrev s27 : (bs : List Nat.ℕ) → Typed.Mo T28 → Typed.Mo T30
   s27 = λ bs. Local.n-back-shr T28 8 3 (Rows.arrF (Referent.rtF (Referent.fInt Syntax.w8)) 256 0) λ x. x
   abbrev s29 : (bs : List Nat.ℕ) → Typed.Mo T30 → Typed.Mo T32
   s29 = λ bs. Scalar.n-room T30 8 y7
   abbrev s31 : (bs : List Nat.ℕ) → Typed.Both T32 T34
-  s31 = λ bs. Relend.k-back-sl NodeRecordT.row T32 13 3 1 4 y18 y9 Row.off (λ x. x) λ x. x
+  s31 = λ bs. Relend.k-back-sl NodeRecordT.row T32 14 3 1 4 y18 y10 Row.off (λ x. x) λ x. x
   abbrev s34 : (bs : List Nat.ℕ) → Typed.Asks T34 T37
-  s34 = λ bs. Reborrow.k-back-mref T34 14 4 2 (Array'.Array (Array'.Array (Referent.rtF (Referent.fInt Syntax.w32)) 4) 32) y19 y13 [] (λ x. x) λ x. x
+  s34 = λ bs. Reborrow.k-back-mref T34 15 4 2 (Array'.Array (Array'.Array (Referent.rtF (Referent.fInt Syntax.w32)) 4) 32) y19 y14 [] (λ x. x) λ x. x
   abbrev s36 : (bs : List Nat.ℕ) → Typed.Mo T37 → Typed.Mo T39
   s36 = λ bs. Scalar.n-room T37 1 y0
   abbrev s37 : (bs : List Nat.ℕ) → Typed.Mo T39 → Typed.Mo T40
@@ -538,7 +539,7 @@ module _ (claims· : Claims) where
       abbrev at8 : (bs : List Nat.ℕ) → Typed.TF T4 O1
       at8 = λ bs. λ Ψ. Typed.pass T4 T12 (s9 bs) (at7 bs Ψ)
       abbrev at9 : (bs : List Nat.ℕ) → Typed.TF T4 O1
-      at9 = λ bs. Scalar.Φcond T4 O1 9 (λ x. x) (at6 bs) (at8 bs)
+      at9 = λ bs. Scalar.Φcond T4 O1 10 (λ x. x) (at6 bs) (at8 bs)
       abbrev at10 : (bs : List Nat.ℕ) → Typed.TF T40 O0
       at10 = λ bs. Typed.atRet O0
       abbrev at11 : (bs : List Nat.ℕ) → Typed.TF T39 O0
@@ -575,22 +576,22 @@ module _ (claims· : Claims) where
       at26 = λ bs. λ Ψ. Typed.pass T24 T25 (s22 bs) (at25 bs Ψ)
       abbrev at27 : (bs : List Nat.ℕ) → Typed.TF T23 O0
       at27 = λ bs. λ Ψ. Typed.both (s21 bs) (at26 bs Ψ)
-      abbrev at28 : (bs : List Nat.ℕ) → Typed.TF T22 O0
-      at28 = λ bs. λ Ψ. Typed.both (s20 bs) (at27 bs Ψ)
-      abbrev at29 : (bs : List Nat.ℕ) → Typed.TF T20 O0
-      at29 = λ bs. λ Ψ. Typed.give (s19 bs) (at28 bs Ψ)
+      abbrev at28 : (bs : List Nat.ℕ) → Typed.TF T21 O0
+      at28 = λ bs. λ Ψ. Typed.give (s20 bs) (at27 bs Ψ)
+      abbrev at29 : (bs : List Nat.ℕ) → Typed.TF T21 O0
+      at29 = λ bs. λ Ψ. at28 bs Ψ
       abbrev at30 : (bs : List Nat.ℕ) → Typed.TF T20 O0
-      at30 = λ bs. λ Ψ. at29 bs Ψ
-      abbrev at31 : (bs : List Nat.ℕ) → Typed.TF T19 O0
-      at31 = λ bs. λ Ψ. Typed.ask (s17 bs) (at30 bs Ψ)
-      abbrev at32 : (bs : List Nat.ℕ) → Typed.TF T17 O0
-      at32 = λ bs. λ Ψ. Typed.give (s16 bs) (at31 bs Ψ)
-      abbrev at33 : (bs : List Nat.ℕ) → Typed.TF T17 O0
-      at33 = λ bs. λ Ψ. at32 bs Ψ
-      abbrev at34 : (bs : List Nat.ℕ) → Typed.TF T15 O0
-      at34 = λ bs. λ Ψ. Typed.give (s14 bs) (at33 bs Ψ)
+      at30 = λ bs. λ Ψ. Typed.ask (s18 bs) (at29 bs Ψ)
+      abbrev at31 : (bs : List Nat.ℕ) → Typed.TF T18 O0
+      at31 = λ bs. λ Ψ. Typed.give (s17 bs) (at30 bs Ψ)
+      abbrev at32 : (bs : List Nat.ℕ) → Typed.TF T18 O0
+      at32 = λ bs. λ Ψ. at31 bs Ψ
+      abbrev at33 : (bs : List Nat.ℕ) → Typed.TF T16 O0
+      at33 = λ bs. λ Ψ. Typed.give (s15 bs) (at32 bs Ψ)
+      abbrev at34 : (bs : List Nat.ℕ) → Typed.TF T16 O0
+      at34 = λ bs. λ Ψ. at33 bs Ψ
       abbrev at35 : (bs : List Nat.ℕ) → Typed.TF T15 O0
-      at35 = λ bs. λ Ψ. at34 bs Ψ
+      at35 = λ bs. λ Ψ. Typed.both (s13 bs) (at34 bs Ψ)
       abbrev at36 : (bs : List Nat.ℕ) → Typed.TF T14 O0
       at36 = λ bs. λ Ψ. Typed.pass T14 T15 (s12 bs) (at35 bs Ψ)
       abbrev at37 : (bs : List Nat.ℕ) → Typed.TF T13 O0
@@ -649,30 +650,28 @@ module _ (claims· : Claims) where
         l11 = K2 ∷ K0 ∷ L0 ∷ L0 ∷ L0 ∷ L2 ∷ []
         abbrev l12 : List Row.Life
         l12 = K2 ∷ K0 ∷ K1 ∷ L0 ∷ L0 ∷ L2 ∷ []
-        abbrev g12 : List Row.Entry
-        g12 = e0 ∷ e1 ∷ e2 ∷ e3b ∷ e4 ∷ e5 ∷ e6 ∷ e7a ∷ e8b ∷ e9 ∷ e10 ∷ e11a ∷ e12a ∷ e13 ∷ e14 ∷ e15 ∷ []
         abbrev g13 : List Row.Entry
-        g13 = e0 ∷ e1 ∷ e2 ∷ e3b ∷ e4 ∷ e5 ∷ e6 ∷ e7a ∷ e8b ∷ e9 ∷ e10 ∷ e11a ∷ e12 ∷ e13a ∷ e14 ∷ e15 ∷ []
+        g13 = e0 ∷ e1 ∷ e2 ∷ e3b ∷ e4 ∷ e5 ∷ e6 ∷ e7a ∷ e8b ∷ e9a ∷ e10 ∷ e11 ∷ e12a ∷ e13a ∷ e14 ∷ e15 ∷ []
         abbrev g14 : List Row.Entry
-        g14 = e0 ∷ e1 ∷ e2 ∷ e3b ∷ e4b ∷ e5 ∷ e6 ∷ e7a ∷ e8b ∷ e9 ∷ e10 ∷ e11a ∷ e12 ∷ e13a ∷ e14a ∷ e15 ∷ []
+        g14 = e0 ∷ e1 ∷ e2 ∷ e3b ∷ e4 ∷ e5 ∷ e6 ∷ e7a ∷ e8b ∷ e9a ∷ e10 ∷ e11 ∷ e12a ∷ e13 ∷ e14a ∷ e15 ∷ []
         abbrev g15 : List Row.Entry
-        g15 = e0 ∷ e1 ∷ e2 ∷ e3b ∷ e4b ∷ e5 ∷ e6 ∷ e7a ∷ e8b ∷ e9 ∷ e10 ∷ e11a ∷ e12 ∷ e13a ∷ e14a ∷ e15a ∷ []
+        g15 = e0 ∷ e1 ∷ e2 ∷ e3b ∷ e4b ∷ e5 ∷ e6 ∷ e7a ∷ e8b ∷ e9a ∷ e10 ∷ e11 ∷ e12a ∷ e13 ∷ e14a ∷ e15a ∷ []
         abbrev g16 : List Row.Entry
-        g16 = e0a ∷ e1 ∷ e2 ∷ e3b ∷ e4b ∷ e5 ∷ e6 ∷ e7a ∷ e8b ∷ e9 ∷ e10 ∷ e11a ∷ e12 ∷ e13b ∷ e14b ∷ e15a ∷ []
+        g16 = e0a ∷ e1 ∷ e2 ∷ e3b ∷ e4b ∷ e5 ∷ e6 ∷ e7a ∷ e8b ∷ e9a ∷ e10 ∷ e11 ∷ e12a ∷ e13 ∷ e14b ∷ e15b ∷ []
         abbrev g17 : List Row.Entry
-        g17 = e0a ∷ e1 ∷ e2 ∷ e3b ∷ e4b ∷ e5 ∷ e6 ∷ e7a ∷ e8b ∷ e9 ∷ e10 ∷ e11 ∷ e12 ∷ e13b ∷ e14b ∷ e15a ∷ []
+        g17 = e0a ∷ e1 ∷ e2 ∷ e3b ∷ e4b ∷ e5 ∷ e6 ∷ e7a ∷ e8b ∷ e9a ∷ e10 ∷ e11 ∷ e12 ∷ e13 ∷ e14b ∷ e15b ∷ []
         abbrev g18 : List Row.Entry
-        g18 = e0a ∷ e1 ∷ e2 ∷ e3b ∷ e4b ∷ e5a ∷ e6 ∷ e7a ∷ e8b ∷ e9 ∷ e10 ∷ e11 ∷ e12 ∷ e13b ∷ e14b ∷ e15a ∷ []
+        g18 = e0a ∷ e1 ∷ e2 ∷ e3b ∷ e4b ∷ e5a ∷ e6 ∷ e7a ∷ e8b ∷ e9a ∷ e10 ∷ e11 ∷ e12 ∷ e13 ∷ e14b ∷ e15b ∷ []
         abbrev g19 : List Row.Entry
-        g19 = e0a ∷ e1 ∷ e2 ∷ e3b ∷ e4b ∷ e5a ∷ e6 ∷ e7 ∷ e8b ∷ e9 ∷ e10 ∷ e11 ∷ e12 ∷ e13b ∷ e14b ∷ e15a ∷ []
+        g19 = e0a ∷ e1 ∷ e2 ∷ e3b ∷ e4b ∷ e5a ∷ e6 ∷ e7 ∷ e8b ∷ e9a ∷ e10 ∷ e11 ∷ e12 ∷ e13 ∷ e14b ∷ e15b ∷ []
         abbrev g20 : List Row.Entry
-        g20 = e0a ∷ e1 ∷ e2 ∷ e3b ∷ e4b ∷ e5a ∷ e6 ∷ e7 ∷ e8b ∷ e9 ∷ e10 ∷ e11 ∷ e12 ∷ e13b ∷ e14b ∷ e15 ∷ []
+        g20 = e0a ∷ e1 ∷ e2 ∷ e3b ∷ e4b ∷ e5a ∷ e6 ∷ e7 ∷ e8b ∷ e9 ∷ e10 ∷ e11 ∷ e12 ∷ e13 ∷ e14b ∷ e15b ∷ []
         abbrev g21 : List Row.Entry
-        g21 = e0a ∷ e1 ∷ e2 ∷ e3b ∷ e4b ∷ e5a ∷ e6 ∷ e7 ∷ e8a ∷ e9 ∷ e10 ∷ e11 ∷ e12 ∷ e13b ∷ e14b ∷ e15 ∷ []
+        g21 = e0a ∷ e1 ∷ e2 ∷ e3b ∷ e4b ∷ e5a ∷ e6 ∷ e7 ∷ e8a ∷ e9 ∷ e10 ∷ e11 ∷ e12 ∷ e13 ∷ e14b ∷ e15b ∷ []
         abbrev g22 : List Row.Entry
-        g22 = e0a ∷ e1 ∷ e2 ∷ e3b ∷ e4b ∷ e5a ∷ e6 ∷ e7 ∷ e8 ∷ e9 ∷ e10 ∷ e11 ∷ e12 ∷ e13b ∷ e14b ∷ e15 ∷ []
+        g22 = e0a ∷ e1 ∷ e2 ∷ e3b ∷ e4b ∷ e5a ∷ e6 ∷ e7 ∷ e8 ∷ e9 ∷ e10 ∷ e11 ∷ e12 ∷ e13 ∷ e14b ∷ e15b ∷ []
         abbrev g23 : List Row.Entry
-        g23 = e0a ∷ e1 ∷ e2 ∷ e3 ∷ e4b ∷ e5a ∷ e6 ∷ e7 ∷ e8 ∷ e9 ∷ e10 ∷ e11 ∷ e12 ∷ e13 ∷ e14b ∷ e15 ∷ []
+        g23 = e0a ∷ e1 ∷ e2 ∷ e3 ∷ e4b ∷ e5a ∷ e6 ∷ e7 ∷ e8 ∷ e9 ∷ e10 ∷ e11 ∷ e12 ∷ e13 ∷ e14 ∷ e15b ∷ []
         abbrev G0 : Row.Cx
         G0 = record { locals = t0; slots = l0 }
         abbrev G1 : Row.Cx
@@ -706,19 +705,19 @@ module _ (claims· : Claims) where
         abbrev G15 : Row.Cx
         G15 = record { locals = t10; slots = l0 }
         abbrev G16 : Row.Cx
-        G16 = record { locals = t10; slots = l1 }
+        G16 = record { locals = t11; slots = l0 }
         abbrev G17 : Row.Cx
         G17 = record { locals = t11; slots = l1 }
         abbrev G18 : Row.Cx
-        G18 = record { locals = t11; slots = l2 }
+        G18 = record { locals = t12; slots = l1 }
         abbrev G19 : Row.Cx
-        G19 = record { locals = g12; slots = l3 }
+        G19 = record { locals = t12; slots = l2 }
         abbrev G20 : Row.Cx
         G20 = record { locals = g13; slots = l3 }
         abbrev G21 : Row.Cx
-        G21 = record { locals = g13; slots = l4 }
+        G21 = record { locals = g14; slots = l3 }
         abbrev G22 : Row.Cx
-        G22 = record { locals = g14; slots = l5 }
+        G22 = record { locals = g14; slots = l4 }
         abbrev G23 : Row.Cx
         G23 = record { locals = g15; slots = l5 }
         abbrev G24 : Row.Cx
@@ -781,7 +780,7 @@ module _ (claims· : Claims) where
               .copy 𝓤 H A W) (Rows'.whole (Declared.row Cursor.the-type)) (λ x. x) (λ x. x) (λ ρ told. Local.mem-whole 𝓤 H A W (Declared.row Cursor.the-type)
               ρ) λ ρ told. Local.whole-mem 𝓤 H A W (Declared.row Cursor.the-type) ρ, Path'.refl), tt) (Reads'.room-gone 𝓤 H A y16) tt Path'.refl) d3
           d5 : Typed.Typed 𝓤 H A 𝓣 E G6 b4 Δ1 (at5 bs)
-          d5 = Typed.g-pre 𝓤 H A W 𝓣 E G6 G7 b4 Δ1 (Typed.pass T6 T7 (s4 bs)) (at4 bs) (Scalar.g-room 𝓤 H A W E G6 9 Syntax.tyBool (Scalar.room-sc 𝓤 H A W
+          d5 = Typed.g-pre 𝓤 H A W 𝓣 E G6 G7 b4 Δ1 (Typed.pass T6 T7 (s4 bs)) (at4 bs) (Scalar.g-room 𝓤 H A W E G6 10 Syntax.tyBool (Scalar.room-sc 𝓤 H A W
               Row.sBool)) d4
           d6 : Typed.Typed 𝓤 H A 𝓣 E G4 b4 Δ1 (at6 bs)
           d6 = Typed.g-pre 𝓤 H A W 𝓣 E G4 G6 b4 Δ1 (Typed.pass T4 T6 (s3 bs)) (at5 bs) (Scalar.g-room 𝓤 H A W E G4 7 y5 (Local.room-whole 𝓤 H A W
@@ -789,10 +788,10 @@ module _ (claims· : Claims) where
           d7 : Typed.Typed 𝓤 H A 𝓣 E G12 b5 Δ1 (at7 bs)
           d7 = Typed.t-skip 𝓤 H A W 𝓣 E Δ1 tt
           d8 : Typed.Typed 𝓤 H A 𝓣 E G4 b5 Δ1 (at8 bs)
-          d8 = Typed.g-pre 𝓤 H A W 𝓣 E G4 G12 b5 Δ1 (Typed.pass T4 T12 (s9 bs)) (at7 bs) (Scalar.g-room 𝓤 H A W E G4 9 Syntax.tyBool (Scalar.room-sc 𝓤 H A W
+          d8 = Typed.g-pre 𝓤 H A W 𝓣 E G4 G12 b5 Δ1 (Typed.pass T4 T12 (s9 bs)) (at7 bs) (Scalar.g-room 𝓤 H A W E G4 10 Syntax.tyBool (Scalar.room-sc 𝓤 H A W
               Row.sBool)) d7
           d9 : Typed.Typed 𝓤 H A 𝓣 E G4 b6 Δ1 (at9 bs)
-          d9 = Scalar.t-cond 𝓤 H A W E 𝓣 G4 9 (λ x. x) b4 b5 Δ1 (at6 bs) (at8 bs) (Scalar.reads-sc 𝓤 H A W Row.sBool) Path'.refl d6 d8
+          d9 = Scalar.t-cond 𝓤 H A W E 𝓣 G4 10 (λ x. x) b4 b5 Δ1 (at6 bs) (at8 bs) (Scalar.reads-sc 𝓤 H A W Row.sBool) Path'.refl d6 d8
           d10 : Typed.Typed 𝓤 H A 𝓣 E G40 b15 Δ0 (at10 bs)
           d10 = Typed.t-return 𝓤 H A W 𝓣 E Δ0 tt
           d11 : Typed.Typed 𝓤 H A 𝓣 E G39 b15 Δ0 (at11 bs)
@@ -804,17 +803,17 @@ module _ (claims· : Claims) where
           d13 : Typed.Typed 𝓤 H A 𝓣 E G37 b15 Δ0 (at13 bs)
           d13 = Typed.g-pre 𝓤 H A W 𝓣 E G37 G38 b15 Δ0 (λ Ψ. Ψ) (at12 bs) (Lifetime.g-forget 𝓤 H A W E G37 5 Row.dead Path'.refl) d12
           d14 : Typed.Typed 𝓤 H A 𝓣 E G36 b15 Δ0 (at14 bs)
-          d14 = Typed.g-pre 𝓤 H A W 𝓣 E G36 G37 b15 Δ0 (Typed.ask (s34 bs)) (at13 bs) (Reborrow.g-back-mref 𝓤 H A W E G36 14 4 2 5 (Array'.Array (Array'.Array
-              (Referent.rtF (Referent.fInt Syntax.w32)) 4) 32) y19 y13 K1 (λ x. x) (λ x. x) (Reads'.as-is 𝓤 H A (Rows'.mleft (Array'.Array (Array'.Array
-              (Referent.rtF (Referent.fInt Syntax.w32)) 4) 32) y13)) (Reads'.as-is 𝓤 H A (Rows'.mref-owed (Array'.Array (Array'.Array (Referent.rtF
+          d14 = Typed.g-pre 𝓤 H A W 𝓣 E G36 G37 b15 Δ0 (Typed.ask (s34 bs)) (at13 bs) (Reborrow.g-back-mref 𝓤 H A W E G36 15 4 2 5 (Array'.Array (Array'.Array
+              (Referent.rtF (Referent.fInt Syntax.w32)) 4) 32) y19 y14 K1 (λ x. x) (λ x. x) (Reads'.as-is 𝓤 H A (Rows'.mleft (Array'.Array (Array'.Array
+              (Referent.rtF (Referent.fInt Syntax.w32)) 4) 32) y14)) (Reads'.as-is 𝓤 H A (Rows'.mref-owed (Array'.Array (Array'.Array (Referent.rtF
               (Referent.fInt Syntax.w32)) 4) 32) y19 2 5 K1)) Path'.refl Path'.refl) d13
           d15 : Typed.Typed 𝓤 H A 𝓣 E G35 b15 Δ0 (at15 bs)
           d15 = Typed.g-pre 𝓤 H A W 𝓣 E G35 G36 b15 Δ0 (λ Ψ. Ψ) (at14 bs) (Lifetime.g-end 𝓤 H A W E G35 5 Path'.refl) d14
           d16 : Typed.Typed 𝓤 H A 𝓣 E G34 b15 Δ0 (at16 bs)
           d16 = Typed.g-pre 𝓤 H A W 𝓣 E G34 G35 b15 Δ0 (λ Ψ. Ψ) (at15 bs) (Lifetime.g-forget 𝓤 H A W E G34 4 Row.dead Path'.refl) d15
           d17 : Typed.Typed 𝓤 H A 𝓣 E G33 b15 Δ0 (at17 bs)
-          d17 = Typed.g-pre 𝓤 H A W 𝓣 E G33 G34 b15 Δ0 (Typed.both (s31 bs)) (at16 bs) (Relend.g-back-sl 𝓤 H A W E NodeRecordT.row G33 13 3 1 4 y18 y9 K0 (λ
-              x. x) (λ x. x) (Reads'.as-is 𝓤 H A (Mut.msleft NodeRecordT.row y9)) (Reads'.as-is 𝓤 H A (Relend.mslice-owed NodeRecordT.row y18 1 4 K0))
+          d17 = Typed.g-pre 𝓤 H A W 𝓣 E G33 G34 b15 Δ0 (Typed.both (s31 bs)) (at16 bs) (Relend.g-back-sl 𝓤 H A W E NodeRecordT.row G33 14 3 1 4 y18 y10 K0 (λ
+              x. x) (λ x. x) (Reads'.as-is 𝓤 H A (Mut.msleft NodeRecordT.row y10)) (Reads'.as-is 𝓤 H A (Relend.mslice-owed NodeRecordT.row y18 1 4 K0))
               Path'.refl Path'.refl) d16
           d18 : Typed.Typed 𝓤 H A 𝓣 E G32 b15 Δ0 (at18 bs)
           d18 = Typed.g-pre 𝓤 H A W 𝓣 E G32 G33 b15 Δ0 (λ Ψ. Ψ) (at17 bs) (Lifetime.g-end 𝓤 H A W E G32 4 Path'.refl) d17
@@ -832,8 +831,8 @@ module _ (claims· : Claims) where
           d22 : Typed.Typed 𝓤 H A 𝓣 E G28 b15 Δ0 (at22 bs)
           d22 = Typed.g-pre 𝓤 H A W 𝓣 E G28 G29 b15 Δ0 (λ Ψ. Ψ) (at21 bs) (Lifetime.g-end 𝓤 H A W E G28 3 Path'.refl) d21
           d23 : Typed.Typed 𝓤 H A 𝓣 E G27 b15 Δ0 (at23 bs)
-          d23 = Typed.g-pre 𝓤 H A W 𝓣 E G27 G28 b15 Δ0 (Typed.pass T27 T28 (s25 bs)) (at22 bs) (Scalar.g-room 𝓤 H A W E G27 15 y14 (Local.room-whole 𝓤 H A W
-              (Declared.row Goal.the-type) y14 Path'.refl)) d22
+          d23 = Typed.g-pre 𝓤 H A W 𝓣 E G27 G28 b15 Δ0 (Typed.pass T27 T28 (s25 bs)) (at22 bs) (Scalar.g-room 𝓤 H A W E G27 9 y8 (Local.room-whole 𝓤 H A W
+              (Declared.row Goal.the-type) y8 Path'.refl)) d22
           d24 : Typed.Typed 𝓤 H A 𝓣 E G26 b15 Δ0 (at24 bs)
           d24 = Typed.g-pre 𝓤 H A W 𝓣 E G26 G27 b15 Δ0 (Typed.pass T26 T27 (s24 bs)) (at23 bs) (Scalar.g-room 𝓤 H A W E G26 7 y5 (Local.room-whole 𝓤 H A W
               (Declared.row Run.the-type) y5 Path'.refl)) d23
@@ -841,21 +840,21 @@ module _ (claims· : Claims) where
           d25 = Typed.g-pre 𝓤 H A W 𝓣 E G25 G26 b15 Δ0 (Typed.pass T25 T26 (s23 bs)) (at24 bs) (Scalar.g-room 𝓤 H A W E G25 5 y20 (Local.room-whole 𝓤 H A W
               (Declared.row Cursor.the-type) y20 Path'.refl)) d24
           d26 : Typed.Typed 𝓤 H A 𝓣 E G24 b15 Δ0 (at26 bs)
-          d26 = Typed.g-pre 𝓤 H A W 𝓣 E G24 G25 b15 Δ0 (Typed.pass T24 T25 (s22 bs)) (at25 bs) (Local.g-drop-sref 𝓤 H A W E G24 11 3 (Array'.Array
-              (Referent.rtF (Referent.fInt Syntax.w8)) 256) y8 (λ x. x) (Reads'.as-is 𝓤 H A (Rows'.sref (Array'.Array (Referent.rtF (Referent.fInt Syntax.w8))
-              256) y8 3))) d25
+          d26 = Typed.g-pre 𝓤 H A W 𝓣 E G24 G25 b15 Δ0 (Typed.pass T24 T25 (s22 bs)) (at25 bs) (Local.g-drop-sref 𝓤 H A W E G24 12 3 (Array'.Array
+              (Referent.rtF (Referent.fInt Syntax.w8)) 256) y9 (λ x. x) (Reads'.as-is 𝓤 H A (Rows'.sref (Array'.Array (Referent.rtF (Referent.fInt Syntax.w8))
+              256) y9 3))) d25
           d27 : Typed.Typed 𝓤 H A 𝓣 E G23 b16 Δ0 (at27 bs)
           d27 = Typed.s-seq 𝓤 H A W 𝓣 E G23 G24 b14 b15 Δ0 (Typed.both (s21 bs)) (at26 bs) (Plain.t-call-plain 𝓤 H A W 𝓣 4 ps·4 r·4 (claims· .8) (claims· .9)
-              "reader::run_on" (known .4) E (λ pos β. β) G23 (record { pos = 11; ty = y8; ref = λ x. x }, (Num.vAt 1 λ x. x, (record { pos = 2; ty = y17; ref
-              = λ x. x }, (record { pos = 13; ty = y9; ref = λ x. x }, (record { pos = 14; ty = y13; ref = λ x. x }, (record { pos = 7; st = []; d = 0; at = λ
-              x. x }, (Num.vFld 5 ((Syntax.field 1) ∷ []) 56 λ x. Cursor.struct .as-values x .1 .0, (Bool.bLit Bool'.false, (record { pos = 15; st = []; d =
+              "reader::run_on" (known .4) E (λ pos β. β) G23 (record { pos = 12; ty = y9; ref = λ x. x }, (Num.vAt 1 λ x. x, (record { pos = 2; ty = y17; ref
+              = λ x. x }, (record { pos = 14; ty = y10; ref = λ x. x }, (record { pos = 15; ty = y14; ref = λ x. x }, (record { pos = 7; st = []; d = 0; at =
+              λ x. x }, (Num.vFld 5 ((Syntax.field 1) ∷ []) 56 λ x. Cursor.struct .as-values x .1 .0, (Bool.bLit Bool'.false, (record { pos = 9; st = []; d =
               0; at = λ x. x }, tt))))))))) 0 (3 ∷ 0 ∷ 4 ∷ 5 ∷ []) (Call.sub-id 𝓤 H A W (G23 .slots)) (ShrRef.spares-sref 𝓤 H A W (Array'.Array (Referent.rtF
-              (Referent.fInt Syntax.w8)) 256) y8 3, Reads'.reads-sref 𝓤 H A W (Array'.Array (Referent.rtF (Referent.fInt Syntax.w8)) 256) y8 3, Path'.refl,
+              (Referent.fInt Syntax.w8)) 256) y9 3, Reads'.reads-sref 𝓤 H A W (Array'.Array (Referent.rtF (Referent.fInt Syntax.w8)) 256) y9 3, Path'.refl,
               ((Scalar.reads-sc 𝓤 H A W (Row.sInt Syntax.w32), Path'.refl), (ShrSlice.spares-sslice 𝓤 H A W (Referent.rtF (Referent.fInt Syntax.w8)) y17 0,
-              Shared.reads-sslice 𝓤 H A W (Referent.rtF (Referent.fInt Syntax.w8)) y17 0, Path'.refl, (Reads'.as-is 𝓤 H A (Mut.mslice NodeRecordT.row y9 4),
-              Mut.reads-mslice 𝓤 H A W NodeRecordT.row y9 4, Path'.refl, (Reads'.as-is 𝓤 H A (Rows'.mref (Array'.Array (Array'.Array (Referent.rtF
-              (Referent.fInt Syntax.w32)) 4) 32) y13 5), Reads'.reads-mref 𝓤 H A W (Array'.Array (Array'.Array (Referent.rtF (Referent.fInt Syntax.w32)) 4)
-              32) y13 5, Path'.refl, ((Yields.yields-copy 𝓤 H A W (λ ρ. Unit) (Declared.row Run.the-type) Path'.refl (Copies.cStruct Run.the-type
+              Shared.reads-sslice 𝓤 H A W (Referent.rtF (Referent.fInt Syntax.w8)) y17 0, Path'.refl, (Reads'.as-is 𝓤 H A (Mut.mslice NodeRecordT.row y10 4),
+              Mut.reads-mslice 𝓤 H A W NodeRecordT.row y10 4, Path'.refl, (Reads'.as-is 𝓤 H A (Rows'.mref (Array'.Array (Array'.Array (Referent.rtF
+              (Referent.fInt Syntax.w32)) 4) 32) y14 5), Reads'.reads-mref 𝓤 H A W (Array'.Array (Array'.Array (Referent.rtF (Referent.fInt Syntax.w32)) 4)
+              32) y14 5, Path'.refl, ((Yields.yields-copy 𝓤 H A W (λ ρ. Unit) (Declared.row Run.the-type) Path'.refl (Copies.cStruct Run.the-type
               Laws'.the-laws Laws'.the-copy .copy 𝓤 H A W) (Rows'.whole (Declared.row Run.the-type)) (λ x. x) (λ x. x) (λ ρ told. Local.mem-whole 𝓤 H A W
               (Declared.row Run.the-type) ρ) λ ρ told. Local.whole-mem 𝓤 H A W (Declared.row Run.the-type) ρ, Path'.refl), ((Reads.reads-field 𝓤 H A W
               Cursor.the-type Laws.the-laws 1 y3 56 Path'.refl, Path'.refl), (tt, ((Yields.yields-copy 𝓤 H A W (λ ρ. Unit) (Declared.row Goal.the-type)
@@ -863,41 +862,41 @@ module _ (claims· : Claims) where
               x. x) (λ ρ told. Local.mem-whole 𝓤 H A W (Declared.row Goal.the-type) ρ) λ ρ told. Local.whole-mem 𝓤 H A W (Declared.row Goal.the-type) ρ,
               Path'.refl), tt))))))))) (Reads'.room-gone 𝓤 H A y16) (tt, (tt, (tt, (tt, tt)))) Path'.refl) d26
           d28 : Typed.Typed 𝓤 H A 𝓣 E G22 b17 Δ0 (at28 bs)
-          d28 = Typed.s-seq 𝓤 H A W 𝓣 E G22 G23 b13 b16 Δ0 (Typed.both (s20 bs)) (at27 bs) (Plain.t-call-plain 𝓤 H A W 𝓣 0 ps·3 r·3 (claims· .6) (claims· .7)
-              "reader::goal_of" (known .3) E (λ pos β. β) G22 (Num.vAt 6 λ x. x, (Bool.bLit Bool'.false, tt)) 15 [] (Call.sub-id 𝓤 H A W (G22 .slots))
-              ((Scalar.reads-sc 𝓤 H A W (Row.sInt Syntax.w64), Path'.refl), (tt, tt)) (Reads'.room-gone 𝓤 H A y14) tt Path'.refl) d27
-          d29 : Typed.Typed 𝓤 H A 𝓣 E G21 b18 Δ0 (at29 bs)
-          d29 = Typed.s-seq 𝓤 H A W 𝓣 E G21 G22 b12 b17 Δ0 (Typed.give (s19 bs)) (at28 bs) (Reborrow.t-mref-relend 𝓤 H A W E 𝓣 G21 4 14 2 5 (Array'.Array
-              (Array'.Array (Referent.rtF (Referent.fInt Syntax.w32)) 4) 32) y12 y19 y13 K1 (λ x. x) (Reads'.as-is 𝓤 H A (Rows'.mref (Array'.Array
-              (Array'.Array (Referent.rtF (Referent.fInt Syntax.w32)) 4) 32) y19 2)) (Reads'.room-gone 𝓤 H A y13) Path'.refl tt Path'.refl Path'.refl λ b o.
-              tt) d28
+          d28 = Typed.s-seq 𝓤 H A W 𝓣 E G22 G23 b13 b16 Δ0 (Typed.give (s20 bs)) (at27 bs) (Reborrow.t-mref-relend 𝓤 H A W E 𝓣 G22 4 15 2 5 (Array'.Array
+              (Array'.Array (Referent.rtF (Referent.fInt Syntax.w32)) 4) 32) y13 y19 y14 K1 (λ x. x) (Reads'.as-is 𝓤 H A (Rows'.mref (Array'.Array
+              (Array'.Array (Referent.rtF (Referent.fInt Syntax.w32)) 4) 32) y19 2)) (Reads'.room-gone 𝓤 H A y14) Path'.refl tt Path'.refl Path'.refl λ b o.
+              tt) d27
+          d29 : Typed.Typed 𝓤 H A 𝓣 E G21 b17 Δ0 (at29 bs)
+          d29 = Typed.g-pre 𝓤 H A W 𝓣 E G21 G22 b17 Δ0 (λ Ψ. Ψ) (at28 bs) (Lifetime.g-begin 𝓤 H A W E G21 5 (tt, (tt, (tt, ((tt, tt), (tt, (tt, (tt, (tt, (tt,
+              (tt, (tt, (tt, (tt, (tt, (tt, (tt, tt))))))))))))))))) d28
           d30 : Typed.Typed 𝓤 H A 𝓣 E G20 b18 Δ0 (at30 bs)
-          d30 = Typed.g-pre 𝓤 H A W 𝓣 E G20 G21 b18 Δ0 (λ Ψ. Ψ) (at29 bs) (Lifetime.g-begin 𝓤 H A W E G20 5 (tt, (tt, (tt, ((tt, tt), (tt, (tt, (tt, (tt, (tt,
-              (tt, (tt, (tt, (tt, (tt, (tt, (tt, tt))))))))))))))))) d29
+          d30 = Typed.s-seq 𝓤 H A W 𝓣 E G20 G21 b12 b17 Δ0 (Typed.ask (s18 bs)) (at29 bs) (Relend.t-sl-aggregate 𝓤 H A W E NodeRecordT.row 𝓣 (Relend.asMut
+              NodeRecordT.row) G20 13 14 4 y10 y10 (λ x. x) (Scalar.oFld 3 ((Syntax.field 1) ∷ []) y3 8 λ v. Shared.lenV (v .0)) (Reads'.as-is 𝓤 H A
+              (Relend.msptr NodeRecordT.row y10 4)) (Reads'.room-gone 𝓤 H A y11) (Relend.reads-owed-len 𝓤 H A W NodeRecordT.row y18 1 4 K0 8 Path'.refl,
+              Path'.refl) Path'.refl Path'.refl λ b o k. tt) d29
           d31 : Typed.Typed 𝓤 H A 𝓣 E G19 b19 Δ0 (at31 bs)
-          d31 = Typed.s-seq 𝓤 H A W 𝓣 E G19 G20 b11 b18 Δ0 (Typed.ask (s17 bs)) (at30 bs) (Relend.t-sl-aggregate 𝓤 H A W E NodeRecordT.row 𝓣 (Relend.asMut
-              NodeRecordT.row) G19 12 13 4 y9 y9 (λ x. x) (Scalar.oFld 3 ((Syntax.field 1) ∷ []) y3 8 λ v. Shared.lenV (v .0)) (Reads'.as-is 𝓤 H A
-              (Relend.msptr NodeRecordT.row y9 4)) (Reads'.room-gone 𝓤 H A y10) (Relend.reads-owed-len 𝓤 H A W NodeRecordT.row y18 1 4 K0 8 Path'.refl,
-              Path'.refl) Path'.refl Path'.refl λ b o k. tt) d30
-          d32 : Typed.Typed 𝓤 H A 𝓣 E G18 b20 Δ0 (at32 bs)
-          d32 = Typed.s-seq 𝓤 H A W 𝓣 E G18 G19 b10 b19 Δ0 (Typed.give (s16 bs)) (at31 bs) (Relend.t-sl-relend 𝓤 H A W E NodeRecordT.row 𝓣 G18 3 12 1 4 y18 y9
-              K0 0 (λ x. x) (Reads'.as-is 𝓤 H A (Mut.mslice NodeRecordT.row y18 1)) (Reads'.room-gone 𝓤 H A y9) Path'.refl tt Path'.refl Path'.refl Path'.refl
-              λ b o. tt) d31
+          d31 = Typed.s-seq 𝓤 H A W 𝓣 E G19 G20 b11 b18 Δ0 (Typed.give (s17 bs)) (at30 bs) (Relend.t-sl-relend 𝓤 H A W E NodeRecordT.row 𝓣 G19 3 13 1 4 y18
+              y10 K0 0 (λ x. x) (Reads'.as-is 𝓤 H A (Mut.mslice NodeRecordT.row y18 1)) (Reads'.room-gone 𝓤 H A y10) Path'.refl tt Path'.refl Path'.refl
+              Path'.refl λ b o. tt) d30
+          d32 : Typed.Typed 𝓤 H A 𝓣 E G18 b19 Δ0 (at32 bs)
+          d32 = Typed.g-pre 𝓤 H A W 𝓣 E G18 G19 b19 Δ0 (λ Ψ. Ψ) (at31 bs) (Lifetime.g-begin 𝓤 H A W E G18 4 (tt, (tt, (tt, (tt, (tt, (tt, (tt, (tt, (tt, (tt,
+              (tt, (tt, (tt, (tt, (tt, (tt, tt))))))))))))))))) d31
           d33 : Typed.Typed 𝓤 H A 𝓣 E G17 b20 Δ0 (at33 bs)
-          d33 = Typed.g-pre 𝓤 H A W 𝓣 E G17 G18 b20 Δ0 (λ Ψ. Ψ) (at32 bs) (Lifetime.g-begin 𝓤 H A W E G17 4 (tt, (tt, (tt, (tt, (tt, (tt, (tt, (tt, (tt, (tt,
-              (tt, (tt, (tt, (tt, (tt, (tt, tt))))))))))))))))) d32
-          d34 : Typed.Typed 𝓤 H A 𝓣 E G16 b21 Δ0 (at34 bs)
-          d34 = Typed.s-seq 𝓤 H A W 𝓣 E G16 G17 b9 b20 Δ0 (Typed.give (s14 bs)) (at33 bs) (Local.t-sc-share 𝓤 H A W E 𝓣 G16 8 11 3 (Array'.Array (Referent.rtF
-              (Referent.fInt Syntax.w8)) 256) y8 (λ x. x) (Whole.mem-arr 𝓤 H A W (Referent.rtF (Referent.fInt Syntax.w8)) 256) (Reads'.room-gone 𝓤 H A y8)
-              Path'.refl λ b o. tt) d33
+          d33 = Typed.s-seq 𝓤 H A W 𝓣 E G17 G18 b10 b19 Δ0 (Typed.give (s15 bs)) (at32 bs) (Local.t-sc-share 𝓤 H A W E 𝓣 G17 8 12 3 (Array'.Array
+              (Referent.rtF (Referent.fInt Syntax.w8)) 256) y9 (λ x. x) (Whole.mem-arr 𝓤 H A W (Referent.rtF (Referent.fInt Syntax.w8)) 256) (Reads'.room-gone
+              𝓤 H A y9) Path'.refl λ b o. tt) d32
+          d34 : Typed.Typed 𝓤 H A 𝓣 E G16 b20 Δ0 (at34 bs)
+          d34 = Typed.g-pre 𝓤 H A W 𝓣 E G16 G17 b20 Δ0 (λ Ψ. Ψ) (at33 bs) (Lifetime.g-begin 𝓤 H A W E G16 3 (tt, (tt, (tt, (tt, (tt, (tt, (tt, (tt, (tt, (tt,
+              (tt, (tt, (tt, (tt, (tt, (tt, tt))))))))))))))))) d33
           d35 : Typed.Typed 𝓤 H A 𝓣 E G15 b21 Δ0 (at35 bs)
-          d35 = Typed.g-pre 𝓤 H A W 𝓣 E G15 G16 b21 Δ0 (λ Ψ. Ψ) (at34 bs) (Lifetime.g-begin 𝓤 H A W E G15 3 (tt, (tt, (tt, (tt, (tt, (tt, (tt, (tt, (tt, (tt,
-              (tt, (tt, (tt, (tt, (tt, (tt, tt))))))))))))))))) d34
+          d35 = Typed.s-seq 𝓤 H A W 𝓣 E G15 G16 b9 b20 Δ0 (Typed.both (s13 bs)) (at34 bs) (Plain.t-call-plain 𝓤 H A W 𝓣 0 ps·3 r·3 (claims· .6) (claims· .7)
+              "reader::goal_of" (known .3) E (λ pos β. β) G15 (Num.vAt 6 λ x. x, (Bool.bLit Bool'.false, (Bool.bLit Bool'.false, tt))) 9 [] (Call.sub-id 𝓤 H A
+              W (G15 .slots)) ((Scalar.reads-sc 𝓤 H A W (Row.sInt Syntax.w64), Path'.refl), (tt, (tt, tt))) (Reads'.room-gone 𝓤 H A y8) tt Path'.refl) d34
           d36 : Typed.Typed 𝓤 H A 𝓣 E G14 b21 Δ0 (at36 bs)
-          d36 = Typed.g-pre 𝓤 H A W 𝓣 E G14 G15 b21 Δ0 (Typed.pass T14 T15 (s12 bs)) (at35 bs) (Scalar.g-room 𝓤 H A W E G14 10 y7 (Init.room-arr 𝓤 H A W
+          d36 = Typed.g-pre 𝓤 H A W 𝓣 E G14 G15 b21 Δ0 (Typed.pass T14 T15 (s12 bs)) (at35 bs) (Scalar.g-room 𝓤 H A W E G14 11 y7 (Init.room-arr 𝓤 H A W
               (Referent.rtF (Referent.fInt Syntax.w8)) 256 0 256 Path'.refl)) d35
           d37 : Typed.Typed 𝓤 H A 𝓣 E G13 b22 Δ0 (at37 bs)
-          d37 = Typed.s-seq 𝓤 H A W 𝓣 E G13 G14 b8 b21 Δ0 (Typed.pass T13 T14 (s11 bs)) (at36 bs) (LocalCopy.t-val-copy 𝓤 H A W E 𝓣 (λ ρ. Unit) G13 10 8
+          d37 = Typed.s-seq 𝓤 H A W 𝓣 E G13 G14 b8 b21 Δ0 (Typed.pass T13 T14 (s11 bs)) (at36 bs) (LocalCopy.t-val-copy 𝓤 H A W E 𝓣 (λ ρ. Unit) G13 11 8
               (Array'.Array (Referent.rtF (Referent.fInt Syntax.w8)) 256) y7 y7 (Rows.arrF (Referent.rtF (Referent.fInt Syntax.w8)) 256 0) (Rows.arrF
               (Referent.rtF (Referent.fInt Syntax.w8)) 256 0) (λ x. x) (λ x. x) (λ x. x) Path'.refl (Own.told-none 𝓤 H A (G13 .slots)) (Yields.yields-copy 𝓤 H
               A W (λ ρ. Unit) (Array'.Array (Referent.rtF (Referent.fInt Syntax.w8)) 256) Path'.refl (Copies.cArr (Referent.rtF (Referent.fInt Syntax.w8))
@@ -908,13 +907,13 @@ module _ (claims· : Claims) where
               Syntax.w8)) 256 tt ρ) Path'.refl Path'.refl) d36
           d38 : Typed.Typed 𝓤 H A 𝓣 E G5 b23 Δ0 (at38 bs)
           d38 = Typed.s-seq 𝓤 H A W 𝓣 E G5 G13 b7 b22 Δ0 (Typed.both (s10 bs)) (at37 bs) (Plain.t-call-plain 𝓤 H A W 𝓣 0 ps·2 r·2 (claims· .4) (claims· .5)
-              "kinds::kinds" (known .2) E (λ pos β. β) G5 tt 10 [] (Call.sub-id 𝓤 H A W (G5 .slots)) tt (Reads'.room-gone 𝓤 H A y7) tt Path'.refl) d37
+              "kinds::kinds" (known .2) E (λ pos β. β) G5 tt 11 [] (Call.sub-id 𝓤 H A W (G5 .slots)) tt (Reads'.room-gone 𝓤 H A y7) tt Path'.refl) d37
           d39 : Typed.Typed 𝓤 H A 𝓣 E G4 b24 Δ0 (at39 bs)
           d39 = Typed.t-seq 𝓤 H A W 𝓣 E G4 G5 b6 b23 Δ0 (at9 bs) (at38 bs) d9 d38
           d40 : Typed.Typed 𝓤 H A 𝓣 E G3 b25 Δ0 (at40 bs)
           d40 = Typed.s-seq 𝓤 H A W 𝓣 E G3 G4 b1 b24 Δ0 (Typed.both (s2 bs)) (at39 bs) (Plain.t-call-plain 𝓤 H A W 𝓣 0 ps·0 r·0 (claims· .0) (claims· .1)
               "reader::is_off" (known .0) E (λ pos β. β) G3 (Num.vAt 1 λ x. x, (Num.vFld 5 ((Syntax.field 1) ∷ []) 56 λ x. Cursor.struct .as-values x .1 .0,
-              (Num.vAt 6 λ x. x, tt))) 9 [] (Call.sub-id 𝓤 H A W (G3 .slots)) ((Scalar.reads-sc 𝓤 H A W (Row.sInt Syntax.w32), Path'.refl),
+              (Num.vAt 6 λ x. x, tt))) 10 [] (Call.sub-id 𝓤 H A W (G3 .slots)) ((Scalar.reads-sc 𝓤 H A W (Row.sInt Syntax.w32), Path'.refl),
               ((Reads.reads-field 𝓤 H A W Cursor.the-type Laws.the-laws 1 y3 56 Path'.refl, Path'.refl), ((Scalar.reads-sc 𝓤 H A W (Row.sInt Syntax.w64),
               Path'.refl), tt))) (Reads'.room-gone 𝓤 H A Syntax.tyBool) tt Path'.refl) d39
           d41 : Typed.Typed 𝓤 H A 𝓣 E G2 b26 Δ0 (at41 bs)
@@ -1011,7 +1010,7 @@ module _ (claims· : Claims) where
       m5 = λ before. s4 (before .before .before .before .blocks) (m4 before)
       module _ (before· : After-is-off) where
         pub record Then1·own : Type 0 where
-          pub taken : Path'._≡_ (Row.get 9 (T4 .locals) (m3 (before· .before) (After-is-off·gave before·))) Bool'.true
+          pub taken : Path'._≡_ (Row.get 10 (T4 .locals) (m3 (before· .before) (After-is-off·gave before·))) Bool'.true
       pub record Then1 : Type 0 where
         pub before : After-is-off
         pub if1 : Then1·own before
@@ -1044,7 +1043,7 @@ module _ (claims· : Claims) where
       m10 = λ before. s9 (before .before .before .before .blocks) (m3 (before .before) (After-is-off·gave before))
       module _ (before· : After-is-off) where
         pub record Else1·own : Type 0 where
-          pub left : Path'._≡_ (Row.get 9 (T4 .locals) (m3 (before· .before) (After-is-off·gave before·))) Bool'.false
+          pub left : Path'._≡_ (Row.get 10 (T4 .locals) (m3 (before· .before) (After-is-off·gave before·))) Bool'.false
       pub record Else1 : Type 0 where
         pub before : After-is-off
         pub if1 : Else1·own before
@@ -1064,95 +1063,94 @@ module _ (claims· : Claims) where
       m12 = λ before given. s11 (before .before .before .before .before .blocks) (m11 before given)
       abbrev pub m13 : (before : Else1) → (given : s10 (before .before .before .before .before .blocks) .gives (m10 (before .before))) → Typed.Mo T15
       m13 = λ before given. s12 (before .before .before .before .before .blocks) (m12 before given)
-      abbrev pub m14 : (before : After-kinds) → (given : s14 (before .before .before .before .before .before .blocks) .gives (m13 (before .before)
-          (After-kinds·gave before))) → Typed.Mo T17
-      m14 = λ before given. s14 (before .before .before .before .before .before .blocks) .next (m13 (before .before) (After-kinds·gave before)) given
+      abbrev pub Need-goal-of-requires : Type 0
+      Need-goal-of-requires = (c : After-kinds) → s13 (c .before .before .before .before .before .blocks) .asks (m13 (c .before) (After-kinds·gave c))
+      abbrev pub m14 : (before : After-kinds) → (given : s13 (before .before .before .before .before .before .blocks) .gives (m13 (before .before)
+          (After-kinds·gave before))) → Typed.Mo T16
+      m14 = λ before given. s13 (before .before .before .before .before .before .blocks) .next (m13 (before .before) (After-kinds·gave before)) given
       module _ (before· : After-kinds) where
-        pub record After-k·own : Type 0 where
-          pub given : s14 (before· .before .before .before .before .before .blocks) .gives (m13 (before· .before) (After-kinds·gave before·))
-      pub record After-k : Type 0 where
+        abbrev pub After-goal-of·own : Type 0
+        After-goal-of·own = Called.Called ps·3 r·3 (claims· .7) T15 (Num.vAt 6 λ x. x, (Bool.bLit Bool'.false, (Bool.bLit Bool'.false, tt))) (m13 (before·
+            .before) (After-kinds·gave before·))
+      pub record After-goal-of : Type 0 where
         pub before : After-kinds
+        pub goal-of : After-goal-of·own before
+      abbrev pub After-goal-of·gave : (c : After-goal-of) → s13 (c .before .before .before .before .before .before .blocks) .gives (m13 (c .before .before)
+          (After-kinds·gave (c .before)))
+      After-goal-of·gave = λ c. Called.given ps·3 r·3 (claims· .7) T15 (Num.vAt 6 λ x. x, (Bool.bLit Bool'.false, (Bool.bLit Bool'.false, tt))) (m13 (c
+          .before .before) (After-kinds·gave (c .before))) (c .goal-of)
+      abbrev pub m15 : (before : After-goal-of) → (given : s15 (before .before .before .before .before .before .before .blocks) .gives (m14 (before .before)
+          (After-goal-of·gave before))) → Typed.Mo T18
+      m15 = λ before given. s15 (before .before .before .before .before .before .before .blocks) .next (m14 (before .before) (After-goal-of·gave before))
+          given
+      module _ (before· : After-goal-of) where
+        pub record After-k·own : Type 0 where
+          pub given : s15 (before· .before .before .before .before .before .before .blocks) .gives (m14 (before· .before) (After-goal-of·gave before·))
+      pub record After-k : Type 0 where
+        pub before : After-goal-of
         pub k : After-k·own before
-      abbrev pub m15 : (before : After-k) → (given : s16 (before .before .before .before .before .before .before .blocks) .gives (m14 (before .before) (before
-          .k .given))) → Typed.Mo T19
-      m15 = λ before given. s16 (before .before .before .before .before .before .before .blocks) .next (m14 (before .before) (before .k .given)) given
-      abbrev pub m16 : (before : After-k) → (given : s16 (before .before .before .before .before .before .before .blocks) .gives (m14 (before .before) (before
-          .k .given))) → Typed.Mo T20
-      m16 = λ before given. s17 (before .before .before .before .before .before .before .blocks) .next (m15 before given)
+      abbrev pub m16 : (before : After-k) → (given : s17 (before .before .before .before .before .before .before .before .blocks) .gives (m15 (before .before)
+          (before .k .given))) → Typed.Mo T20
+      m16 = λ before given. s17 (before .before .before .before .before .before .before .before .blocks) .next (m15 (before .before) (before .k .given)) given
+      abbrev pub m17 : (before : After-k) → (given : s17 (before .before .before .before .before .before .before .before .blocks) .gives (m15 (before .before)
+          (before .k .given))) → Typed.Mo T21
+      m17 = λ before given. s18 (before .before .before .before .before .before .before .before .blocks) .next (m16 before given)
       module _ (before· : After-k) where
         pub record After-run-on-arg·own : Type 0 where
-          pub given : s16 (before· .before .before .before .before .before .before .blocks) .gives (m14 (before· .before) (before· .k .given))
+          pub given : s17 (before· .before .before .before .before .before .before .before .blocks) .gives (m15 (before· .before) (before· .k .given))
       pub record After-run-on-arg : Type 0 where
         pub before : After-k
         pub run-on-arg : After-run-on-arg·own before
-      abbrev pub m17 : (before : After-run-on-arg) → (given : s19 (before .before .before .before .before .before .before .before .blocks) .gives (m16 (before
-          .before) (before .run-on-arg .given))) → Typed.Mo T22
-      m17 = λ before given. s19 (before .before .before .before .before .before .before .before .blocks) .next (m16 (before .before) (before .run-on-arg
-          .given)) given
+      abbrev pub m18 : (before : After-run-on-arg) → (given : s20 (before .before .before .before .before .before .before .before .before .blocks) .gives (m17
+          (before .before) (before .run-on-arg .given))) → Typed.Mo T23
+      m18 = λ before given. s20 (before .before .before .before .before .before .before .before .before .blocks) .next (m17 (before .before) (before
+          .run-on-arg .given)) given
       module _ (before· : After-run-on-arg) where
         pub record After-run-on-arg2·own : Type 0 where
-          pub given : s19 (before· .before .before .before .before .before .before .before .blocks) .gives (m16 (before· .before) (before· .run-on-arg
+          pub given : s20 (before· .before .before .before .before .before .before .before .before .blocks) .gives (m17 (before· .before) (before· .run-on-arg
               .given))
       pub record After-run-on-arg2 : Type 0 where
         pub before : After-run-on-arg
         pub run-on-arg2 : After-run-on-arg2·own before
-      abbrev pub Need-goal-of-requires : Type 0
-      Need-goal-of-requires = (c : After-run-on-arg2) → s20 (c .before .before .before .before .before .before .before .before .blocks) .asks (m17 (c .before)
-          (c .run-on-arg2 .given))
-      abbrev pub m18 : (before : After-run-on-arg2) → (given : s20 (before .before .before .before .before .before .before .before .before .blocks) .gives
-          (m17 (before .before) (before .run-on-arg2 .given))) → Typed.Mo T23
-      m18 = λ before given. s20 (before .before .before .before .before .before .before .before .before .blocks) .next (m17 (before .before) (before
+      abbrev pub Need-run-on-requires : Type 0
+      Need-run-on-requires = (c : After-run-on-arg2) → s21 (c .before .before .before .before .before .before .before .before .before .blocks) .asks (m18 (c
+          .before) (c .run-on-arg2 .given))
+      abbrev pub m19 : (before : After-run-on-arg2) → (given : s21 (before .before .before .before .before .before .before .before .before .before .blocks)
+          .gives (m18 (before .before) (before .run-on-arg2 .given))) → Typed.Mo T24
+      m19 = λ before given. s21 (before .before .before .before .before .before .before .before .before .before .blocks) .next (m18 (before .before) (before
           .run-on-arg2 .given)) given
       module _ (before· : After-run-on-arg2) where
-        abbrev pub After-goal-of·own : Type 0
-        After-goal-of·own = Called.Called ps·3 r·3 (claims· .7) T22 (Num.vAt 6 λ x. x, (Bool.bLit Bool'.false, tt)) (m17 (before· .before) (before·
-            .run-on-arg2 .given))
-      pub record After-goal-of : Type 0 where
-        pub before : After-run-on-arg2
-        pub goal-of : After-goal-of·own before
-      abbrev pub After-goal-of·gave : (c : After-goal-of) → s20 (c .before .before .before .before .before .before .before .before .before .blocks) .gives
-          (m17 (c .before .before) (c .before .run-on-arg2 .given))
-      After-goal-of·gave = λ c. Called.given ps·3 r·3 (claims· .7) T22 (Num.vAt 6 λ x. x, (Bool.bLit Bool'.false, tt)) (m17 (c .before .before) (c .before
-          .run-on-arg2 .given)) (c .goal-of)
-      abbrev pub Need-run-on-requires : Type 0
-      Need-run-on-requires = (c : After-goal-of) → s21 (c .before .before .before .before .before .before .before .before .before .blocks) .asks (m18 (c
-          .before) (After-goal-of·gave c))
-      abbrev pub m19 : (before : After-goal-of) → (given : s21 (before .before .before .before .before .before .before .before .before .before .blocks) .gives
-          (m18 (before .before) (After-goal-of·gave before))) → Typed.Mo T24
-      m19 = λ before given. s21 (before .before .before .before .before .before .before .before .before .before .blocks) .next (m18 (before .before)
-          (After-goal-of·gave before)) given
-      module _ (before· : After-goal-of) where
         abbrev pub After-run-on·own : Type 0
-        After-run-on·own = Called.Called ps·4 r·4 (claims· .9) T23 (record { pos = 11; ty = y8; ref = λ x. x }, (Num.vAt 1 λ x. x, (record { pos = 2; ty =
-            y17; ref = λ x. x }, (record { pos = 13; ty = y9; ref = λ x. x }, (record { pos = 14; ty = y13; ref = λ x. x }, (record { pos = 7; st = []; d = 0;
-            at = λ x. x }, (Num.vFld 5 ((Syntax.field 1) ∷ []) 56 λ x. Cursor.struct .as-values x .1 .0, (Bool.bLit Bool'.false, (record { pos = 15; st = [];
-            d = 0; at = λ x. x }, tt))))))))) (m18 (before· .before) (After-goal-of·gave before·))
+        After-run-on·own = Called.Called ps·4 r·4 (claims· .9) T23 (record { pos = 12; ty = y9; ref = λ x. x }, (Num.vAt 1 λ x. x, (record { pos = 2; ty =
+            y17; ref = λ x. x }, (record { pos = 14; ty = y10; ref = λ x. x }, (record { pos = 15; ty = y14; ref = λ x. x }, (record { pos = 7; st = []; d =
+            0; at = λ x. x }, (Num.vFld 5 ((Syntax.field 1) ∷ []) 56 λ x. Cursor.struct .as-values x .1 .0, (Bool.bLit Bool'.false, (record { pos = 9; st =
+            []; d = 0; at = λ x. x }, tt))))))))) (m18 (before· .before) (before· .run-on-arg2 .given))
       pub record After-run-on : Type 0 where
-        pub before : After-goal-of
+        pub before : After-run-on-arg2
         pub run-on : After-run-on·own before
       abbrev pub After-run-on·gave : (c : After-run-on) → s21 (c .before .before .before .before .before .before .before .before .before .before .blocks)
-          .gives (m18 (c .before .before) (After-goal-of·gave (c .before)))
-      After-run-on·gave = λ c. Called.given ps·4 r·4 (claims· .9) T23 (record { pos = 11; ty = y8; ref = λ x. x }, (Num.vAt 1 λ x. x, (record { pos = 2; ty =
-          y17; ref = λ x. x }, (record { pos = 13; ty = y9; ref = λ x. x }, (record { pos = 14; ty = y13; ref = λ x. x }, (record { pos = 7; st = []; d = 0;
-          at = λ x. x }, (Num.vFld 5 ((Syntax.field 1) ∷ []) 56 λ x. Cursor.struct .as-values x .1 .0, (Bool.bLit Bool'.false, (record { pos = 15; st = []; d
-          = 0; at = λ x. x }, tt))))))))) (m18 (c .before .before) (After-goal-of·gave (c .before))) (c .run-on)
-      abbrev pub m20 : (before : After-goal-of) → (given : s21 (before .before .before .before .before .before .before .before .before .before .blocks) .gives
-          (m18 (before .before) (After-goal-of·gave before))) → Typed.Mo T25
+          .gives (m18 (c .before .before) (c .before .run-on-arg2 .given))
+      After-run-on·gave = λ c. Called.given ps·4 r·4 (claims· .9) T23 (record { pos = 12; ty = y9; ref = λ x. x }, (Num.vAt 1 λ x. x, (record { pos = 2; ty =
+          y17; ref = λ x. x }, (record { pos = 14; ty = y10; ref = λ x. x }, (record { pos = 15; ty = y14; ref = λ x. x }, (record { pos = 7; st = []; d = 0;
+          at = λ x. x }, (Num.vFld 5 ((Syntax.field 1) ∷ []) 56 λ x. Cursor.struct .as-values x .1 .0, (Bool.bLit Bool'.false, (record { pos = 9; st = []; d =
+          0; at = λ x. x }, tt))))))))) (m18 (c .before .before) (c .before .run-on-arg2 .given)) (c .run-on)
+      abbrev pub m20 : (before : After-run-on-arg2) → (given : s21 (before .before .before .before .before .before .before .before .before .before .blocks)
+          .gives (m18 (before .before) (before .run-on-arg2 .given))) → Typed.Mo T25
       m20 = λ before given. s22 (before .before .before .before .before .before .before .before .before .before .blocks) (m19 before given)
-      abbrev pub m21 : (before : After-goal-of) → (given : s21 (before .before .before .before .before .before .before .before .before .before .blocks) .gives
-          (m18 (before .before) (After-goal-of·gave before))) → Typed.Mo T26
+      abbrev pub m21 : (before : After-run-on-arg2) → (given : s21 (before .before .before .before .before .before .before .before .before .before .blocks)
+          .gives (m18 (before .before) (before .run-on-arg2 .given))) → Typed.Mo T26
       m21 = λ before given. s23 (before .before .before .before .before .before .before .before .before .before .blocks) (m20 before given)
-      abbrev pub m22 : (before : After-goal-of) → (given : s21 (before .before .before .before .before .before .before .before .before .before .blocks) .gives
-          (m18 (before .before) (After-goal-of·gave before))) → Typed.Mo T27
+      abbrev pub m22 : (before : After-run-on-arg2) → (given : s21 (before .before .before .before .before .before .before .before .before .before .blocks)
+          .gives (m18 (before .before) (before .run-on-arg2 .given))) → Typed.Mo T27
       m22 = λ before given. s24 (before .before .before .before .before .before .before .before .before .before .blocks) (m21 before given)
-      abbrev pub m23 : (before : After-goal-of) → (given : s21 (before .before .before .before .before .before .before .before .before .before .blocks) .gives
-          (m18 (before .before) (After-goal-of·gave before))) → Typed.Mo T28
+      abbrev pub m23 : (before : After-run-on-arg2) → (given : s21 (before .before .before .before .before .before .before .before .before .before .blocks)
+          .gives (m18 (before .before) (before .run-on-arg2 .given))) → Typed.Mo T28
       m23 = λ before given. s25 (before .before .before .before .before .before .before .before .before .before .blocks) (m22 before given)
-      abbrev pub m24 : (before : After-goal-of) → (given : s21 (before .before .before .before .before .before .before .before .before .before .blocks) .gives
-          (m18 (before .before) (After-goal-of·gave before))) → Typed.Mo T30
+      abbrev pub m24 : (before : After-run-on-arg2) → (given : s21 (before .before .before .before .before .before .before .before .before .before .blocks)
+          .gives (m18 (before .before) (before .run-on-arg2 .given))) → Typed.Mo T30
       m24 = λ before given. s27 (before .before .before .before .before .before .before .before .before .before .blocks) (m23 before given)
-      abbrev pub m25 : (before : After-goal-of) → (given : s21 (before .before .before .before .before .before .before .before .before .before .blocks) .gives
-          (m18 (before .before) (After-goal-of·gave before))) → Typed.Mo T32
+      abbrev pub m25 : (before : After-run-on-arg2) → (given : s21 (before .before .before .before .before .before .before .before .before .before .blocks)
+          .gives (m18 (before .before) (before .run-on-arg2 .given))) → Typed.Mo T32
       m25 = λ before given. s29 (before .before .before .before .before .before .before .before .before .before .blocks) (m24 before given)
       abbrev pub m26 : (before : After-run-on) → (given : s31 (before .before .before .before .before .before .before .before .before .before .before .blocks)
           .gives (m25 (before .before) (After-run-on·gave before))) → Typed.Mo T34
@@ -1201,22 +1199,22 @@ module _ (claims· : Claims) where
             (c .before .before .before .before .before .before .before .before .before .before .args) .1 .1 .0 .now) (same-length record { before = record {
             before = c .before; run-on = c .run-on }; t = record { given = g } }), (Path'.refl, (tt, (tt, tt)))))), returns-2 record { before = record {
             before = c .before; run-on = c .run-on }; t = record { given = g } })))
-        lay5 : (c : After-goal-of) → at27 (c .before .before .before .before .before .before .before .before .before .blocks) (W0 (c .before .before .before
-            .before .before .before .before .before .before .κs) (c .before .before .before .before .before .before .before .before .before .args) (c .before
-            .before .before .before .before .before .before .before .before .blocks)) (m18 (c .before) (After-goal-of·gave c))
-        lay5 = λ c. (run-on-requires record { before = c .before; goal-of = c .goal-of }, λ g. lay6 record { before = record { before = c .before; goal-of = c
-            .goal-of }; run-on = Called.called ps·4 r·4 (claims· .9) T23 (record { pos = 11; ty = y8; ref = λ x. x }, (Num.vAt 1 λ x. x, (record { pos = 2; ty
-            = y17; ref = λ x. x }, (record { pos = 13; ty = y9; ref = λ x. x }, (record { pos = 14; ty = y13; ref = λ x. x }, (record { pos = 7; st = []; d =
-            0; at = λ x. x }, (Num.vFld 5 ((Syntax.field 1) ∷ []) 56 λ x. Cursor.struct .as-values x .1 .0, (Bool.bLit Bool'.false, (record { pos = 15; st =
-            []; d = 0; at = λ x. x }, tt))))))))) (m18 (c .before) (After-goal-of·gave c)) g })
+        lay5 : (c : After-goal-of) → at34 (c .before .before .before .before .before .before .blocks) (W0 (c .before .before .before .before .before .before
+            .κs) (c .before .before .before .before .before .before .args) (c .before .before .before .before .before .before .blocks)) (m14 (c .before)
+            (After-goal-of·gave c))
+        lay5 = λ c. λ g. λ g'. (Path'.refl, λ g''. (run-on-requires record { before = record { before = record { before = record { before = c .before; goal-of
+            = c .goal-of }; k = record { given = g } }; run-on-arg = record { given = g' } }; run-on-arg2 = record { given = g'' } }, λ g'3. lay6 record {
+            before = record { before = record { before = record { before = record { before = c .before; goal-of = c .goal-of }; k = record { given = g } };
+            run-on-arg = record { given = g' } }; run-on-arg2 = record { given = g'' } }; run-on = Called.called ps·4 r·4 (claims· .9) T23 (record { pos = 12;
+            ty = y9; ref = λ x. x }, (Num.vAt 1 λ x. x, (record { pos = 2; ty = y17; ref = λ x. x }, (record { pos = 14; ty = y10; ref = λ x. x }, (record {
+            pos = 15; ty = y14; ref = λ x. x }, (record { pos = 7; st = []; d = 0; at = λ x. x }, (Num.vFld 5 ((Syntax.field 1) ∷ []) 56 λ x. Cursor.struct
+            .as-values x .1 .0, (Bool.bLit Bool'.false, (record { pos = 9; st = []; d = 0; at = λ x. x }, tt))))))))) (m18 record { before = record { before =
+            record { before = c .before; goal-of = c .goal-of }; k = record { given = g } }; run-on-arg = record { given = g' } } g'') g'3 }))
         lay4 : (c : After-kinds) → at37 (c .before .before .before .before .before .blocks) (W0 (c .before .before .before .before .before .κs) (c .before
             .before .before .before .before .args) (c .before .before .before .before .before .blocks)) (m11 (c .before) (After-kinds·gave c))
-        lay4 = λ c. λ g. λ g'. (Path'.refl, λ g''. (goal-of-requires record { before = record { before = record { before = record { before = c .before; kinds
-            = c .kinds }; k = record { given = g } }; run-on-arg = record { given = g' } }; run-on-arg2 = record { given = g'' } }, λ g'3. lay5 record {
-            before = record { before = record { before = record { before = record { before = c .before; kinds = c .kinds }; k = record { given = g } };
-            run-on-arg = record { given = g' } }; run-on-arg2 = record { given = g'' } }; goal-of = Called.called ps·3 r·3 (claims· .7) T22 (Num.vAt 6 λ x. x,
-            (Bool.bLit Bool'.false, tt)) (m17 record { before = record { before = record { before = c .before; kinds = c .kinds }; k = record { given = g } };
-            run-on-arg = record { given = g' } } g'') g'3 }))
+        lay4 = λ c. (goal-of-requires record { before = c .before; kinds = c .kinds }, λ g. lay5 record { before = record { before = c .before; kinds = c
+            .kinds }; goal-of = Called.called ps·3 r·3 (claims· .7) T15 (Num.vAt 6 λ x. x, (Bool.bLit Bool'.false, (Bool.bLit Bool'.false, tt))) (m13 (c
+            .before) (After-kinds·gave c)) g })
         lay3 : (c : Else1) → at38 (c .before .before .before .before .blocks) (W0 (c .before .before .before .before .κs) (c .before .before .before .before
             .args) (c .before .before .before .before .blocks)) (m10 (c .before))
         lay3 = λ c. (kinds-requires record { before = c .before; if1 = c .if1 }, λ g. lay4 record { before = record { before = c .before; if1 = c .if1 };

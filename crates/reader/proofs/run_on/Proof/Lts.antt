@@ -1,5 +1,5 @@
 -- Generated: the derivation of a body.
--- From 78663303f6fac913, as db27a77726324e62.
+-- From 634908cb81292027, as 76e86034116e766d.
 use Prim.Native.Nat
 use Rattle.cursors.proofs.Pair
 use Rattle.cursors.proofs.Pair.Laws
@@ -120,7 +120,8 @@ abbrev y5 : Syntax.Ty
 y5 = Syntax.tyStruct (99 ∷ 117 ∷ 114 ∷ 115 ∷ 111 ∷ 114 ∷ 115 ∷ 58 ∷ 58 ∷ 82 ∷ 117 ∷ 110 ∷ []) (Syntax.tcons y1 (Syntax.tcons y2 (Syntax.tcons y3 (Syntax.tcons
     y3 (Syntax.tcons y0 (Syntax.tcons y4 (Syntax.tcons Syntax.tyBool Syntax.tnil)))))))
 abbrev y6 : Syntax.Ty
-y6 = Syntax.tyStruct (114 ∷ 101 ∷ 97 ∷ 100 ∷ 101 ∷ 114 ∷ 58 ∷ 58 ∷ 71 ∷ 111 ∷ 97 ∷ 108 ∷ []) (Syntax.tcons y3 (Syntax.tcons Syntax.tyBool Syntax.tnil))
+y6 = Syntax.tyStruct (114 ∷ 101 ∷ 97 ∷ 100 ∷ 101 ∷ 114 ∷ 58 ∷ 58 ∷ 71 ∷ 111 ∷ 97 ∷ 108 ∷ []) (Syntax.tcons y3 (Syntax.tcons Syntax.tyBool (Syntax.tcons
+    Syntax.tyBool Syntax.tnil)))
 abbrev y7 : Syntax.Ty
 y7 = Syntax.tyStruct (101 ∷ 108 ∷ 101 ∷ 109 ∷ 101 ∷ 110 ∷ 116 ∷ 115 ∷ 58 ∷ 58 ∷ 79 ∷ 112 ∷ 101 ∷ 110 ∷ []) (Syntax.tcons y1 (Syntax.tcons Syntax.tyBool
     (Syntax.tcons Syntax.tyBool Syntax.tnil)))

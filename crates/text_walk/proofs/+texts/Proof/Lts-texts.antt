@@ -1,5 +1,5 @@
 -- Generated: the derivation of a body.
--- From 684a6838d44c748f, as f9b9466d99186a97.
+-- From 08d2dc670682ba80, as f9b9466d99186a97.
 use Prim.Native.Nat
 use Rattle.blocks.proofs.Block
 use Rattle.blocks.proofs.Block.Laws

@@ -1,5 +1,5 @@
 -- Generated: the derivation of a body.
--- From 684a6838d44c748f, as df30e22915f4746e.
+-- From 08d2dc670682ba80, as df30e22915f4746e.
 use Prim.Native.Nat
 use Rattle.blocks.proofs.Block
 use Rattle.blocks.proofs.Block.Laws

@@ -1,5 +1,5 @@
 -- Generated: the derivation of a body.
--- From 684a6838d44c748f, as 70296fa8fbc3d854.
+-- From 08d2dc670682ba80, as 70296fa8fbc3d854.
 use Prim.Native.Nat
 use Rattle.node_records.proofs.Tables.NodeRecord as NodeRecordT
 use Rattle.node_records.proofs.Tables.WriterRecord as WriterRecordT
