@@ -179,7 +179,7 @@ enum { RULE_WHOLE = 0, RULE_INPUT_ENDED = 1, RULE_OUTPUT_FULL = 2 };
 
 /*
  * How many bytes are written, the covered count, and how it ended; `spare` is 0. The covered count does not depend on the output: it is 2^n for a
- * truth table, and the smaller of the two streams' for combining.
+ * truth table, and for combining the least word that is not settled, or 2^n.
  */
 typedef struct {
     uint32_t cause, stream;
@@ -205,10 +205,12 @@ rule_written rule_write(uint32_t n, uint32_t size, const uint8_t *truths, size_t
 /*
  * Combines two streams by an operator, 0 to 15: on a word for which stream 1 decides a and stream 2 decides b, it gives binary digit 2a + b of the
  * operator, digit 0 lowest (AND 8, OR 14, XOR 6; NOT 3 is that of stream 1). Writes a stream with the table size `size`, 0 to RULE_RECORDS. Tests causes 1
- * to 4, then all of stream 1, then all of stream 2. Streams may be cut: the covered count is the smaller of theirs; if it is not 2^n, the output gets
- * the beginning that later bytes of the streams can't change, and the ending is RULE_INPUT_ENDED. If the output is shorter than the text, it gets the
- * text's first bytes and the ending is RULE_OUTPUT_FULL. Neither is a refusal. If the call is refused, the output is as it was. `table1` and `table2`
- * are for reading stream 1 and stream 2, `table3` is for writing: each of RULE_RECORDS records or more. Changes nothing but the output and the tables.
+ * to 4, then all of stream 1, then all of stream 2. Streams may be cut. A word is settled if the operator gives one result for all decisions of a stream
+ * that does not cover it: with AND, a word that one stream refuses; NOT never waits for stream 2, and 0 and 15 for neither. The covered count is the least
+ * word that is not settled, or 2^n; if it is not 2^n, the output gets the beginning that later bytes of the streams can't change, and the ending is
+ * RULE_INPUT_ENDED. If the output is shorter than the text, it gets the text's first bytes and the ending is RULE_OUTPUT_FULL. Neither is a refusal. If
+ * the call is refused, the output is as it was. `table1` and `table2` are for reading stream 1 and stream 2, `table3` is for writing: each of
+ * RULE_RECORDS records or more. Changes nothing but the output and the tables.
  */
 rule_written rule_combine(uint32_t n, uint32_t op, uint32_t size, const uint8_t *stream1, size_t stream1_bytes, const uint8_t *stream2,
                           size_t stream2_bytes, uint8_t *output, size_t output_bytes, rule_record *table1, size_t records1, rule_record *table2,

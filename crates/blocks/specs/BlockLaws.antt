@@ -5,23 +5,23 @@ use mathlib.Core.Logic.{⊎-elim}
 use mathlib.Core.Bool.{Bool, true, false, cond}
 use mathlib.Core.List.{List, []}
 use mathlib.Core.Option.{none}
-use Prim.Native.Nat.{ℕ, suc, _+_, _-_, _*_, _<_, _≤_, _^_}
+use Prim.Native.Nat.{ℕ, zero, suc, _+_, _-_, _*_, _<_, _≤_, _^_}
 use native.Mathlib.Omega.{arith}
 use lib.ListN.{length}
 use borrow.Author.Tests.{lt-ltb}
 use Rattle.theory_lists.specs.Lists.{decide-le}
 use Rattle.theory_reading.specs.Limits.{optionLimit, openLimit, tableLimit}
-use Rattle.theory_reading.specs.Nodes.{node}
-use Rattle.theory_reading.specs.Reading.{State, Reading, level, isStart, reading}
+use Rattle.theory_reading.specs.Nodes.{Node, node}
+use Rattle.theory_reading.specs.Reading.{State, Reading, goes, level, isStart, advance, reading}
 use Rattle.theory_reading.specs.Deciding.{Decision, undecided, decided, complemented, options, Trace, traceOn, trace, decisionOf, decision}
 use Rattle.theory_reading.specs.Calls.{Verdict, notYet, isNo, isYes, verdictOf, verdict}
 use Rattle.theory_reading.specs.Covered.{grown-on, grown-count, trace-covered}
 use Rattle.theory_reading.specs.TableWalk.{tableWalk, tied-on}
 use Rattle.theory_reading.specs.Passing.{startTrace}
 use Rattle.theory_reading.specs.Settled.{never-some, trace-onward}
-use Rattle.theory_reading.specs.Reaching.{At, at-fault, at-end, at-grows, at-most, at-passes}
+use Rattle.theory_reading.specs.Reaching.{At, at-next, at-fault, at-end, at-grows, at-most, at-passes}
 use Rattle.theory_reading.specs.Aligned.{Multiple, at-nested, at-aligned}
-use Rattle.theory_reading.specs.Lasting.{Lasts, Ordered, at-ordered, at-lasts, at-sits}
+use Rattle.theory_reading.specs.Lasting.{Lasts, Ordered, lasts-refl, lasts-trans, at-ordered, at-lasts, at-sits}
 use Rattle.elements.specs.Abstraction.{contextOf, causeOf}
 use Rattle.reader.specs.Simulation.{child-of}
 use Rattle.work_table.specs.TableLaws.{tableOf}
@@ -50,6 +50,50 @@ at-all n bytes f s h =
 
 pub stands-all : (n : ℕ) (bytes : List ℕ) (r : Run) (o : Opens) (t : List NodeRecord) → Stands n bytes r o t → r .covered ≤ reading n bytes .state .covered
 stands-all n bytes r o t h = omega (arith, at-all n bytes (h .steps) (stateAt r o t) (h .here), trace-covered n bytes)
+
+-- ---- The table where code stands -------------------------------------------------------------
+
+-- before the size is read it has no number, and the theory's table nothing
+none-node : (t : List NodeRecord) (k : ℕ) → node (tableOf t 0) k ≡ node [] k
+none-node t zero = refl
+none-node t (suc k) = refl
+
+none-lasts : (t : List NodeRecord) → Lasts [] (tableOf t 0)
+none-lasts t = record {
+  more = λ k. omega (arith, ap (λ (x : Node). x .stamp) (none-node t k));
+  same = λ k e. none-node t k;
+  child = λ k c e d. ap (λ (x : Node). x .stamp) (none-node t c);
+}
+
+-- so it is ordered
+pub none-ordered : (t : List NodeRecord) → Ordered (tableOf t 0)
+none-ordered t k c l = absurd (omega (arith, l, ap (λ (x : Node). x .level) (none-node t k)))
+
+module _ (n : ℕ) (bytes : List ℕ) (r : Run) (o : Opens) (t : List NodeRecord) (h : Stands n bytes r o t) where
+  -- THE TABLE IS ORDERED wherever code stands,
+  pub stands-ordered : Ordered (tableOf t (r .size))
+  stands-ordered = go (isStart (contextOf (r .context))) refl
+    where
+      go : (b : Bool) → isStart (contextOf (r .context)) ≡ b → Ordered (tableOf t (r .size))
+      go true e = subst (λ (z : ℕ). Ordered (tableOf t z)) (sym (h .kept .begin e)) (none-ordered t)
+      go false e =
+          subst (λ (b : Bool). Ordered (cond b [] (tableOf t (r .size)))) e (at-ordered n bytes (h .steps) (stateAt r o t) (h .here))
+
+  -- and has what the theory's table has.
+  stands-lasts : Lasts (stateAt r o t .table) (tableOf t (r .size))
+  stands-lasts = go (isStart (contextOf (r .context))) refl
+    where
+      go : (b : Bool) → isStart (contextOf (r .context)) ≡ b → Lasts (cond b [] (tableOf t (r .size))) (tableOf t (r .size))
+      go true e = subst (λ (z : ℕ). Lasts [] (tableOf t z)) (sym (h .kept .begin e)) (none-lasts t)
+      go false e = lasts-refl (tableOf t (r .size))
+
+-- where reading has come to the end it stays there
+at-stays : (n : ℕ) (bytes : List ℕ) (f : ℕ) (s : State) → advance n bytes s ≡ goes s → At n bytes f s → (j g : ℕ) → g ≡ j + f
+    → At n bytes g s
+at-stays n bytes f s e h zero g i = let k : f ≡ g = omega (arith, i) in subst (λ (g : ℕ). At n bytes g s) k h
+at-stays n bytes f s e h (suc j) g i =
+    let k : suc (j + f) ≡ g = omega (arith, i) in
+    subst (λ (g : ℕ). At n bytes g s) k (at-next n bytes (j + f) s s (at-stays n bytes f s e h j (j + f) refl) e)
 
 -- ---- What the loop passes --------------------------------------------------------------------
 
@@ -188,6 +232,23 @@ module _ (n : ℕ) (bytes : List ℕ) (r : Run) (o : Opens) (t : List NodeRecord
       let i = halted-all n bytes (r .covered) x u reached e clean in
       omega (arith, i, k .0, stands-all n bytes r o t h)
 
+  -- And the table lasts till then, if r has one.
+  halted-lasts : x .halted ≡ true → reading n bytes .fault ≡ none → isStart (contextOf (r .context)) ≡ false
+      → Lasts (tableOf t (r .size)) (tableOf u (x .run .size))
+  halted-lasts e clean later =
+      let k = subst (Ends n bytes (r .covered) x u (reached .stands .steps)) e (reached .ends) in go (x .faulty) (k .1)
+    where
+      go : (b : Bool) → HaltsAt n bytes after b (x .cause) (x .byte) → Lasts (tableOf t (r .size)) (tableOf u (x .run .size))
+      go true k = never-some (record { cause = causeOf (x .cause); byte = x .byte })
+          (sym clean ∙ ap (λ (y : Reading). y .fault) (at-fault n bytes (reached .stands .steps) after (causeOf (x .cause)) (x .byte)
+          (reached .stands .here) k))
+      go false k =
+          lasts-trans (tableOf t (r .size)) (after .table) (tableOf u (x .run .size))
+          (subst (λ (b : Bool). Lasts (cond b [] (tableOf t (r .size))) (after .table)) later
+          (at-lasts n bytes (h .steps) (h .steps + reached .stands .steps) s after (omega arith) (h .here)
+          (at-stays n bytes (reached .stands .steps) after k (reached .stands .here) (h .steps) (h .steps + reached .stands .steps) refl)))
+          (stands-lasts n bytes (x .run) (x .opens) u (reached .stands))
+
 -- ---- A word's decision -----------------------------------------------------------------------
 
 -- a verdict's decision
@@ -253,6 +314,10 @@ module _ (n : ℕ) (bytes : List ℕ) (few : n ≤ optionLimit) (c : ReadCursor)
   pub next-stands : StandsAt n bytes (b .cursor) u
   next-stands = subst (λ (y : Next). StandsAt n bytes (y .block .cursor) (y .table)) (sym same) (reached .stands)
 
+  -- its table is ordered,
+  pub block-ordered : Ordered (tableOf u (b .cursor .run .size))
+  block-ordered = stands-ordered n bytes (b .cursor .run) (b .cursor .opens) u next-stands
+
   module _ (e : b .halted ≡ false) where
     on : z .reached .halted ≡ false
     on = sym (ap (λ (y : ReadBlock). y .halted) same-block) ∙ e
@@ -278,16 +343,11 @@ module _ (n : ℕ) (bytes : List ℕ) (few : n ≤ optionLimit) (c : ReadCursor)
         subst (λ (y : ReadBlock). Multiple (n - y .deep) (y .from)) (sym same-block)
         (passed-aligned n bytes (c .run .covered) (z .reached) (z .table) reached on)
 
-    -- The cursor after it has a table, which is ordered and lasts from the cursor before, if that has one;
+    -- The cursor after it has a table, which lasts from the cursor before, if that has one;
     pub block-later : isStart (contextOf (b .cursor .run .context)) ≡ false
     block-later =
         subst (λ (y : ReadBlock). isStart (contextOf (y .cursor .run .context)) ≡ false) (sym same-block)
         (passed-later n bytes (c .run .covered) (z .reached) (z .table) reached on)
-
-    pub block-ordered : Ordered (tableOf u (b .cursor .run .size))
-    block-ordered =
-        subst (λ (y : Next). Ordered (tableOf (y .table) (y .block .cursor .run .size))) (sym same)
-        (passed-ordered n bytes (c .run .covered) (z .reached) (z .table) reached on)
 
     pub block-lasts : isStart (contextOf (c .run .context)) ≡ false → Lasts (tableOf t (c .run .size)) (tableOf u (b .cursor .run .size))
     block-lasts later =
@@ -312,7 +372,15 @@ module _ (n : ℕ) (bytes : List ℕ) (few : n ≤ optionLimit) (c : ReadCursor)
         (passed-decides n bytes (c .run .covered) (z .reached) (z .table) reached on w (omega (arith, l, ap (λ (y : ReadBlock). y .from) same-block))
         (omega (arith, k, ap (λ (y : ReadBlock). y .cursor .run .covered) same-block)))
 
-  -- Where no block is left of a stream without a fault, its words are covered.
+  -- Where no block is left of a stream without a fault, its words are covered,
   pub block-last : b .halted ≡ true → reading n bytes .fault ≡ none → reading n bytes .state .covered ≡ c .run .covered
   block-last e = halted-covers n bytes (c .run) (c .opens) t h (z .reached) (z .table) reached
       (sym (ap (λ (y : ReadBlock). y .halted) same-block) ∙ e)
+
+  -- and the table lasts too.
+  pub end-lasts : b .halted ≡ true → reading n bytes .fault ≡ none → isStart (contextOf (c .run .context)) ≡ false
+      → Lasts (tableOf t (c .run .size)) (tableOf u (b .cursor .run .size))
+  end-lasts e clean later =
+      subst (λ (y : Next). Lasts (tableOf t (c .run .size)) (tableOf (y .table) (y .block .cursor .run .size))) (sym same)
+      (halted-lasts n bytes (c .run) (c .opens) t h (z .reached) (z .table) reached
+      (sym (ap (λ (y : ReadBlock). y .halted) same-block) ∙ e) clean later)

@@ -20,6 +20,7 @@ use Rattle.reader.specs.Loop.{firstOpens, stands-first}
 use Rattle.answers.specs.Answers.{checkingOf}
 use Rattle.checker.specs.CheckCorrect.{checkedBy}
 use Rattle.cursors.specs.Cursors.{startCursor}
+use Rattle.reader.specs.Legs.{bare}
 use Rattle.reader.specs.ReadOn.{ReadTo, readOn, readAll, firstCursor, readFrom, read-within}
 use Rattle.blocks.specs.Blocks.{ReadBlock, blockOf}
 use Rattle.blocks.specs.declared.Loaded.{Loaded}
@@ -100,17 +101,26 @@ module _ (n : ℕ) (bytes : List ℕ) (t : List NodeRecord) where
   unfolding load
   load-on few room = rw (le-ltb optionLimit n few, le-ltb (length t) tableLimit room) refl
 
-  -- y, u: what the loop reaches, and the table after it; b, a, w: the block, the answer and whether it is whole, as code has them
+  -- y, u: what the loop reaches, and the table after it; x: what is made of it, as code has it
   pub load-correct : n ≤ optionLimit → tableLimit ≤ length t → (c : Cursor) → c ≡ startCursor → (y : ReadReached) (u : List NodeRecord)
-      → record { reached = y; table = u } ≡ readFrom n bytes wordLimit (cursorIn c (replicate openLimit (replicate 4 0))) t → (b : ReadBlock) → b
-      ≡ blockOf y
-      → (a : C.Result R.Checked) → a ≡ checkedBy y → (w : Bool) → w ≡ wholeBy y u
-      → record { answer = a; whole = w; size = b .cursor .run .size; number = b .number; complement = b .complement; table = u } ≡ load n bytes t
-  load-correct few room c ce y u k b be a ae w we =
-      ap (λ (b : ReadBlock). record { answer = a; whole = w; size = b .cursor .run .size; number = b .number; complement = b .complement; table = u })
-      be
-      ∙ rw (ae, we) refl
+      → record { reached = y; table = u } ≡ readFrom n bytes wordLimit (cursorIn c (replicate openLimit (replicate 4 0))) t
+      → (x : LoadTo) → x ≡ loadOf (record { reached = y; table = u }) → x ≡ load n bytes t
+  load-correct few room c ce y u k x xe =
+      xe
       ∙ ap loadOf (k
       ∙ ap (λ (c : Cursor). readFrom n bytes wordLimit (cursorIn c (replicate openLimit (replicate 4 0))) t) ce
       ∙ read-within n bytes few wordLimit (omega arith) firstCursor t (stands-first n bytes t room))
       ∙ sym (load-on few room)
+
+-- y, u: what the loop reaches, and the table after it; b, a, w: the block, the answer and whether it is whole, as code has them
+pub load-made : (y : ReadReached) (u : List NodeRecord) (b : ReadBlock) → b ≡ blockOf y → (a : C.Result R.Checked) → a ≡ checkedBy y
+    → (w : Bool) → w ≡ wholeBy y u
+    → record { answer = a; whole = w; size = b .cursor .run .size; number = b .number; complement = b .complement; table = u }
+    ≡ loadOf (record { reached = y; table = u })
+load-made y u b be a ae w we =
+    ap (λ (b : ReadBlock). record { answer = a; whole = w; size = b .cursor .run .size; number = b .number; complement = b .complement; table = u }) be
+    ∙ rw (ae, we) refl
+
+-- What the last element passed does not count.
+pub load-bare : (z w : ReadTo) → bare z ≡ bare w → loadOf z ≡ loadOf w
+load-bare z w e = ap loadOf e

@@ -15,12 +15,12 @@ use Rattle.theory_reading.specs.Nodes.{Node, child, node, bars}
 use Rattle.theory_reading.specs.Causes as C
 use Rattle.theory_reading.specs.Element as T
 use Rattle.theory_reading.specs.Reading.{State, Reading, isStart, reading}
-use Rattle.theory_reading.specs.Deciding.{complemented, options, ended, decision}
+use Rattle.theory_reading.specs.Deciding.{decided, complemented, options, ended, decision}
 use Rattle.theory_reading.specs.Calls as R
-use Rattle.theory_reading.specs.Covered.{parity, covered}
+use Rattle.theory_reading.specs.Covered.{parity, covered, covered-decided}
 use Rattle.theory_reading.specs.TableWalk.{tableWalk}
 use Rattle.theory_reading.specs.Lasting.{Ordered}
-use Rattle.theory_reading.specs.Rooted.{Rooted, reading-ordered, rooted-decides, rooted-deep, rooted-covers}
+use Rattle.theory_reading.specs.Rooted.{Rooted, rooted-decides, rooted-deep, rooted-covers}
 use Rattle.elements.specs.Abstraction.{contextOf, refOf, openList}
 use Rattle.elements.specs.OpenLaws.{open-none}
 use Rattle.node_records.specs.Records.{noRecord}
@@ -32,6 +32,7 @@ use Rattle.cursors.specs.Cursors.{firstRun}
 use Rattle.reader.specs.Loop.{firstOpens, stands-first, ReachedBy}
 use Rattle.checker.specs.CheckCorrect.{checkedBy, Reads, all-reads, check-options, check-table, check-correct}
 use Rattle.reader.specs.ReadOn.{ReadTo, readAll, read-length, read-reaches}
+use Rattle.blocks.specs.BlockLaws.{none-ordered, stands-ordered}
 use Rattle.blocks.specs.Load.{LoadTo, staysIn, wholeBy, refusedLoad, loadOf, load, load-options, load-table, load-on}
 use Rattle.node_records.specs.declared.NodeRecord.{NodeRecord}
 
@@ -99,9 +100,6 @@ module _ (n : ℕ) (bytes : List ℕ) (y : ReadReached) (u : List NodeRecord) (h
       ∙ ap (λ (k : ℕ). complemented (differ (parity (openList (y .opens))) (y .run .complement))
       (tableWalk (tableOf u (y .run .size)) 1 k (options n i))) (sym (child-of (y .run .last)))
 
-  whole-ordered : Ordered (tableOf u (y .run .size))
-  whole-ordered = subst Ordered (ap (λ (s : State). s .table) state-same ∙ table-same) (reading-ordered n bytes)
-
   whole-deep : 0 < y .run .last .number → 1 ≤ node (tableOf u (y .run .size)) (y .run .last .number) .level
   whole-deep =
       subst (λ (t : List Node). 0 < y .run .last .number → 1 ≤ node t (y .run .last .number) .level) table-same
@@ -146,6 +144,12 @@ module _ (n : ℕ) (bytes : List ℕ) (t : List NodeRecord) where
   load-length = load-ways (λ (x : LoadTo). length (x .table) ≡ length t) (λ h. refl) (λ few h. refl)
       (λ few room. read-length (suc (length bytes)) n bytes wordLimit firstRun firstOpens 0 0 t)
 
+  -- It is ordered, whole or not.
+  pub load-ordered : (x : LoadTo) → x ≡ load n bytes t → Ordered (tableOf (x .table) (x .size))
+  load-ordered x called = subst (λ (x : LoadTo). Ordered (tableOf (x .table) (x .size))) (sym called)
+      (load-ways (λ (x : LoadTo). Ordered (tableOf (x .table) (x .size))) (λ h. none-ordered t) (λ few h. none-ordered t)
+      (λ few room. stands-ordered n bytes (z .reached .run) (z .reached .opens) (z .table) (reaches few room .stands)))
+
 -- x: what a call comes to, which is whole
 module _ (n : ℕ) (bytes : List ℕ) (t : List NodeRecord) (x : LoadTo) (called : x ≡ load n bytes t) (whole : x .whole ≡ true) where
   -- what holds of what was read
@@ -159,16 +163,12 @@ module _ (n : ℕ) (bytes : List ℕ) (t : List NodeRecord) (x : LoadTo) (called
       (λ few room e. k few (reads n bytes t few room) (whole-says _ _ e))
       (ap (λ (x : LoadTo). x .whole) (sym called) ∙ whole))
 
-  -- THE NUMBER DECIDES EVERY WORD, by the table as it is left,
+  -- THE NUMBER DECIDES EVERY WORD, by the table as it is left.
   pub load-decides : (w : ℕ) → decision n bytes w ≡ complemented (x .complement)
       (tableWalk (tableOf (x .table) (x .size)) 1 (x .number) (options n w))
   load-decides w = by-whole (λ (x : LoadTo). decision n bytes w ≡ complemented (x .complement)
       (tableWalk (tableOf (x .table) (x .size)) 1 (x .number) (options n w)))
       (λ few h k. whole-decides n bytes _ _ h k w)
-
-  -- which is ordered.
-  pub load-ordered : Ordered (tableOf (x .table) (x .size))
-  load-ordered = by-whole (λ (x : LoadTo). Ordered (tableOf (x .table) (x .size))) (λ few h k. whole-ordered n bytes _ _ h k)
 
   -- The records are those that reading keeps: each says of the words below its node what they are.
   pub load-held : Held (x .table) (x .size)
@@ -185,3 +185,14 @@ module _ (n : ℕ) (bytes : List ℕ) (t : List NodeRecord) (x : LoadTo) (called
   -- All words are covered.
   pub load-covers : covered n bytes ≡ 2 ^ n
   load-covers = by-whole (λ _. covered n bytes ≡ 2 ^ n) (λ few h k. rooted-covers n bytes (rooted n bytes _ _ h k))
+
+  -- WHAT THE EDGE SHOWS: of every word a value, and the stream decides no other.
+  pub load-shows : (w : ℕ) → w < 2 ^ n → (d : Bool)
+      × ((complemented (x .complement) (tableWalk (tableOf (x .table) (x .size)) 1 (x .number) (options n w)) ≡ decided d)
+      × ((e : Bool) → decision n bytes w ≡ decided e → e ≡ d))
+  load-shows w l =
+      let h = covered-decided n bytes w l (omega (arith, l, load-covers)) in
+      (_, (sym (load-decides w) ∙ h, λ e k. one e _ (sym k ∙ h)))
+    where
+      one : (a b : Bool) → decided a ≡ decided b → a ≡ b
+      one a b e = cc

@@ -8,7 +8,7 @@ ghost use Rattle.elements.specs.Abstraction.{openList, contextOf, causeOf};
 ghost use Rattle.node_records.specs.declared.NodeRecord.{NodeRecord};
 ghost use Rattle.reader.specs.OpenCells.{opensIn, reachedIn, cursorIn};
 ghost use Rattle.blocks.specs.Blocks.{edgeAt, blockIn, blockOf, nextBlock};
-ghost use Rattle.blocks.specs.Load.{loadIn, refusedLoad, wholeBy, load};
+ghost use Rattle.blocks.specs.Load.{loadIn, refusedLoad, wholeBy, loadOf, load};
 use answers::Checking;
 use answers::early;
 use checker::checked_at;
@@ -178,6 +178,19 @@ fn not_loaded(c: Cause) -> Loaded
     }
 }
 
+// WHAT IS LOADED where the loop has come to the end of a stream. o: the open nodes, as reading left them
+pub fn loaded_at(t: &mut [NodeRecord], o: &[[u32; 4]; OPEN_LIMIT], r: Reached) -> Loaded
+    ensures { λ x. ⌜ loadIn x (now (t .exit)) ≡ loadOf (record { reached = reachedIn r (now (o .entry)); table = now (t .entry) }) ⌝ }
+{
+    let w = is_whole(t, r);
+    let b = block_of(r, o);
+    Loaded {
+        checking: checked_at(r),
+        block: b,
+        whole: w,
+    }
+}
+
 // READING A WHOLE STREAM into its table, which is left as it is then: the answer of `check`, and the outermost node if the table has it.
 pub fn load(n: u32, s: &[u8], t: &mut [NodeRecord]) -> Loaded
     ensures { λ r. ⌜ loadIn r (now (t .exit)) ≡ load n (now (s .entry)) (now (t .entry)) ⌝ }
@@ -190,11 +203,5 @@ pub fn load(n: u32, s: &[u8], t: &mut [NodeRecord]) -> Loaded
     }
     let mut o = [[0u32; 4]; OPEN_LIMIT];
     let r = read_on(n, s, t, &mut o, first_cursor(), WORD_LIMIT);
-    let w = is_whole(t, r);
-    let b = block_of(r, &o);
-    Loaded {
-        checking: checked_at(r),
-        block: b,
-        whole: w,
-    }
+    loaded_at(t, &o, r)
 }

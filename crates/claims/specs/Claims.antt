@@ -1,12 +1,12 @@
 -- WHAT IS CLAIMED of each call. A statement's premise is the contract of the call, as the code's `ensures` has it: `Checks`, `Decides`, `FindsNext` and
 -- `Fills` of reading's Calls, `Writes` and `Combines` of writing's: c, the answer with all lent memory, is what the definition after documents 01 and 02
--- gives. Three records have the three demands of document 01, with the call of R-1 among the others, and one has what R-1 asks beside them; each
--- statement stands under a line of plain words; their values at the end prove them by citation. Terms has the terms, Examples a run of each, Further
+-- gives. Three records have the three demands of document 01, with the call of R-1 among the others and the covered count of R-3, and one each has what
+-- R-1 and R-3 ask beside them; each statement stands under a line of plain words; their values at the end prove them by citation. Terms has the terms, Examples a run of each, Further
 -- what else is proved. R: a record of a work table to read with, S: one of a table to write with; z, o: those that are zero.
 -- x, y: input streams; t, u, v: work tables; out: what the output held. Assumes nothing.
 use mathlib.Core.Path.{_≡_, sym, ap, _∙_, subst⁻¹}
 use mathlib.Core.Logic.{_⊎_, _↔_}
-use mathlib.Core.Bool.{Bool, true}
+use mathlib.Core.Bool.{Bool, true, false}
 use mathlib.Core.List.{List, [], _∷_, _++_}
 use mathlib.Core.Option.{none, some}
 use Prim.Native.Nat.{ℕ, _/_, _%_, _≤_, _<_, _^_, min}
@@ -17,7 +17,7 @@ use Rattle.theory_reading.specs.Limits.{optionLimit, tableLimit}
 use Rattle.theory_reading.specs.Causes.{Refusal, Result, refused, done}
 use Rattle.theory_reading.specs.Element.{over}
 use Rattle.theory_reading.specs.Reading.{Fault, reading}
-use Rattle.theory_reading.specs.Deciding.{decided, undecided, decision}
+use Rattle.theory_reading.specs.Deciding.{Decision, decided, undecided, decision}
 use Rattle.theory_reading.specs.Calls.{Checked, extent, Read, check, Checks, Verdict, verdictOf, decide, Decides, digitOf, Fill, fill, Fills}
 use Rattle.theory_reading.specs.Calls.{NextWord, notKnown, findNext, FindsNext}
 use Rattle.theory_reading.specs.Covered as C
@@ -25,14 +25,16 @@ use Rattle.theory_reading.specs.Covered.{covered}
 use Rattle.theory_reading.specs.Settled as F
 use Rattle.theory_reading.specs.FaultRank.{Counts, fault-counts}
 use Rattle.theory_reading.specs.CallLaws as L
-use Rattle.theory_writing.specs.Run.{runText, whole, Answer}
+use Rattle.theory_writing.specs.Run.{outcome, runText, whole, Answer}
+use Rattle.theory_writing.specs.Inputs.{AllMay, outcome-any, outcome-all}
 use Rattle.theory_writing.specs.Calls.{truthAt, Write, write, Writes, Combine, combine, Combines}
 use Rattle.claims.specs.Terms.{TurnedDown, checkLines, decideLines, findLines, fillLines, writeLines, combineLines}
-use Rattle.claims.specs.Terms.{TableLeft, OutputLeft, Gets, Operated, ReadAs, Complete, NextIs, Lists, RisingWords}
+use Rattle.claims.specs.Terms.{TableLeft, OutputLeft, Gets, Operated, Covers, ReadAs, Complete, NextIs, Lists, RisingWords}
 use Rattle.claims.specs.Refused as T
 use Rattle.claims.specs.LentMemory as M
 use Rattle.claims.specs.Runs as U
 use Rattle.claims.specs.NextWords as N
+use Rattle.claims.specs.SettledWords as W
 
 -- ---- Demand 1 --------------------------------------------------------------------------------
 
@@ -119,13 +121,13 @@ pub record Demand2 {R S : Type 0} (z : R) (o : S) : Type 0 where
       c .answer ≡ done r
       → (w : ℕ) (t : List R) (k : Read Verdict R) → Decides z n bytes w t k → w < covered n bytes → tableLimit ≤ length t
       → k .answer ≡ done (verdictOf (decided (truthAt truths w)))
-  -- COMBINING. On the words that both streams cover the operator decides; their number is the run's covered count.
-  pub combining-words : (n op : ℕ) (x y : List ℕ) (w : ℕ) → w < min (covered n x) (covered n y) → (d : Bool) × Operated n op x y w d
-  -- Whatever f decides these words as the operator does, the output gets the first bytes of its stream for that covered count, as many as fit.
+  -- COMBINING. Of any two streams there is a least word that is not settled, or all words are: the run's covered count.
+  pub combining-words : (n op : ℕ) (x y : List ℕ) → (k : ℕ) × Covers n op x y k
+  -- Whatever f decides the words below it as the operator does, the output gets the first bytes of its stream for that covered count, as many as fit.
   pub combining-stream : (n op size : ℕ) (x y out : List ℕ) (t u : List R) (v : List S) (r : Answer) (c : Combine R S)
       → Combines z o n op size x y out t u v c
-      → let k = min (covered n x) (covered n y) in
-      c .answer ≡ done r → (f : ℕ → Bool) → ((w : ℕ) → w < k → Operated n op x y w (f w)) → Gets n k (runText n size k f) out r (c .output)
+      → c .answer ≡ done r → (k : ℕ) → Covers n op x y k → (f : ℕ → Bool) → ((w : ℕ) → w < k → Operated n op x y w (f w))
+      → Gets n k (runText n size k f) out r (c .output)
   -- The written bytes, whatever the ending, are accepted and decide the words that they cover as the operator does.
   pub combining-read : (n op size : ℕ) (x y out : List ℕ) (t u : List R) (v : List S) (r : Answer) (c : Combine R S)
       → Combines z o n op size x y out t u v c
@@ -179,6 +181,25 @@ pub record Request1 {R : Type 0} (z : R) : Type 0 where
   -- or the second's is the same.
   pub lengthening : (n : ℕ) (x x₊ : List ℕ) (w : ℕ) (t t′ : List R) (r r′ : NextWord) (c c′ : Read NextWord R)
       → FindsNext z n x w t c → FindsNext z n (x ++ x₊) w t′ c′ → c .answer ≡ done r → c′ .answer ≡ done r′ → (r ≡ notKnown) ⊎ (r′ ≡ r)
+
+-- ---- Document 02, R-3 ------------------------------------------------------------------------
+
+pub record Request3 {R S : Type 0} (z : R) (o : S) : Type 0 where
+  -- "A word is settled when the operator gives one result for all values of what an input doesn't cover": of any number of inputs, op being what the
+  -- operator gives for their values
+  pub settled-words : (op : List Bool → Bool) (ds : List Decision) (d : Bool)
+      → (outcome op ds ≡ decided d) ↔ ((vs : List Bool) → AllMay ds vs → op vs ≡ d)
+  -- "the covered count of a run is the least word that is not settled, or 2^n": so it is answered.
+  pub covered-count : (n op size : ℕ) (x y out : List ℕ) (t u : List R) (v : List S) (r : Answer) (c : Combine R S)
+      → Combines z o n op size x y out t u v c → c .answer ≡ done r → Covers n op x y (r .covered)
+  -- The words that both streams cover are settled: no run covers fewer words than before.
+  pub both-cover : (n op : ℕ) (x y : List ℕ) (k : ℕ) → Covers n op x y k → min (covered n x) (covered n y) ≤ k
+  -- "With AND, a word that one rule refuses is settled though the other rule's transfer hasn't come so far."
+  pub refused-settles : (n : ℕ) (x y : List ℕ) (w : ℕ) → decision n x w ≡ decided false → Operated n 8 x y w false × Operated n 8 y x w false
+  -- "So operators 0 and 15 always cover everything,
+  pub none-asked : (n : ℕ) (x y : List ℕ) → Covers n 0 x y (2 ^ n) × Covers n 15 x y (2 ^ n)
+  -- and NOT ignores stream 2's length": it covers what stream 1 covers.
+  pub second-ignored : (n : ℕ) (x y : List ℕ) → Covers n 3 x y (covered n x)
 
 -- ---- The proofs ------------------------------------------------------------------------------
 
@@ -245,10 +266,10 @@ demand-2 {R} {S} z o = record {
       let s = U.wrote o n size truths out v r a in
       let q = U.read-decided z n _ _ _ (s .options) (U.wrote-read-as n size truths out r _ s) w t h l in
       ap (λ (c : Read Verdict R). c .answer) f ∙ q .2 ∙ ap (λ (d : Bool). done (verdictOf (decided d))) (q .1));
-  combining-words = U.operated-covered;
+  combining-words = λ n op x y. (_, U.count-covers n op x y);
   combining-stream = λ n op size x y out t u v r c e.
-      subst⁻¹ (λ (c : Combine R S). let k = min (covered n x) (covered n y) in
-      c .answer ≡ done r → (f : ℕ → Bool) → ((w : ℕ) → w < k → Operated n op x y w (f w)) → Gets n k (runText n size k f) out r (c .output)) e
+      subst⁻¹ (λ (c : Combine R S). c .answer ≡ done r → (k : ℕ) → Covers n op x y k → (f : ℕ → Bool)
+      → ((w : ℕ) → w < k → Operated n op x y w (f w)) → Gets n k (runText n size k f) out r (c .output)) e
       (λ a. U.run-gets n op size x y out r _ (U.ran z o n op size x y out t u v r a));
   combining-read = λ n op size x y out t u v r c e.
       subst⁻¹ (λ (c : Combine R S). c .answer ≡ done r → ReadAs n (r .covered) (Operated n op x y) (take (r .written) (c .output))) e
@@ -291,4 +312,16 @@ request-1 {R} z = record {
   lengthening = λ n x x₊ w t t′ r r′ c c′ e e′ a a′.
       let answer : Read NextWord R → Result NextWord = λ c. c .answer in
       N.lengthened n x x₊ w r r′ (N.found n x z w t r (sym (ap answer e) ∙ a)) (N.found n (x ++ x₊) z w t′ r′ (sym (ap answer e′) ∙ a′));
+}
+
+pub request-3 : {R S : Type 0} (z : R) (o : S) → Request3 z o
+request-3 {R} {S} z o = record {
+  settled-words = λ op ds d. (outcome-any op ds d, outcome-all op ds d);
+  covered-count = λ n op size x y out t u v r c e.
+      subst⁻¹ (λ (c : Combine R S). c .answer ≡ done r → Covers n op x y (r .covered)) e
+      (λ a. U.run-covers n op size x y out r _ (U.ran z o n op size x y out t u v r a));
+  both-cover = W.both-cover;
+  refused-settles = W.refused-settles;
+  none-asked = λ n x y. (W.none-asked n 0 x y false (λ a b. W.zero-gives a b), W.none-asked n 15 x y true (λ a b. W.fifteen-gives a b));
+  second-ignored = W.second-ignored;
 }

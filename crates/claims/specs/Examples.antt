@@ -17,8 +17,8 @@ use Rattle.theory_reading.specs.Calls.{complete, cut, check, isNo, isYes, decid
 use Rattle.theory_reading.specs.Covered.{covered}
 use Rattle.theory_writing.specs.Run.{whole, inputEnded, outputFull}
 use Rattle.theory_writing.specs.Calls.{write, Combine, combine}
-use Rattle.claims.specs.Terms.{First, AllUnmet, combineLines, Operated, ReadAs, Complete, NextIs, Answers, Lists, RisingWords}
-use Rattle.claims.specs.Claims.{demand-1, demand-2, Together, demand-3, request-1}
+use Rattle.claims.specs.Terms.{First, AllUnmet, combineLines, Operated, Covers, ReadAs, Complete, NextIs, Answers, Lists, RisingWords}
+use Rattle.claims.specs.Claims.{demand-1, demand-2, Together, demand-3, request-1, request-3}
 
 -- a work table of as many records as are asked for, which are numbers here; all held 7, and zero is 0
 abbrev table : List ℕ
@@ -245,3 +245,27 @@ begun-not-known = refl
 begun-lengthened : (word 3 ≡ notKnown) ⊎ (word 3 ≡ word 3)
 unfolding findNext text
 begun-lengthened = request-1 {R = ℕ} 0 .lengthening 3 begun rest 2 table table _ _ _ _ refl refl refl refl
+
+-- ---- Document 02, R-3 ------------------------------------------------------------------------
+
+-- the AND of the first rule, which refuses words 0 to 5, and the second cut after four words: words 4 and 5 are settled, word 6 is not
+settled-run : run 8 first begun (text "....") .answer ≡ done (record { written = 2; covered = 6; ending = inputEnded })
+unfolding combine text
+settled-run = refl
+
+settled-count : Covers 3 8 first begun 6
+unfolding combine text
+settled-count = request-3 {R = ℕ} {S = ℕ} 0 0 .covered-count 3 8 4 first begun (text "....") table table table _ _ refl refl
+
+-- THE PAIR: with the rest of the second rule the AND is whole
+settled-combined : Together 3 8 first begun first second
+    (record { written = 2; covered = 6; ending = inputEnded }) (record { written = 20; covered = 8; ending = whole })
+    (text "4\n") (text "4\n(0(0(0~0):1):2):3.")
+unfolding combine text
+settled-combined = demand-3 {R = ℕ} {S = ℕ} 0 0 .runs 3 8 4 first begun [] rest (text "....") output
+    table table table table table table _ _ _ _ refl refl (omega arith) refl refl
+
+-- of the OR with a first rule that is cut before its first word the words 1 and 3 are settled, and word 0 is not
+open-run : run 14 [] second (text "....") .answer ≡ done (record { written = 2; covered = 0; ending = inputEnded })
+unfolding combine text
+open-run = refl

@@ -14,7 +14,7 @@ use Rattle.theory_reading.specs.Deciding.{decision, trace}
 use Rattle.theory_reading.specs.Calls.{check, checkAnswer, decide, decideAnswer, findNext, findAnswer, digitOf, verdictOf, bytesFrom, fill, fillAnswer}
 use Rattle.theory_reading.specs.CallLaws.{keeps-output, keeps-table, zeroes-table, zeroes-done, filled-word, filled-length, filled-bytes}
 use Rattle.theory_reading.specs.Covered.{covered}
-use Rattle.theory_writing.specs.Run.{runCovered, Answer, answerOf, outputAfter}
+use Rattle.theory_writing.specs.Run.{operate, runCovered, Answer, answerOf, outputAfter}
 use Rattle.theory_writing.specs.Output.{output-beyond, output-length}
 use Rattle.theory_writing.specs.Calls.{writeText, writeAnswer, write, combineText, combineAnswer, Combine, combine}
 use Rattle.theory_writing.specs.CallLaws.{write-refused, combine-refused, combine-untouched, combine-zeroed, combine-done}
@@ -93,7 +93,7 @@ combine-output z o n op size x y out t u v = record {
   beyond = λ r e.
       let b = combine-by n op size x y out (length t) (length u) (length v) .unless r .0 e in
       let a = combineAnswer n op size (Streams x y) out (length t ∷ length u ∷ length v ∷ []) in
-      beyond n (runCovered n (inputs n x y)) (combineText n op size (Streams x y)) out a r e (b .1);
+      beyond n (runCovered (operate op) n (inputs n x y)) (combineText n op size (Streams x y)) out a r e (b .1);
 }
 
 -- ---- A truth table that is filled ------------------------------------------------------------

@@ -22,8 +22,8 @@ use Rattle.theory_reading.specs.Calls.{checkedOf, checkAnswer, Verdict, verdict
 use Rattle.theory_reading.specs.Deciding.{decision, trace}
 use Rattle.theory_reading.specs.CallLaws.{decide-decision}
 use Rattle.theory_reading.specs.Prefix.{trace-reading}
-use Rattle.theory_writing.specs.Run.{Input, runCovered, answerOf}
-use Rattle.theory_writing.specs.Calls.{largeSize, writeText, writeAnswer, largeOperator, unlessFaults, inputOf, combineText, shortTables}
+use Rattle.theory_writing.specs.Run.{operate, Input, runCovered, answerOf}
+use Rattle.theory_writing.specs.Calls.{largeSize, writeText, writeAnswer, largeOperator, unlessFaults, combineText, shortTables}
 use Rattle.theory_writing.specs.Calls.{combineAnswer}
 use Rattle.claims.specs.Terms.{Line, meets, faults, Met, First, AllUnmet, Lowest, NamesCall, NamesPlace, TurnedDown}
 use Rattle.claims.specs.Terms.{checkLines, decideLines, findLines, notThreeToSixteen, fillLines, writeLines, combineLines}
@@ -307,15 +307,15 @@ abbrev pub Streams : List ℕ → List ℕ → List (List ℕ)
 Streams x y = x ∷ y ∷ []
 
 abbrev pub inputs : ℕ → List ℕ → List ℕ → List Input
-inputs n x y = inputOf n x ∷ inputOf n y ∷ []
+inputs n x y = decision n x ∷ decision n y ∷ []
 
 pub combine-by : (n op size : ℕ) (x y out : List ℕ) (a b c : ℕ)
-    → By (combineLines n op size x y a b c) (answerOf n (runCovered n (inputs n x y)) (combineText n op size (Streams x y)) out)
+    → By (combineLines n op size x y a b c) (answerOf n (runCovered (operate op) n (inputs n x y)) (combineText n op size (Streams x y)) out)
     (combineAnswer n op size (Streams x y) out (a ∷ b ∷ c ∷ []))
 unfolding combineAnswer unlessFaults
 combine-by n op size x y out a b c =
     let short : (k : ℕ) → Stands (shortTable k) (meets (atCall workTable) (k < tableLimit)) = λ k. above (atCall workTable) k tableLimit in
-    let v = answerOf n (runCovered n (inputs n x y)) (combineText n op size (Streams x y)) out in
+    let v = answerOf n (runCovered (operate op) n (inputs n x y)) (combineText n op size (Streams x y)) out in
     let rest = fault-line n 1 x (faults n 2 y ∷ []) v _ (fault-line n 2 y [] v (done v) (by-none v)) in
     tests-lines (manyOptions n ∷ largeOperator 2 op ∷ largeSize size ∷ shortTables (a ∷ b ∷ c ∷ [])) _ v _ (
       above (atCall optionCount) optionLimit n,

@@ -16,17 +16,18 @@ use Rattle.theory_reading.specs.Limits.{optionLimit, tableLimit, truthTableMost
 use Rattle.theory_reading.specs.LimitLaws.{truth-options}
 use Rattle.theory_reading.specs.Causes.{Result, done, unlessRefused}
 use Rattle.theory_reading.specs.Reading.{reading}
-use Rattle.theory_reading.specs.Deciding.{Decision, decided, decision}
+use Rattle.theory_reading.specs.Deciding.{Decision, undecided, decided, decision}
 use Rattle.theory_reading.specs.Calls.{verdictOf, decide}
 use Rattle.theory_reading.specs.CallLaws.{decide-decision}
 use Rattle.theory_reading.specs.Covered.{covered, covered-decided, covered-most, covered-grows, decision-stands}
-use Rattle.theory_writing.specs.Run.{operate, runCovered, joint, runText, runOf, writtenBytes, outputAfter, whole, inputEnded, outputFull, Answer}
-use Rattle.theory_writing.specs.Run.{answerOf}
+use Rattle.theory_writing.specs.Run.{operate, decisions, joint, runCovered, orNo, runText, runOf, writtenBytes, outputAfter, whole, inputEnded, outputFull}
+use Rattle.theory_writing.specs.Run.{Answer, answerOf}
 use Rattle.theory_writing.specs.Grows.{run-stable}
-use Rattle.theory_writing.specs.Inputs.{runCovered-most, runCovered-two, runCovered-each, Extends, Extend, runCovered-grows, runOf-written}
+use Rattle.theory_writing.specs.Inputs.{May, AllMay, never-decided, decided-one, outcome-any, outcome-all, runCovered-most, covered-settled, covered-open}
+use Rattle.theory_writing.specs.Inputs.{runCovered-is, Extend, runCovered-grows, runOf-written}
 use Rattle.theory_writing.specs.Output.{written-length, output-written, written-all}
-use Rattle.theory_writing.specs.Calls.{orNo, inputOf, combineText, combineAnswer, combine, writeText, truthAt, writeAnswer, write}
-use Rattle.claims.specs.Terms.{notThreeToSixteen, Gets, Operated, ReadAs, Complete}
+use Rattle.theory_writing.specs.Calls.{combineText, combineAnswer, combine, writeText, truthAt, writeAnswer, write}
+use Rattle.claims.specs.Terms.{notThreeToSixteen, Gets, Operated, Covers, ReadAs, Complete}
 use Rattle.claims.specs.Refused.{not-above, inputs, Streams, combine-by, write-by}
 use Rattle.claims.specs.ReadBack.{read-back}
 use Rattle.claims.specs.WrittenBytes.{decided-same, Written, run-written}
@@ -81,7 +82,7 @@ pub record Ran (n op size : ℕ) (x y out : List ℕ) (r : Answer) (t : List ℕ
   pub fit : size ≤ tableLimit
   pub first : reading n x .fault ≡ none
   pub second : reading n y .fault ≡ none
-  pub answer : r ≡ answerOf n (runCovered n (inputs n x y)) (combineText n op size (Streams x y)) out
+  pub answer : r ≡ answerOf n (runCovered (operate op) n (inputs n x y)) (combineText n op size (Streams x y)) out
   pub bytes : take (r .written) t ≡ writtenBytes (combineText n op size (Streams x y)) out
 
 pub ran : {R S : Type 0} (z : R) (o : S) (n op size : ℕ) (x y out : List ℕ) (t u : List R) (v : List S) (r : Answer)
@@ -99,63 +100,82 @@ ran z o n op size x y out t u v r e =
       second = m .1 .1 .1 .1 .1 .1 .1 .0;
       answer = b .1;
       bytes = ap (λ (o : Result Answer). take (r .written) (unlessRefused o out (λ (q : Answer). outputAfter text out))) e
-          ∙ ap (λ (q : Answer). take (q .written) (outputAfter text out)) (b .1) ∙ answer-written n (runCovered n (inputs n x y)) text out;
+          ∙ ap (λ (q : Answer). take (q .written) (outputAfter text out)) (b .1) ∙ answer-written n (runCovered (operate op) n (inputs n x y)) text out;
     }
 
 -- ---- What its written bytes decide -----------------------------------------------------------
 
-module _ (n : ℕ) (x : List ℕ) where
-  -- on a word that it covers, a stream's input decides as the stream does
-  input-decided : (w : ℕ) → w < inputOf n x .covered → (d : Bool) × (decision n x w ≡ decided d) × (inputOf n x .decides w ≡ d)
-  unfolding inputOf
-  input-decided w h =
-      let e = covered-decided n x w (omega (arith, h, covered-most n x)) h in
-      (_, e, ap orNo e)
+-- a value that a stream may have, by what it decides
+value-may : (x : Decision) (a : Bool) → ((d : Bool) → x ≡ decided d → a ≡ d) → May x a
+value-may undecided a h = tt
+value-may (decided d) a h = h d refl
 
-  -- a stream with bytes behind it covers no fewer words, and decides those alike
-  input-extends : (u : List ℕ) → Extends (inputOf n x) (inputOf n (x ++ u))
-  unfolding inputOf
-  input-extends u = record {
-    longer = covered-grows n x u;
-    alike = λ w h.
-        let k : w < 2 ^ n = omega (arith, h, covered-most n x) in
-        let e = covered-decided n x w k h in
-        ap orNo (e ∙ sym (decision-stands n x u w _ k e));
-  }
+may-value : (x : Decision) (a : Bool) → May x a → (d : Bool) → x ≡ decided d → a ≡ d
+may-value undecided a h d e = never-decided d e
+may-value (decided b) a h d e = h ∙ decided-one b d e
 
--- "the smaller of the two inputs'"
-pub smaller-covered : (n : ℕ) (x y : List ℕ) → runCovered n (inputs n x y) ≡ min (covered n x) (covered n y)
-unfolding inputOf
-smaller-covered n x y = runCovered-two n (inputOf n x) (inputOf n y) (covered-most n y)
+module _ (n op : ℕ) (x y : List ℕ) (w : ℕ) (d : Bool) where
+  -- The operator decides d from two streams exactly if that is the outcome.
+  outcome-operated : joint (operate op) (inputs n x y) w ≡ decided d → Operated n op x y w d
+  outcome-operated e a b p q =
+      outcome-any (operate op) (decisions (inputs n x y) w) d e (a ∷ b ∷ []) (value-may (decision n x w) a p, (value-may (decision n y w) b q, tt))
 
-joint-operated : (n op : ℕ) (x y : List ℕ) (w : ℕ) → w < runCovered n (inputs n x y) → Operated n op x y w (joint (operate op) (inputs n x y) w)
-joint-operated n op x y w h =
-    let c = runCovered-each n (inputs n x y) in
-    let p = input-decided n x w (omega (arith, h, c .0)) in
-    let q = input-decided n y w (omega (arith, h, c .1 .0)) in
-    record { a = p .0; b = q .0; first = p .1; second = q .1; digit = ap₂ (λ (s t : Bool). operate op (s ∷ t ∷ [])) (p .2) (q .2) }
+  operated-outcome : Operated n op x y w d → joint (operate op) (inputs n x y) w ≡ decided d
+  operated-outcome h = outcome-all (operate op) (decisions (inputs n x y) w) d go
+    where
+      go : (vs : List Bool) → AllMay (decisions (inputs n x y) w) vs → operate op vs ≡ d
+      go [] m = absurd m
+      go (a ∷ []) m = absurd (m .1)
+      go (a ∷ b ∷ []) m = h a b (may-value (decision n x w) a (m .0)) (may-value (decision n y w) b (m .1 .0))
+      go (a ∷ b ∷ v ∷ vs) m = absurd (m .1 .1)
 
--- the operator decides one way only
+-- it decides one way only
 operated-same : (n op : ℕ) (x y : List ℕ) (w : ℕ) (c d : Bool) → Operated n op x y w c → Operated n op x y w d → c ≡ d
 operated-same n op x y w c d p q =
-    let e : p .a ≡ q .a = decided-same (decision n x w) (p .a) (q .a) (p .first) (q .first) in
-    let f : p .b ≡ q .b = decided-same (decision n y w) (p .b) (q .b) (p .second) (q .second) in
-    p .digit ∙ ap₂ (λ (s t : Bool). operate op (s ∷ t ∷ [])) e f ∙ sym (q .digit)
+    decided-same (joint (operate op) (inputs n x y) w) c d (operated-outcome n op x y w c p) (operated-outcome n op x y w d q)
 
--- on a word that both streams cover it does decide
-pub operated-covered : (n op : ℕ) (x y : List ℕ) (w : ℕ) → w < min (covered n x) (covered n y) → (d : Bool) × Operated n op x y w d
-operated-covered n op x y w h = (_, joint-operated n op x y w (omega (arith, h, smaller-covered n x y)))
+-- on a word that the run covers the outcome is right
+joint-operated : (n op : ℕ) (x y : List ℕ) (w : ℕ) → w < runCovered (operate op) n (inputs n x y)
+    → Operated n op x y w (orNo (joint (operate op) (inputs n x y) w))
+joint-operated n op x y w h =
+    let s = covered-settled (operate op) n (inputs n x y) w h in
+    subst⁻¹ (Operated n op x y w) (ap orNo (s .1)) (outcome-operated n op x y w (s .0) (s .1))
+
+-- THE COVERED COUNT is the least word that is not settled, or 2^n,
+pub count-covers : (n op : ℕ) (x y : List ℕ) → Covers n op x y (runCovered (operate op) n (inputs n x y))
+count-covers n op x y = record {
+  most = runCovered-most (operate op) n (inputs n x y);
+  settled = λ w l. (_, joint-operated n op x y w l);
+  unsettled = λ l d o. never-decided d (sym (covered-open (operate op) n (inputs n x y) l) ∙ operated-outcome n op x y _ d o);
+}
+
+-- and nothing else is.
+pub covers-count : (n op : ℕ) (x y : List ℕ) (c : ℕ) → Covers n op x y c → runCovered (operate op) n (inputs n x y) ≡ c
+covers-count n op x y c h = runCovered-is (operate op) n (inputs n x y) c (h .most)
+    (λ w l. let s = h .settled w l in (s .0, operated-outcome n op x y w (s .0) (s .1)))
+    (λ l. go l (joint (operate op) (inputs n x y) c) refl)
+  where
+    go : c < 2 ^ n → (z : Decision) → joint (operate op) (inputs n x y) c ≡ z → z ≡ undecided
+    go l undecided e = refl
+    go l (decided d) e = absurd (h .unsettled l d (outcome-operated n op x y c d e))
 
 module _ (n op size : ℕ) (x y out : List ℕ) (r : Answer) (t : List ℕ) (h : Ran n op size x y out r t) where
-  pub run-covered : r .covered ≡ runCovered n (inputs n x y)
-  run-covered = ap (λ (q : Answer). q .covered) (h .answer) ∙ answer-covered n (runCovered n (inputs n x y)) (combineText n op size (Streams x y)) out
+  pub run-covered : r .covered ≡ runCovered (operate op) n (inputs n x y)
+  run-covered = ap (λ (q : Answer). q .covered) (h .answer) ∙ answer-covered n (runCovered (operate op) n (inputs n x y)) (combineText n op size (Streams x y)) out
 
-  pub run-read : Written n (r .covered) (joint (operate op) (inputs n x y)) (take (r .written) t)
+  -- what the run writes, as a function
+  abbrev joined : ℕ → Bool
+  joined w = orNo (joint (operate op) (inputs n x y) w)
+
+  pub run-covers : Covers n op x y (r .covered)
+  run-covers = subst⁻¹ (Covers n op x y) run-covered (count-covers n op x y)
+
+  pub run-read : Written n (r .covered) joined (take (r .written) t)
   unfolding combineText runOf
-  run-read = subst⁻¹ (λ (c : ℕ). Written n c (joint (operate op) (inputs n x y)) (take (r .written) t)) run-covered
-      (subst⁻¹ (Written n (runCovered n (inputs n x y)) (joint (operate op) (inputs n x y))) (h .bytes)
-      (run-written n size (runCovered n (inputs n x y)) (joint (operate op) (inputs n x y)) out (h .options) (h .fit)
-      (runCovered-most n (inputs n x y))))
+  run-read = subst⁻¹ (λ (c : ℕ). Written n c joined (take (r .written) t)) run-covered
+      (subst⁻¹ (Written n (runCovered (operate op) n (inputs n x y)) joined) (h .bytes)
+      (run-written n size (runCovered (operate op) n (inputs n x y)) joined out (h .options) (h .fit)
+      (runCovered-most (operate op) n (inputs n x y))))
 
   -- a word that they cover they decide as the operator does
   run-operated : (w : ℕ) → w < covered n (take (r .written) t) → (d : Bool) × (decision n (take (r .written) t) w ≡ decided d) × Operated n op x y w d
@@ -168,57 +188,47 @@ module _ (n op size : ℕ) (x y out : List ℕ) (r : Answer) (t : List ℕ) (h :
   pub run-complete : r .ending ≡ whole → Complete n (take (r .written) t)
   unfolding combineText runOf
   run-complete e =
-      let f = joint (operate op) (inputs n x y) in
-      let c = runCovered n (inputs n x y) in
-      let p = answer-whole n c (runText n size c f) out (sym (ap (λ (q : Answer). q .ending) (h .answer)) ∙ e) in
-      let b = read-back n size f (h .options) (h .fit) in
-      subst⁻¹ (Complete n) (h .bytes ∙ p .1 ∙ ap (λ (k : ℕ). runText n size k f) (p .0)) (b .complete, b .covers)
+      let c = runCovered (operate op) n (inputs n x y) in
+      let p = answer-whole n c (runText n size c joined) out (sym (ap (λ (q : Answer). q .ending) (h .answer)) ∙ e) in
+      let b = read-back n size joined (h .options) (h .fit) in
+      subst⁻¹ (Complete n) (h .bytes ∙ p .1 ∙ ap (λ (k : ℕ). runText n size k joined) (p .0)) (b .complete, b .covers)
 
   -- it gets the text of any function that is the operator's on the covered words
-  pub run-gets : (f : ℕ → Bool) → ((w : ℕ) → w < min (covered n x) (covered n y) → Operated n op x y w (f w))
-      → Gets n (min (covered n x) (covered n y)) (runText n size (min (covered n x) (covered n y)) f) out r t
+  pub run-gets : (c : ℕ) → Covers n op x y c → (f : ℕ → Bool) → ((w : ℕ) → w < c → Operated n op x y w (f w))
+      → Gets n c (runText n size c f) out r t
   unfolding combineText runOf
-  run-gets f k =
-      let c = runCovered n (inputs n x y) in
-      let g = joint (operate op) (inputs n x y) in
-      let e = smaller-covered n x y in
-      let s : runText n size c g ≡ runText n size c f =
-      run-stable n size c g f (λ w l. operated-same n op x y w (g w) (f w) (joint-operated n op x y w l) (k w (omega (arith, l, e)))) in
+  run-gets c k f o =
+      let z = runCovered (operate op) n (inputs n x y) in
+      let e = covers-count n op x y c k in
+      let s : runText n size z joined ≡ runText n size z f =
+      run-stable n size z joined f (λ w l. operated-same n op x y w (joined w) (f w) (joint-operated n op x y w l) (o w (omega (arith, l, e)))) in
       subst (λ (m : ℕ). Gets n m (runText n size m f) out r t) e
-      (subst (λ (text : List ℕ). Gets n c text out r t) s (gets n c (runText n size c g) out r t (h .answer) (h .bytes)))
+      (subst (λ (text : List ℕ). Gets n z text out r t) s (gets n z (runText n size z joined) out r t (h .answer) (h .bytes)))
 
 -- ---- Two runs --------------------------------------------------------------------------------
 
 -- The second run's streams are the first's with bytes behind, its output is no shorter.
 module _ (n op size : ℕ) (x y u v out out′ : List ℕ) (r r′ : Answer) (t t′ : List ℕ) (h : Ran n op size x y out r t)
     (h′ : Ran n op size (x ++ u) (y ++ v) out′ r′ t′) (l : length out ≤ length out′) where
-  extend : Extend (inputs n x y) (inputs n (x ++ u) (y ++ v))
-  extend = (input-extends n x u, (input-extends n y v, tt))
+  extend : Extend n (inputs n x y) (inputs n (x ++ u) (y ++ v))
+  extend = (λ w k d. decision-stands n x u w d k, (λ w k d. decision-stands n y v w d k, tt))
 
   pub runs-covered : r .covered ≤ r′ .covered
   runs-covered = omega (
     arith,
     run-covered n op size x y out r t h,
     run-covered n op size (x ++ u) (y ++ v) out′ r′ t′ h′,
-    runCovered-grows n
-        (inputs n x y) (inputs n (x ++ u) (y ++ v)) extend,
+    runCovered-grows (operate op) n (inputs n x y) (inputs n (x ++ u) (y ++ v)) extend,
   )
 
   pub runs-begin : Begins (take (r .written) t) (take (r′ .written) t′)
   unfolding combineText
   runs-begin = subst⁻¹ (λ (s : List ℕ). Begins s (take (r′ .written) t′)) (h .bytes)
       (subst⁻¹ (Begins (writtenBytes (combineText n op size (Streams x y)) out)) (h′ .bytes)
-      (runOf-written (operate op) n size (inputs n x y) (inputs n (x ++ u) (y ++ v)) out out′ extend l))
+      (runOf-written (operate op) n (inputs n x y) (inputs n (x ++ u) (y ++ v)) extend size out out′ l))
 
   operated-longer : (w : ℕ) (d : Bool) → w < 2 ^ n → Operated n op x y w d → Operated n op (x ++ u) (y ++ v) w d
-  operated-longer w d k o = record {
-    a = o .a;
-    b = o .b;
-    first = decision-stands n x u w (o .a) k (o .first);
-    second = decision-stands n y v w (o .b)
-        k (o .second);
-    digit = o .digit;
-  }
+  operated-longer w d k o a b p q = o a b (λ c e. p c (decision-stands n x u w c k e)) (λ c e. q c (decision-stands n y v w c k e))
 
   pub runs-decide : (w : ℕ) → w < covered n (take (r .written) t)
       → (d : Bool) × (decision n (take (r .written) t) w ≡ decided d) × (decision n (take (r′ .written) t′) w ≡ decided d) × Operated n op x y w d

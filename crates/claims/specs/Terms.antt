@@ -154,14 +154,20 @@ pub record Gets (n c : ℕ) (text out : List ℕ) (r : Answer) (out′ : List �
   pub covers : r .covered ≡ c
   pub ending : r .ending ≡ endingOf n c text out
 
--- Both streams decide the word w, and d is what the operator decides from them: "its digit 2a + b for the decisions a, b of the two input
--- streams on that word".
-pub record Operated (n op : ℕ) (x y : List ℕ) (w : ℕ) (d : Bool) : Type 0 where
-  pub a : Bool
-  pub b : Bool
-  pub first : decision n x w ≡ decided a
-  pub second : decision n y w ≡ decided b
-  pub digit : d ≡ operate op (a ∷ b ∷ [])
+-- a is a value that the stream x may have on the word w: what it decides there; where it decides nothing, either
+abbrev pub Value : ℕ → List ℕ → ℕ → Bool → Type 0
+Value n x w a = (d : Bool) → decision n x w ≡ decided d → a ≡ d
+
+-- The word w is settled, and d is what the operator decides from the two streams: "its digit 2a + b for the decisions a, b of the two input streams on
+-- that word"; document 02, R-3: "one result for all values of what an input doesn't cover".
+abbrev pub Operated : ℕ → ℕ → List ℕ → List ℕ → ℕ → Bool → Type 0
+Operated n op x y w d = (a b : Bool) → Value n x w a → Value n y w b → operate op (a ∷ b ∷ []) ≡ d
+
+-- c is the covered count of a run: "the least word that is not settled, or 2^n"
+pub record Covers (n op : ℕ) (x y : List ℕ) (c : ℕ) : Type 0 where
+  pub most : c ≤ 2 ^ n
+  pub settled : (w : ℕ) → w < c → (d : Bool) × Operated n op x y w d
+  pub unsettled : c < 2 ^ n → (d : Bool) → Operated n op x y c d → ⊥
 
 -- The bytes, read with n options, cover at most c words and decide each word w that they cover, with a d that is Right there.
 pub record ReadAs (n c : ℕ) (Right : ℕ → Bool → Type 0) (bytes : List ℕ) : Type 0 where

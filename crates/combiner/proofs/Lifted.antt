@@ -1,5 +1,5 @@
 -- Generated: what callers cite of the lifted functions.
--- From d3160673ce475718, as b72cfd219e22e6ce.
+-- From 16db91cec44d69fc, as b72cfd219e22e6ce.
 pub mod enter
 pub mod clear_all
 pub mod combine

@@ -11,8 +11,8 @@ ghost use Rattle.elements.specs.Abstraction.{causeOf};
 ghost use Rattle.answers.specs.Answers.{refusalOf, checkingOf};
 ghost use Rattle.theory_writing.specs.Run.{whole, inputEnded, outputFull};
 ghost use Rattle.theory_writing.specs.Calls.{Combines};
-ghost use Rattle.theory_combining.specs.CombineCorrect.{afterFirst, bothIn};
-ghost use Rattle.theory_combining.specs.Entering.{ignoresFirst, ignoresSecond, entered};
+ghost use Rattle.theory_combining.specs.CombineCorrect.{bothCovered, afterFirst, bothIn};
+ghost use Rattle.theory_combining.specs.Entering.{entered};
 ghost use Rattle.blocks.specs.Blocks.{blockIn};
 ghost use Rattle.blocks.specs.Load.{loadIn};
 ghost use Rattle.operands.specs.Abstraction.{begunIn, begunFrom};
@@ -22,8 +22,10 @@ use answers::Checking;
 use answers::Refusal;
 use answers::early;
 use blocks::Loaded;
-use blocks::load;
-use edges::operate;
+use covering::covered;
+use covering::ignores_first;
+use covering::ignores_second;
+use covering::load_both;
 use elements::Cause;
 use elements::OPEN_LIMIT;
 use meeting::Writing;
@@ -33,8 +35,6 @@ use node_records::NodeRecord;
 use node_records::OPTION_LIMIT;
 use node_records::TABLE_LIMIT;
 use node_records::WriterRecord;
-use node_records::differs;
-use node_records::least;
 use operands::Begun;
 use operands::Operand;
 use operands::begin;
@@ -62,11 +62,12 @@ fn answer(n: u32, covered: u64, x: Sent) -> Written
     }
 }
 
-// Both streams checked: the refusal, or the smaller covered count
+// Both streams checked: the refusal, or how many words each covers
 struct Both {
     faulty: bool,
     refusal: Refusal,
-    covered: u64,
+    first: u64,
+    second: u64,
 }
 
 fn faulty(r: Refusal) -> Both
@@ -75,17 +76,19 @@ fn faulty(r: Refusal) -> Both
     Both {
         faulty: true,
         refusal: r,
-        covered: 0,
+        first: 0,
+        second: 0,
     }
 }
 
-fn covering(c: u64) -> Both
-    ensures { λ x. ⌜ bothOf x ≡ done c ⌝ }
+fn covering(c: u64, d: u64) -> Both
+    ensures { λ x. ⌜ bothOf x ≡ done (bothCovered c d) ⌝ }
 {
     Both {
         faulty: false,
         refusal: early(Cause::OptionCount),
-        covered: c,
+        first: c,
+        second: d,
     }
 }
 
@@ -108,7 +111,7 @@ fn after_first(c: u64, b: Checking) -> Both
             let k = f.cause;
             faulty(in_second(k, f.byte))
         }
-        Checking::Done(y) => covering(least(c as usize, y.covered as usize) as u64),
+        Checking::Done(y) => covering(c, y.covered),
     }
 }
 
@@ -135,27 +138,8 @@ fn refusal_of(r: Both) -> Refusal
     r.refusal
 }
 
-// The operator gives the same for both decisions of the first input, or of the second.
-fn ignores_first(op: u32) -> bool
-    ensures { λ r. ⌜ r ≡ ignoresFirst op ⌝ }
-{
-    if differs(operate(op, false, false), operate(op, true, false)) {
-        return false;
-    }
-    !differs(operate(op, false, true), operate(op, true, true))
-}
-
-fn ignores_second(op: u32) -> bool
-    ensures { λ r. ⌜ r ≡ ignoresSecond op ⌝ }
-{
-    if differs(operate(op, false, false), operate(op, false, true)) {
-        return false;
-    }
-    !differs(operate(op, true, false), operate(op, true, true))
-}
-
-// Where an input enters the run: at its outermost node, if its table has that, or at the terminal there, if it is not asked (v); else at the first
-// block of its text.
+// Where an input enters the run: at the terminal, if it is not asked (v); at its outermost node, if its table has that; else at the first block of its
+// text.
 fn enter(
     n: u32,
     s: &[u8],
@@ -168,12 +152,8 @@ fn enter(
         ≡ entered v (now (s .entry)) (blockIn (l .block) (now (o .entry))) (loadIn l (now (t .entry)))
         (begunFrom n (now (s .entry)) (now (o .entry)) (now (t .entry))) ⌝ }
 {
-    let whole = l.whole;
-    if !whole {
-        return begin(n, s, t, o);
-    }
-    let b = l.block;
     if v {
+        let b = l.block;
         let f = Operand {
             inside: false,
             number: 0,
@@ -184,6 +164,11 @@ fn enter(
             block: b,
         };
     }
+    let whole = l.whole;
+    if !whole {
+        return begin(n, s, t, o);
+    }
+    let b = l.block;
     let f = Operand {
         inside: false,
         number: b.number,
@@ -242,17 +227,16 @@ pub fn combine(
     if t.len() < TABLE_LIMIT {
         return Writing::Refused(early(Cause::WorkTable));
     }
-    let a = load(n, x, t1);
-    let b = load(n, y, t2);
+    let l = load_both(n, op, x, y, t1, t2);
     clear_writer_records(t);
-    let z = both_loaded(a, b);
+    let z = both_loaded(l.first, l.second);
     let refused = z.faulty;
     if refused {
         clear_all(t1);
         clear_all(t2);
         return Writing::Refused(refusal_of(z));
     }
-    let c = z.covered;
+    let c = covered(n, op, x, y, t1, t2, l, z.first, z.second);
     let k = Task {
         n: n,
         op: op,
@@ -261,8 +245,8 @@ pub fn combine(
     };
     let mut o1 = [[0u32; 4]; OPEN_LIMIT];
     let mut o2 = [[0u32; 4]; OPEN_LIMIT];
-    let f = enter(n, x, t1, &mut o1, a, ignores_first(op));
-    let g = enter(n, y, t2, &mut o2, b, ignores_second(op));
+    let f = enter(n, x, t1, &mut o1, l.first, ignores_first(op));
+    let g = enter(n, y, t2, &mut o2, l.second, ignores_second(op));
     let mut w = [0u8; WAITING_LIMIT];
     let mut m = [[0u32; 9]; CACHE_ENTRIES];
     let r = stream(

@@ -1,5 +1,5 @@
 -- Generated: what callers cite of the lifted functions.
--- From 4b098d8b5bc2dd43, as b03371eb0f37686a.
+-- From 4c6c92dac9b25b75, as e27836c96ad268d8.
 pub mod some_word
 pub mod least_word
 pub mod start_word
@@ -8,4 +8,5 @@ pub mod word_at
 pub mod seek
 pub mod find_next
 pub mod search_text
+pub mod load_from
 pub mod search_nodes

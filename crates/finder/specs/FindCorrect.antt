@@ -42,18 +42,18 @@ foundBy r v = cond (r .faulty) (C.refused (lateOf r)) (C.done (R.word v))
 -- ---- The call --------------------------------------------------------------------------------
 
 -- what is reached, by another name
-pub seeks-same : (n : ℕ) (bytes : List ℕ) (w : ℕ) (a : Bool) (x y : Reached) (os : List (List ℕ)) (v : ℕ) (u : List NodeRecord) (long : ℕ) → y ≡ x
-    → Seeks n bytes w a (reachedIn x os) v u long → Seeks n bytes w a (reachedIn y os) v u long
-seeks-same n bytes w a x y os v u long e h = subst (λ (r : Reached). Seeks n bytes w a (reachedIn r os) v u long) (sym e) h
+pub seeks-same : (n : ℕ) (bytes : List ℕ) (w : ℕ) (a : Bool) (x y : Reached) (os : List (List ℕ)) (v : ℕ) (u t : List NodeRecord) → y ≡ x
+    → Seeks n bytes w a (reachedIn x os) v u t → Seeks n bytes w a (reachedIn y os) v u t
+seeks-same n bytes w a x y os v u t e h = subst (λ (r : Reached). Seeks n bytes w a (reachedIn r os) v u t) (sym e) h
 
 -- Clearing all records then leaves what the paper says,
-pub seeks-cleared : (n : ℕ) (bytes : List ℕ) (w : ℕ) (a : Bool) (r : ReadReached) (v : ℕ) (u t : List NodeRecord) → Seeks n bytes w a r v u (length t)
+pub seeks-cleared : (n : ℕ) (bytes : List ℕ) (w : ℕ) (a : Bool) (r : ReadReached) (v : ℕ) (u t : List NodeRecord) → Seeks n bytes w a r v u t
     → (z : List NodeRecord) → z ≡ clearTo noRecord u (length u) → z ≡ C.cleared noRecord t
 seeks-cleared n bytes w a r v u t h z e = cleared-after n bytes (h .stop) r u (h .reached) t (h .kept) z e
 
 -- and reading on to the end reads the stream. c: the cursor, as code has it; x, y: what is reached, and the table then
-module _ (n : ℕ) (bytes : List ℕ) (few : n ≤ optionLimit) (w : ℕ) (r : Reached) (os : List (List ℕ)) (v : ℕ) (u : List NodeRecord) (long : ℕ)
-    (h : Seeks n bytes w true (reachedIn r os) v u long) (c : Cursor) (ce : c ≡ record { run = r .run; depth = r .depth }) (x : ReadReached)
+module _ (n : ℕ) (bytes : List ℕ) (few : n ≤ optionLimit) (w : ℕ) (r : Reached) (os : List (List ℕ)) (v : ℕ) (u t : List NodeRecord)
+    (h : Seeks n bytes w true (reachedIn r os) v u t) (c : Cursor) (ce : c ≡ record { run = r .run; depth = r .depth }) (x : ReadReached)
     (y : List NodeRecord) (called : record { reached = x; table = y } ≡ readFrom n bytes wordLimit (cursorIn c os) u) where
   to-end : ReachedBy n bytes wordLimit x y
   to-end = read-called n bytes few wordLimit (omega arith) (record { run = r .run; opens = opensIn os (r .depth) }) u (h .reached .stands)
@@ -63,9 +63,8 @@ module _ (n : ℕ) (bytes : List ℕ) (few : n ≤ optionLimit) (w : ℕ) (r : R
   pub end-reads : Reads n bytes x y
   end-reads = all-reads n bytes x y few to-end
 
-  pub end-cleared : (t : List NodeRecord) → length y ≡ length u → long ≡ length t → (z : List NodeRecord) → z ≡ clearTo noRecord y (length y)
-      → z ≡ C.cleared noRecord t
-  end-cleared t l k z e = cleared-after n bytes wordLimit x y to-end t (l ∙ h .kept ∙ k) z e
+  pub end-cleared : length y ≡ length u → (z : List NodeRecord) → z ≡ clearTo noRecord y (length y) → z ≡ C.cleared noRecord t
+  end-cleared l z e = cleared-after n bytes wordLimit x y to-end t (l ∙ h .kept) z e
 
 -- A word that is not decided yes is not admitted,
 none-admitted : (n : ℕ) (bytes : List ℕ) (j : ℕ) → isValue true (decision n bytes j) ≡ false → R.isAdmitted (R.verdict n (trace n bytes) j) ≡ false
@@ -128,10 +127,10 @@ module _ (n : ℕ) (bytes : List ℕ) (t : List NodeRecord) (w : ℕ) where
         ∙ sym (ap (λ (b : C.Result R.NextWord). record { answer = b; table = C.tableAfter noRecord b t }) (find-answer r u k h known))
 
     -- Where the search has halted, there is no word.
-    pub find-ended : (a : C.Result R.NextWord) (z : List NodeRecord) (r : ReadReached) (v : ℕ) (u : List NodeRecord) (long : ℕ)
-        → Seeks n bytes w true r v u long → r .halted ≡ true → a ≡ endedBy n r → z ≡ C.cleared noRecord t
+    pub find-ended : (a : C.Result R.NextWord) (z : List NodeRecord) (r : ReadReached) (v : ℕ) (u : List NodeRecord)
+        → Seeks n bytes w true r v u t → r .halted ≡ true → a ≡ endedBy n r → z ≡ C.cleared noRecord t
         → record { answer = a; table = z } ≡ R.findNext noRecord n bytes w t
-    find-ended a z r v u long h e ae ze =
+    find-ended a z r v u h e ae ze =
         find-correct a z r u (cond (eqb (r .run .covered) (2 ^ n)) R.noWord R.notKnown) reads (λ _.
         next-none n (trace n bytes) w (λ j p q. none-admitted n bytes j (h .ended e j p (omega
         (arith, q, all, subst (Ends n bytes (h .stop) r u (h .reached .stands .steps)) e (h .reached .ends) .0))))
@@ -144,10 +143,10 @@ module _ (n : ℕ) (bytes : List ℕ) (t : List NodeRecord) (w : ℕ) where
         all = ap (λ (y : Reading). y .state .covered) (trace-reading n bytes ∙ halted-reads n bytes (h .stop) r u (h .reached) e .same)
 
     -- Where it has found v, that is the word; x, y: what reading to the end reaches, and the table then.
-    pub find-found : (a : C.Result R.NextWord) (z : List NodeRecord) (r : ReadReached) (v : ℕ) (u : List NodeRecord) (long : ℕ)
-        → Seeks n bytes w true r v u long → r .halted ≡ false → (x : ReadReached) (y : List NodeRecord) → Reads n bytes x y → a ≡ foundBy x v
+    pub find-found : (a : C.Result R.NextWord) (z : List NodeRecord) (r : ReadReached) (v : ℕ) (u : List NodeRecord)
+        → Seeks n bytes w true r v u t → r .halted ≡ false → (x : ReadReached) (y : List NodeRecord) → Reads n bytes x y → a ≡ foundBy x v
         → z ≡ C.cleared noRecord t → record { answer = a; table = z } ≡ R.findNext noRecord n bytes w t
-    find-found a z r v u long h e x y reads ae ze =
+    find-found a z r v u h e x y reads ae ze =
         let f = h .found e in
         let l : v < trace n bytes .reading .state .covered
         = omega (arith, f .1 .0, stands-all n bytes (r .run) (r .opens) u (h .reached .stands), trace-covered n bytes) in

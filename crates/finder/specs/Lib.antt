@@ -2,6 +2,8 @@ pub mod LeastDecided
 pub mod Search
 pub mod SearchSteps
 pub mod SearchLaws
+pub mod SeekLegs
 pub mod Seeking
 pub mod FindCorrect
 pub mod TextSearch
+pub mod LoadFrom

@@ -31,6 +31,7 @@ use Rattle.reader.specs.RunOn.{searchFrom}
 use Rattle.reader.specs.Searched.{someLast, Searched, search-called}
 use Rattle.blocks.specs.Blocks.{edgeAt}
 use Rattle.blocks.specs.BlockLaws.{stands-all, passed-stop, passed-covers, passed-shallow, passed-ordered, passed-sits, passed-decides}
+use Rattle.finder.specs.SeekLegs.{OnWay, read-way, search-way}
 use Rattle.finder.specs.LeastDecided.{isValue, value-decided, NoneDecided}
 use Rattle.finder.specs.Search.{turnedEdge, someIn, fromIn, leastIn}
 use Rattle.finder.specs.SearchSteps.{least-below}
@@ -42,12 +43,13 @@ use Rattle.finder.specs.SearchLaws.{Least, yes, Sits, none-yes, least-ye
 abbrev pub soughtAt : Bool → List NodeRecord → ℕ → ReadReached → ℕ → ℕ
 soughtAt noes t n r w = r .from + fromIn (n - r .deep) t (r .run .size) (r .deep + 1) (turnedEdge noes (edgeAt r)) (w - r .from)
 
--- What the search for v, yes or no, reaches, with the table u: it has halted with no word from w on that is v, or passed the next one, k. long: the
--- table's length
-pub record Seeks (n : ℕ) (bytes : List ℕ) (w : ℕ) (v : Bool) (r : ReadReached) (k : ℕ) (u : List NodeRecord) (long : ℕ) : Type 0 where
+-- What the search for v, yes or no, reaches, with the table u: it has halted with no word from w on that is v, or passed the next one, k; and it is on the
+-- way to the end of the stream. t: the table at its beginning
+pub record Seeks (n : ℕ) (bytes : List ℕ) (w : ℕ) (v : Bool) (r : ReadReached) (k : ℕ) (u t : List NodeRecord) : Type 0 where
   pub stop : ℕ
   pub reached : ReachedBy n bytes stop r u
-  pub kept : length u ≡ long
+  pub kept : length u ≡ length t
+  pub way : OnWay n bytes t r u
   pub ended : r .halted ≡ true → NoneDecided (decision n bytes) v w stop
   pub found : r .halted ≡ false → (w ≤ k) × ((k < r .run .covered) × ((decision n bytes k ≡ decided v) × NoneDecided (decision n bytes) v w k))
 
@@ -152,12 +154,13 @@ module _ (n : ℕ) (bytes : List ℕ) (few : n ≤ optionLimit) (a : Bool) (v : 
           (same-said true s)
 
   -- A WORD IS FOUND: k, as code has it. None is decided so from w on before v.
-  pub seeks-found : (w : ℕ) → w ≤ v → NoneDecided (decision n bytes) a w v → (k long : ℕ) → k ≡ soughtAt (not a) u n x v → k < x .run .covered
-      → length u ≡ long → Seeks n bytes w a x k u long
-  seeks-found w low none k long ke m l = record {
+  pub seeks-found : (w : ℕ) → w ≤ v → NoneDecided (decision n bytes) a w v → (k : ℕ) (t : List NodeRecord) → k ≡ soughtAt (not a) u n x v
+      → k < x .run .covered → length u ≡ length t → OnWay n bytes t x u → Seeks n bytes w a x k u t
+  seeks-found w low none k t ke m l way = record {
     stop = v;
     reached = reached;
     kept = l;
+    way = way;
     ended = λ f. absurd (true≢false (sym f ∙ e));
     found = λ _. (
       omega (arith, low, sought k ke, least .low, inside),
@@ -174,11 +177,13 @@ module _ (n : ℕ) (bytes : List ℕ) (few : n ≤ optionLimit) (a : Bool) (v : 
 
 -- Where reading halts there is no word, if none is decided so from w on before the stop.
 pub seeks-ended : (n : ℕ) (bytes : List ℕ) (a : Bool) (v : ℕ) (x : ReadReached) (u : List NodeRecord) → ReachedBy n bytes v x u → (w : ℕ)
-    → NoneDecided (decision n bytes) a w v → (k long : ℕ) → x .halted ≡ true → length u ≡ long → Seeks n bytes w a x k u long
-seeks-ended n bytes a v x u reached w none k long e l = record {
+    → NoneDecided (decision n bytes) a w v → (k : ℕ) (t : List NodeRecord) → x .halted ≡ true → length u ≡ length t → OnWay n bytes t x u
+    → Seeks n bytes w a x k u t
+seeks-ended n bytes a v x u reached w none k t e l way = record {
   stop = v;
   reached = reached;
   kept = l;
+  way = way;
   ended = λ _. none;
   found = λ f. absurd (true≢false (sym e ∙ f));
 }
@@ -206,10 +211,11 @@ module _ (n : ℕ) (bytes : List ℕ) (few : n ≤ optionLimit) (w : ℕ) (a : B
   -- what reading reaches from the start, o: the open nodes, c: where it begins, as code has them
   pub read-first : (t : List NodeRecord) (o : List (List ℕ)) (c : Cursor) (x : ReadReached) (u : List NodeRecord) → tableLimit ≤ length t → w < 2 ^ n
       → o ≡ replicate openLimit (replicate 4 0) → c ≡ startCursor → record { reached = x; table = u } ≡ readFrom n bytes w (cursorIn c o) t
-      → ReachedBy n bytes w x u
+      → ReachedBy n bytes w x u × OnWay n bytes t x u
   read-first t o c x u room l oe ce called =
-      read-begun n bytes few w (omega (arith, l, pow-mono {i = n} {j = optionLimit} few)) c t room ce x u
-      (called ∙ ap (λ (o : List (List ℕ)). readFrom n bytes w (cursorIn c o) t) oe)
+      let most : w ≤ wordLimit = omega (arith, l, pow-mono {i = n} {j = optionLimit} few) in
+      let from = called ∙ ap (λ (o : List (List ℕ)). readFrom n bytes w (cursorIn c o) t) oe in
+      (read-begun n bytes few w most c t room ce x u from, read-way n bytes few t room w most c ce x u from)
 
   -- what searching on reaches
   abbrev pub Searching : ReadReached → List NodeRecord → Type 0
@@ -223,25 +229,34 @@ module _ (n : ℕ) (bytes : List ℕ) (few : n ≤ optionLimit) (w : ℕ) (a : B
 
   -- Where none of the words that reading passed is found, the search goes on behind them. r, os: what reading reaches, and the open nodes then;
   -- c, odd: where the search begins, and what the open nodes turn about, as code has them
-  pub searches : (r : Reached) (os : List (List ℕ)) (u : List NodeRecord) → let x = reachedIn r os in
-      ReachedBy n bytes w x u → x .halted ≡ false → (k : ℕ) → k ≡ soughtAt (not a) u n x w → x .run .covered ≤ k
+  pub searches : (r : Reached) (os : List (List ℕ)) (u t : List NodeRecord) → let x = reachedIn r os in
+      ReachedBy n bytes w x u × OnWay n bytes t x u → x .halted ≡ false → (k : ℕ) → k ≡ soughtAt (not a) u n x w → x .run .covered ≤ k
       → (c : Cursor) → c ≡ record { run = r .run; depth = r .depth } → (odd : Bool) → odd ≡ differ (edgeAt x .complement) (r .run .complement)
-      → (y : ReadReached) (z : List NodeRecord) → record { reached = y; table = z } ≡ searchFrom n bytes (cursorIn c os) odd (not a) u → Searching y z
-  searches r os u reached e k ke m c ce odd oe y z called =
+      → (y : ReadReached) (z : List NodeRecord) → record { reached = y; table = z } ≡ searchFrom n bytes (cursorIn c os) odd (not a) u
+      → Searching y z × OnWay n bytes t y z
+  searches r os u t first e k ke m c ce odd oe y z called =
       let x = reachedIn r os in
-      search-called n bytes few (not a) NoneTo none-over (record { run = r .run; opens = opensIn os (r .depth) }) odd u (reached .stands)
-      (oe ∙ differ-back (parity (openList (x .opens))) (r .run .complement)) known y z
-      (called ∙ ap (λ (c : Cursor). searchFrom n bytes (cursorIn c os) odd (not a) u) ce)
+      let from = called ∙ ap (λ (c : Cursor). searchFrom n bytes (cursorIn c os) odd (not a) u) ce in (
+        search-called n bytes few (not a) NoneTo none-over (record { run = r .run; opens = opensIn os (r .depth) }) odd u (reached .stands)
+            (oe ∙ differ-back (parity (openList (x .opens))) (r .run .complement)) known y z from,
+        search-way n bytes few t x u (first .1) e (reached .stands) odd (not a) y z from,
+      )
     where
+      reached : ReachedBy n bytes w (reachedIn r os) u
+      reached = first .0
+
       known : NoneTo (r .run .covered)
       known =
           let i = passed-stop n bytes w (reachedIn r os) u reached e in
           (omega (arith, i), λ j l b. none-found n bytes few a w (reachedIn r os) u reached e k ke j l (omega (arith, b, m)))
 
-  module _ (y : ReadReached) (u : List NodeRecord) (h : Searching y u) where
+  module _ (y : ReadReached) (u t : List NodeRecord) (found : Searching y u × OnWay n bytes t y u) where
+    abbrev h : Searching y u
+    h = found .0
+
     -- Where the search halts there is no word.
-    pub search-ended : (k long : ℕ) → y .halted ≡ true → length u ≡ long → Seeks n bytes w a y k u long
-    search-ended k long e l = seeks-ended n bytes a (h .stop) y u (h .reached) w (h .free .1) k long e l
+    pub search-ended : (k : ℕ) → y .halted ≡ true → length u ≡ length t → Seeks n bytes w a y k u t
+    search-ended k e l = seeks-ended n bytes a (h .stop) y u (h .reached) w (h .free .1) k t e l (found .1)
 
     module _ (e : y .halted ≡ false) where
       same : h .stop ≡ y .from
@@ -255,8 +270,8 @@ module _ (n : ℕ) (bytes : List ℕ) (few : n ≤ optionLimit) (w : ℕ) (a : B
       search-bounds = passed-bounds n bytes few a (y .from) y u begun e
 
       -- Else it has found k, as code has it.
-      pub search-found : (k long : ℕ) → k ≡ soughtAt (not a) u n y (y .from) → length u ≡ long → Seeks n bytes w a y k u long
-      search-found k long ke l =
+      pub search-found : (k : ℕ) → k ≡ soughtAt (not a) u n y (y .from) → length u ≡ length t → Seeks n bytes w a y k u t
+      search-found k ke l =
           let free = subst NoneTo same (h .free) in
-          seeks-found n bytes few a (y .from) y u begun e w (free .0) (free .1) k long ke
-          (some-passed n bytes few a (y .from) y u begun e (h .here e .1) refl k ke) l
+          seeks-found n bytes few a (y .from) y u begun e w (free .0) (free .1) k t ke
+          (some-passed n bytes few a (y .from) y u begun e (h .here e .1) refl k ke) l (found .1)

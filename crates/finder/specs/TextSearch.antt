@@ -3,7 +3,7 @@
 use mathlib.Core.Path.{_≡_, refl, sym, ap, ap₂, _∙_, subst}
 use mathlib.Core.Bool.{Bool, true, false, cond, not}
 use mathlib.Core.List.{List}
-use Prim.Native.Nat.{ℕ, _-_, _<_, _≤_, _^_}
+use Prim.Native.Nat.{ℕ, min, _-_, _<_, _≤_, _^_}
 use native.Mathlib.Omega.{arith}
 use lib.Dec.{ltb, leb}
 use lib.ListN.{length}
@@ -12,7 +12,7 @@ use Rattle.theory_reading.specs.Limits.{optionLimit, tableLimit}
 use Rattle.theory_reading.specs.Nodes.{Node}
 use Rattle.theory_reading.specs.Causes as C
 use Rattle.theory_reading.specs.Reading.{Reading, reading}
-use Rattle.theory_reading.specs.Deciding.{decision}
+use Rattle.theory_reading.specs.Deciding.{decided, decision}
 use Rattle.theory_reading.specs.Covered.{covered, covered-decided, covered-most}
 use Rattle.theory_reading.specs.Lasting.{Ordered}
 use Rattle.node_records.specs.Records.{noRecord}
@@ -25,7 +25,7 @@ use Rattle.reader.specs.Loop.{Ends}
 use Rattle.checker.specs.CheckCorrect.{halted-reads}
 use Rattle.blocks.specs.BlockLaws.{stands-all}
 use Rattle.blocks.specs.Load.{LoadTo, load}
-use Rattle.blocks.specs.LoadLaws.{load-decides, load-ordered, load-held, load-deep, load-covers}
+use Rattle.blocks.specs.LoadLaws.{load-shows, load-ordered, load-held, load-deep}
 use Rattle.finder.specs.LeastDecided.{isValue, value-decided, leastDecided, least-below, least-unique}
 use Rattle.finder.specs.Search.{turnedEdge, fromIn}
 use Rattle.finder.specs.SearchSteps.{from-most}
@@ -105,7 +105,7 @@ module _ (n : ℕ) (bytes : List ℕ) (w : ℕ) (v : Bool) (t : List NodeRecord)
         subst (λ (x : SearchTo). x .word ≤ 2 ^ n) (sym text-within) (omega (arith, b .1 .0, l, covered-most n bytes))
 
     -- r, k, u: what the search reaches, its word, and the table then
-    module _ (r : ReadReached) (k : ℕ) (u : List NodeRecord) (long : ℕ) (h : Seeks n bytes w v r k u long) where
+    module _ (r : ReadReached) (k : ℕ) (u : List NodeRecord) (h : Seeks n bytes w v r k u t) where
       -- where reading has halted none is decided so
       ended-word : r .halted ≡ true → leastDecided (covered n bytes - w) (decision n bytes) v w ≡ cond (ltb (r .run .covered) w) w (r .run .covered)
       ended-word e = go (ltb (r .run .covered) w) refl
@@ -141,11 +141,11 @@ module _ (n : ℕ) (bytes : List ℕ) (w : ℕ) (v : Bool) (t : List NodeRecord)
           go false e = found-word e
 
     -- THE CALL: a, z: its answer, and the table after it.
-    pub text-correct : (r : ReadReached) (k : ℕ) (u : List NodeRecord) → Seeks n bytes w v r k u (length t)
+    pub text-correct : (r : ReadReached) (k : ℕ) (u : List NodeRecord) → Seeks n bytes w v r k u t
         → (a : ℕ) → a ≡ wordOf (r .halted) (r .run .covered) k w → (z : List NodeRecord) → z ≡ clearTo noRecord u (length u)
         → searched a z ≡ searchText n bytes w v t
     text-correct r k u h a ae z ze =
-        ap₂ searched (ae ∙ sym (least-word r k u (length t) h)) (seeks-cleared n bytes w v r k u t h z ze) ∙ sym text-within
+        ap₂ searched (ae ∙ sym (least-word r k u h)) (seeks-cleared n bytes w v r k u t h z ze) ∙ sym text-within
 
 -- ---- The search in a table -------------------------------------------------------------------
 
@@ -167,7 +167,7 @@ module _ (n : ℕ) (t : List NodeRecord) (z : ℕ) (e : Edge) (w : ℕ) (v : Boo
   pub nodes-most : n ≤ optionLimit → w < 2 ^ n → searchNodes n t z e w v ≤ 2 ^ n
   nodes-most few l = subst (λ (k : ℕ). k ≤ 2 ^ n) (nodes-within few l) (from-most n t z 1 (turnedEdge (not v) e) w l)
 
--- x: what loading a stream comes to, which is whole; THE WORD FOUND IN ITS TABLE is the one that the stream has.
+-- x: what loading a stream comes to, which is whole; THE WORD FOUND IN ITS TABLE is the one that the stream has, if it covers that.
 module _ (n : ℕ) (bytes : List ℕ) (t : List NodeRecord) (x : LoadTo) (called : x ≡ load n bytes t) (whole : x .whole ≡ true) where
   abbrev edge : Edge
   edge = outerEdge x
@@ -176,25 +176,30 @@ module _ (n : ℕ) (bytes : List ℕ) (t : List NodeRecord) (x : LoadTo) (called
   held = load-held n bytes t x called whole
 
   ordered : Ordered (tableOf (x .table) (x .size))
-  ordered = load-ordered n bytes t x called whole
+  ordered = load-ordered n bytes t x called
 
+  -- the edge shows a value for every word,
   sits : Sits (x .table) (x .size) held ordered 1 edge n
   sits = record {
     inside = omega arith;
     deep = λ m. subst (λ (y : Node). 1 ≤ y .level) (table-node (x .table) (x .size) (x .number)) (load-deep n bytes t x called whole (omega (arith, m)));
-    whole = λ k l. (
-      _,
-      sym (load-decides n bytes t x called whole k) ∙ covered-decided n bytes k l (omega (arith, l, load-covers n bytes t x called whole)),
-    );
+    whole = λ k l. let h = load-shows n bytes t x called whole k l in (h .0, h .1 .0);
   }
 
-  pub nodes-least : n ≤ optionLimit → (w : ℕ) → w < 2 ^ n → (v : Bool)
-      → searchNodes n (x .table) (x .size) (outerEdge x) w v ≡ leastDecided (2 ^ n - w) (decision n bytes) v w
+  -- which is the stream's for a word that the stream covers. Others may be found too: the count of those that it covers is the answer then.
+  pub nodes-least : n ≤ optionLimit → (w : ℕ) → w < covered n bytes → (v : Bool)
+      → min (searchNodes n (x .table) (x .size) (outerEdge x) w v) (covered n bytes) ≡ leastDecided (covered n bytes - w) (decision n bytes) v w
   nodes-least few w l v =
-      sym (nodes-within n (x .table) (x .size) edge w v few l)
-      ∙ sym (least-unique (decision n bytes) v (2 ^ n - w) w found (least .low) (omega (arith, least .most, l))
-      (λ j a b. value j ∙ least .before j a b) (λ q. value-decided v (decision n bytes found) (value found ∙ least .here (omega (arith, q, l)))))
+      ap (λ (k : ℕ). min k c) (sym (nodes-within n (x .table) (x .size) edge w v few below))
+      ∙ sym (least-unique (decision n bytes) v (c - w) w (min found c) (omega (arith, least .low, l)) (omega (arith, l))
+      (λ j a b. value j (omega (arith, b)) ∙ least .before j a (omega (arith, b))) (λ q. here (omega (arith, q, l))))
     where
+      c : ℕ
+      c = covered n bytes
+
+      below : w < 2 ^ n
+      below = omega (arith, l, covered-most n bytes)
+
       found : ℕ
       found = fromIn n (x .table) (x .size) 1 (turnedEdge (not v) edge) w
 
@@ -203,8 +208,18 @@ module _ (n : ℕ) (bytes : List ℕ) (t : List NodeRecord) (x : LoadTo) (called
 
       least : Least right w (2 ^ n) found
       least = from-yes (x .table) (x .size) held ordered n 1 (turnedEdge (not v) edge) w
-          (turned-sits (x .table) (x .size) held ordered (not v) 1 edge n sits) l
+          (turned-sits (x .table) (x .size) held ordered (not v) 1 edge n sits) below
 
-      -- a word is decided as v if it is yes on the turned edge
-      value : (j : ℕ) → isValue v (decision n bytes j) ≡ right j
-      value j = ap (isValue v) (load-decides n bytes t x called whole j) ∙ sym (turned-yes (x .table) (x .size) held ordered v 1 edge n j)
+      -- a word that is covered is decided as v if it is yes on the turned edge
+      value : (j : ℕ) → j < c → isValue v (decision n bytes j) ≡ right j
+      value j k =
+          let m : j < 2 ^ n = omega (arith, k, covered-most n bytes) in
+          let d = covered-decided n bytes j m k in
+          let h = load-shows n bytes t x called whole j m in
+          ap (isValue v) (d ∙ ap decided (h .1 .1 _ d) ∙ sym (h .1 .0)) ∙ sym (turned-yes (x .table) (x .size) held ordered v 1 edge n j)
+
+      here : found < c → decision n bytes (min found c) ≡ decided v
+      here k =
+          let e : found ≡ min found c = omega (arith, k) in
+          subst (λ (i : ℕ). decision n bytes i ≡ decided v) e
+          (value-decided v (decision n bytes found) (value found k ∙ least .here (omega (arith, k, covered-most n bytes))))

@@ -9,17 +9,22 @@ ghost use Rattle.node_records.specs.Records.{noRecord};
 ghost use Rattle.theory_lists.specs.Lists.{differ};
 ghost use Rattle.reader.specs.OpenCells.{reachedIn};
 ghost use Rattle.blocks.specs.Blocks.{edgeAt};
+ghost use Rattle.blocks.specs.Load.{loadIn};
 ghost use Rattle.answers.specs.Answers.{findingOf};
 ghost use Rattle.finder.specs.Search.{turnedEdge, someIn, leastIn, startIn, fromIn};
 ghost use Rattle.finder.specs.Seeking.{soughtAt, Seeks};
 ghost use Rattle.finder.specs.FindCorrect.{endedBy, foundBy};
 ghost use Rattle.finder.specs.TextSearch.{searchText, searchNodes, wordOf};
+ghost use Rattle.finder.specs.LoadFrom.{loadFrom};
 use answers::Finding;
 use answers::NextWord;
 use answers::Refusal;
 use answers::early;
+use blocks::Loaded;
 use blocks::below;
 use blocks::edge_of;
+use blocks::load;
+use blocks::loaded_at;
 use checker::late;
 use cursors::Cursor;
 use cursors::first_cursor;
@@ -181,7 +186,7 @@ fn seek(
     v: bool,
 ) -> Sought
     requires { ⌜ (n ≤ optionLimit) × ((tableLimit ≤ length (now t)) × ((w < 2 ^ n) × (now o ≡ replicate openLimit (replicate 4 0)))) ⌝ }
-    ensures { λ x. ⌜ Seeks n (now (s .entry)) w v (reachedIn (x .reached) (now (o .exit))) (x .word) (now (t .exit)) (length (now (t .entry))) ⌝ }
+    ensures { λ x. ⌜ Seeks n (now (s .entry)) w v (reachedIn (x .reached) (now (o .exit))) (x .word) (now (t .exit)) (now (t .entry)) ⌝ }
 {
     let r = read_on(n, s, t, o, first_cursor(), w);
     let h = r.halted;
@@ -306,6 +311,43 @@ pub fn search_text(n: u32, s: &[u8], w: u64, v: bool, t: &mut [NodeRecord]) -> u
     let z = t.len();
     clear_records(t, z);
     word_of(x, w)
+}
+
+// A stream that was loaded, and the word that the search in it comes to.
+pub struct LoadedFrom {
+    pub loaded: Loaded,
+    pub word: u64,
+}
+
+// LOADING A STREAM AND SEARCHING IT at once: what `load` comes to, and of the words that it covers the least one from w on that it decides as v, as
+// `search_text` has it. It is read once.
+pub fn load_from(n: u32, s: &[u8], t: &mut [NodeRecord], w: u64, v: bool) -> LoadedFrom
+    ensures { λ r. ⌜ record { loaded = loadIn (r .loaded) (now (t .exit)); word = r .word } ≡ loadFrom n (now (s .entry)) w v (now (t .entry)) ⌝ }
+{
+    if OPTION_LIMIT < n {
+        let l = load(n, s, t);
+        return LoadedFrom { loaded: l, word: w };
+    }
+    if t.len() < TABLE_LIMIT {
+        let l = load(n, s, t);
+        return LoadedFrom { loaded: l, word: w };
+    }
+    if 1u64 << n <= w {
+        let l = load(n, s, t);
+        return LoadedFrom { loaded: l, word: w };
+    }
+    let mut o = [[0u32; 4]; OPEN_LIMIT];
+    let x = seek(n, s, t, &mut o, w, v);
+    let k = word_of(x, w);
+    let r = reached_of(x);
+    let h = r.halted;
+    if h {
+        let l = loaded_at(t, &o, r);
+        return LoadedFrom { loaded: l, word: k };
+    }
+    let e = read_on(n, s, t, &mut o, cursor_of(r), WORD_LIMIT);
+    let l = loaded_at(t, &o, e);
+    LoadedFrom { loaded: l, word: k }
 }
 
 // SEARCHING A TABLE of z numbers that has the outermost node, without reading: of its words, e being its edge, the least one from w on that is v, 2^n if

@@ -1,3 +1,3 @@
 -- Generated: what callers cite of the lifted functions.
--- From d738873de74f0b52, as c9f1e9959860edea.
+-- From 863aab4a080b4da0, as c9f1e9959860edea.
 pub mod call

@@ -1,10 +1,10 @@
 -- How code holds the inputs of a run. Assumes nothing.
-use mathlib.Core.Bool.{true, false, cond}
+use mathlib.Core.Bool.{true, false, cond, not, _&&_}
 use mathlib.Core.List.{List}
 use Prim.Native.Nat.{ℕ, _+_}
 use Rattle.theory_applying.specs.Applying.{secondSource}
 use Rattle.theory_applying.specs.Operands as T
-use Rattle.theory_combining.specs.BlockReaders.{BlockReader, readerAt, deepOf, sourceOf, nextReader}
+use Rattle.theory_combining.specs.BlockReaders.{BlockReader, readerAt, deepOf, sourceOf, endedOf, nextReader}
 use Rattle.blocks.specs.Blocks.{Next, nextBlock}
 use Rattle.cursors.specs.Cursors.{startCursor}
 use Rattle.blocks.specs.Blocks.{ReadBlock, blockIn}
@@ -48,18 +48,18 @@ operandOf f b o s t = onReader f (readerOf b o s t)
 abbrev pub begunIn : Begun → List (List ℕ) → List ℕ → List NodeRecord → T.Operand BlockReader
 begunIn x o s t = operandOf (x .operand) (x .block) o s t
 
--- the next block, if the input is inside its text
+-- the next block, if the input is inside its text, which has not ended
 abbrev pub readBy : ℕ → List ℕ → Operand → ReadBlock → List NodeRecord → Next
-readBy n s f b t = cond (f .inside) (nextBlock n s (b .cursor) t) (record { block = b; table = t })
+readBy n s f b t = cond (f .inside && not (b .halted)) (nextBlock n s (b .cursor) t) (record { block = b; table = t })
 
 -- at the second half of a part of level i, with the block for it read
 abbrev pub arrived : ℕ → ℕ → T.Operand BlockReader → T.Operand BlockReader
 arrived n i f =
-    cond (f .inText) (T.settle deepOf sourceOf (nextReader n) (i + 1) f)
-    (T.atEdge f (secondSource i (T.edgeOf deepOf sourceOf (nextReader n) f)))
+    cond (f .inText) (T.settle deepOf sourceOf endedOf (nextReader n) (i + 1) f)
+    (T.atEdge f (secondSource i (T.edgeOf deepOf sourceOf endedOf (nextReader n) f)))
 
--- at the outermost node, with the cells o for the open nodes: in its text unless its first block is all of it
+-- at the outermost node, with the cells o for the open nodes: in its text unless its first block is all of it, or it has none
 abbrev pub begunFrom : ℕ → List ℕ → List (List ℕ) → List NodeRecord → T.Operand BlockReader
 begunFrom n s o t =
-    T.settle deepOf sourceOf (nextReader n) 1
+    T.settle deepOf sourceOf endedOf (nextReader n) 1
     (record { reader = readerAt s (nextBlock n s (cursorIn startCursor o) t); inText = true; number = 0; complement = false })

@@ -1,10 +1,10 @@
 // The inputs of a run: each is inside its text, at the block that was read last, or at an edge of its own table.
 ghost use mathlib.Core.Path.{_≡_};
-ghost use mathlib.Core.Bool.{false, cond};
+ghost use mathlib.Core.Bool.{false, cond, not, _&&_};
 ghost use mathlib.Core.List.{List};
 ghost use Prim.Native.Nat.{ℕ, _+_};
 ghost use Rattle.theory_applying.specs.Operands.{settle, firstOperand, secondOperand};
-ghost use Rattle.theory_combining.specs.BlockReaders.{deepOf, sourceOf, nextReader};
+ghost use Rattle.theory_combining.specs.BlockReaders.{deepOf, sourceOf, endedOf, nextReader};
 ghost use Rattle.blocks.specs.Blocks.{blockIn};
 ghost use Rattle.elements.specs.declared.Opens.{Opens};
 ghost use Rattle.operands.specs.Abstraction.{operandOn, operandOf, begunIn, readBy, arrived, begunFrom};
@@ -54,14 +54,28 @@ fn at_edge(e: TableEdge) -> Operand
     }
 }
 
-// A block as great as a part that i open nodes are around is an edge.
+fn at_terminal() -> Operand
+    ensures { λ r. ⌜ r ≡ record { inside = false; number = 0; complement = false } ⌝ }
+{
+    Operand {
+        inside: false,
+        number: 0,
+        complement: false,
+    }
+}
+
+// A block as great as a part that i open nodes are around is an edge. Past the end of its text an input is at the terminal.
 fn settle(i: u32, f: Operand, b: Block) -> Operand
     ensures { λ r. ⌜ ((n : ℕ) (o : Opens) (s : List ℕ) (t : List NodeRecord) → operandOn r b o s t
-        ≡ settle deepOf sourceOf (nextReader n) (i + 1) (operandOn f b o s t)) ⌝ }
+        ≡ settle deepOf sourceOf endedOf (nextReader n) (i + 1) (operandOn f b o s t)) ⌝ }
 {
     let inside = f.inside;
     if !inside {
         return f;
+    }
+    let halted = b.halted;
+    if halted {
+        return at_terminal();
     }
     if b.deep != i as usize {
         return f;
@@ -76,7 +90,7 @@ fn settle(i: u32, f: Operand, b: Block) -> Operand
 // THE FIRST HALF of a part of level i
 pub fn first_half(t: &[NodeRecord], i: u32, f: Operand, b: Block) -> Operand
     ensures { λ r. ⌜ ((n : ℕ) (o : Opens) (s : List ℕ) → operandOn r b o s (now (t .entry))
-        ≡ firstOperand deepOf sourceOf (nextReader n) i (operandOn f b o s (now (t .entry)))) ⌝ }
+        ≡ firstOperand deepOf sourceOf endedOf (nextReader n) i (operandOn f b o s (now (t .entry)))) ⌝ }
 {
     let inside = f.inside;
     if inside {
@@ -87,7 +101,18 @@ pub fn first_half(t: &[NodeRecord], i: u32, f: Operand, b: Block) -> Operand
     at_edge(first_edge(i, e, r))
 }
 
-// For a second half the next block is read, if the input is inside its text. o: the open nodes there
+// The input is inside its text, which has not ended.
+fn reads(f: Operand, b: Block) -> bool
+    ensures { λ r. ⌜ r ≡ (f .inside && not (b .halted)) ⌝ }
+{
+    let inside = f.inside;
+    if inside {
+        return !b.halted;
+    }
+    false
+}
+
+// For a second half the next block is read, if the input is inside its text and that has not ended. o: the open nodes there
 fn read_on(
     n: u32,
     s: &[u8],
@@ -99,8 +124,7 @@ fn read_on(
     ensures { λ r. ⌜ record { block = blockIn r (now (o .exit)); table = now (t .exit) }
         ≡ readBy n (now (s .entry)) f (blockIn b (now (o .entry))) (now (t .entry)) ⌝ }
 {
-    let inside = f.inside;
-    if inside {
+    if reads(f, b) {
         let c = b.cursor;
         return next_block(n, s, t, o, c);
     }
@@ -146,7 +170,7 @@ pub fn second_half(
     b: Block,
 ) -> Begun
     ensures { λ r. ⌜ begunIn r (now (o .exit)) (now (s .entry)) (now (t .exit))
-        ≡ secondOperand deepOf sourceOf (nextReader n) i (operandOf f b (now (o .entry)) (now (s .entry)) (now (t .entry))) ⌝ }
+        ≡ secondOperand deepOf sourceOf endedOf (nextReader n) i (operandOf f b (now (o .entry)) (now (s .entry)) (now (t .entry))) ⌝ }
 {
     let c = read_on(n, s, t, o, f, b);
     Begun {

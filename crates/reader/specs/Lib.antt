@@ -11,3 +11,4 @@ pub mod ReadOn
 pub mod RunOn
 pub mod OpenParity
 pub mod Searched
+pub mod Legs

@@ -57,7 +57,7 @@ readAll n bytes stop r o t = readOn (suc (length bytes)) n bytes stop r o 0 0 t
 
 module _ (f n : ℕ) (bytes : List ℕ) (stop : ℕ) (r : Run) (o : Opens) (from deep : ℕ) (t : List NodeRecord) where
   -- past the stop it is done
-  read-past : stop < r .covered → readOn (suc f) n bytes stop r o from deep t ≡ record { reached = passedAt r o from deep; table = t }
+  pub read-past : stop < r .covered → readOn (suc f) n bytes stop r o from deep t ≡ record { reached = passedAt r o from deep; table = t }
   unfolding readOn
   read-past h = rw (lt-ltb stop (r .covered) h) refl
 
@@ -78,7 +78,7 @@ module _ (f n : ℕ) (bytes : List ℕ) (stop : ℕ) (r : Run) (o : Opens) (from
     read-correct = read-iteration l ∙ ap iterated (sym (iteration-in n bytes r (o .depth) (lowOf o) t y u made))
 
     -- an iteration that goes on
-    read-goes : y .went ≡ true → readOn (suc f) n bytes stop r o from deep t
+    pub read-goes : y .went ≡ true → readOn (suc f) n bytes stop r o from deep t
         ≡ readOn f n bytes stop (y .run) (opensTo o (y .depth) (y .low)) (r .covered) (o .depth) u
     read-goes e =
         read-correct
@@ -86,7 +86,7 @@ module _ (f n : ℕ) (bytes : List ℕ) (stop : ℕ) (r : Run) (o : Opens) (from
         (record { reached = haltedAt r o from deep (y .faulty) (y .cause) (y .byte); table = u })) e
 
     -- another halts
-    read-halts : y .went ≡ false → readOn (suc f) n bytes stop r o from deep t
+    pub read-halts : y .went ≡ false → readOn (suc f) n bytes stop r o from deep t
         ≡ record { reached = haltedAt r o from deep (y .faulty) (y .cause) (y .byte); table = u }
     read-halts e =
         read-correct

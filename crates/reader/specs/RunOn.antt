@@ -138,7 +138,7 @@ module _ (t : List NodeRecord) (g : Goal) (d : ℕ) (low : Open) (y : Iteration)
       ∙ ap (λ (p : Bool). goalOf (stopTo t (y .run) (g .stop) (differ (g .noes) p)) p (g .noes)) pe
       ∙ rw e refl
 
-  goal-fits : g .stop ≤ wordLimit → goalTo seeks t g d low y .stop ≤ wordLimit
+  pub goal-fits : g .stop ≤ wordLimit → goalTo seeks t g d low y .stop ≤ wordLimit
   goal-fits h = go seeks
     where
       go : (b : Bool) → goalTo b t g d low y .stop ≤ wordLimit

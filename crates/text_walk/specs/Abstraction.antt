@@ -13,7 +13,7 @@ use Rattle.theory_applying.specs.Operands as T
 use Rattle.theory_applying.specs.Memo.{slotOf}
 use Rattle.theory_applying.specs.Carrying.{Carried, carryIn}
 use Rattle.theory_applying.specs.Merging.{mergeNodesIn, mergeIn}
-use Rattle.theory_combining.specs.BlockReaders.{BlockReader, deepOf, sourceOf, nextReader}
+use Rattle.theory_combining.specs.BlockReaders.{BlockReader, deepOf, sourceOf, endedOf, nextReader}
 use Rattle.meeting.specs.Abstraction.{halfOf, progressOf, walkedOf}
 use Rattle.meeting.specs.declared.Walked.{Walked}
 use Rattle.pending_text.specs.declared.Sent.{Sent}
@@ -73,7 +73,7 @@ carriedOf a x y o₁ o₂ t₁ t₂ t out w μ = carriedOn a (readerOf (a .first
 abbrev pub walkTexts : Task → ℕ → ℕ → ℕ → ℕ → List (T.Operand BlockReader) → List (List ℕ) → List WriterRecord → List ℕ → List ℕ → E.Progress
     → Carried BlockReader
 walkTexts k d i at m fs μ t out w progress =
-    carryIn deepOf sourceOf (nextReader (k .n)) slotOf (operate (k .op)) (k .covered) (k .size) d i at m fs μ t out w progress
+    carryIn deepOf sourceOf endedOf (nextReader (k .n)) slotOf (operate (k .op)) (k .covered) (k .size) d i at m fs μ t out w progress
 
 -- ---- The stream ------------------------------------------------------------------------------
 
@@ -82,10 +82,10 @@ sentOf x out w = record { written = x .written; full = x .full; output = out; wa
 
 abbrev pub nodesBy : Task → List (T.Operand BlockReader) → List (List ℕ) → List WriterRecord → E.Sent → E.Sent
 nodesBy k fs μ t x =
-    mergeNodesIn deepOf sourceOf (nextReader (k .n)) slotOf (operate (k .op)) (k .n) (k .covered) (k .size) fs μ t x
+    mergeNodesIn deepOf sourceOf endedOf (nextReader (k .n)) slotOf (operate (k .op)) (k .n) (k .covered) (k .size) fs μ t x
 
 -- as far as a rule may have so many options
 abbrev pub streamBy : Task → List (T.Operand BlockReader) → List (List ℕ) → List WriterRecord → List ℕ → List ℕ → E.Sent
 streamBy k fs μ t out w =
     cond (ltb optionLimit (k .n)) (record { written = 0; full = true; output = out; waits = w })
-    (mergeIn deepOf sourceOf (nextReader (k .n)) slotOf (operate (k .op)) (k .n) (k .covered) (k .size) fs μ t out w)
+    (mergeIn deepOf sourceOf endedOf (nextReader (k .n)) slotOf (operate (k .op)) (k .n) (k .covered) (k .size) fs μ t out w)

@@ -2,13 +2,13 @@
 ghost use mathlib.Core.Path.{_≡_};
 ghost use mathlib.Core.Bool.{true, false, not, _||_};
 ghost use mathlib.Core.List.{[], _∷_};
-ghost use lib.Dec.{eqb};
+ghost use lib.Dec.{eqb, ltb};
 ghost use Prim.Native.Nat.{_+_, _-_, _<_, _≤_, _^_};
 ghost use Rattle.theory_reading.specs.Limits.{optionLimit, levelLimit, wordLimit};
 ghost use Rattle.theory_writing.specs.Run.{head, operate};
 ghost use Rattle.theory_applying.specs.Operands.{secondOperand};
 ghost use Rattle.theory_applying.specs.Finishing.{finishIn};
-ghost use Rattle.theory_combining.specs.BlockReaders.{deepOf, sourceOf, nextReader};
+ghost use Rattle.theory_combining.specs.BlockReaders.{deepOf, sourceOf, endedOf, nextReader};
 ghost use Rattle.meeting.specs.Abstraction.{progressOf};
 ghost use Rattle.operands.specs.Abstraction.{operandOf, begunIn};
 ghost use Rattle.text_walk.specs.Abstraction.{firstValue, gapIn, gapBy, carriedOf, sentOf, walkTexts, nodesBy, streamBy};
@@ -51,9 +51,10 @@ pub struct Task {
     pub covered: u64,
 }
 
-// No option is left, or no input is in its text.
-fn at_edges(d: u32, f: Operand, g: Operand) -> bool
-    ensures { λ r. ⌜ r ≡ (eqb d 0 || not (f .inside || (g .inside || false))) ⌝ }
+// No option is left, or no input is in its text and all words of the part are covered, whose words begin with `at`.
+fn at_edges(k: Task, d: u32, at: u64, f: Operand, g: Operand) -> bool
+    requires { ⌜ (d ≤ optionLimit) × (at + 2 ^ d ≤ wordLimit) ⌝ }
+    ensures { λ r. ⌜ r ≡ (eqb d 0 || not ((f .inside || (g .inside || false)) || ltb (k .covered) (at + 2 ^ d))) ⌝ }
 {
     if d == 0 {
         return true;
@@ -62,7 +63,12 @@ fn at_edges(d: u32, f: Operand, g: Operand) -> bool
     if inside {
         return false;
     }
-    !g.inside
+    let other = g.inside;
+    if other {
+        return false;
+    }
+    let over = k.covered < at + (1u64 << d);
+    !over
 }
 
 // What a part came to, with the block of each input that was read last; the first word that is not covered was met
@@ -125,7 +131,7 @@ fn first_on(
     a: Applied,
 ) -> Begun
     ensures { λ r. ⌜ begunIn r (now (o .exit)) (now (s .entry)) (now (t .exit))
-        ≡ secondOperand deepOf sourceOf (nextReader n) i (operandOf f (a .first) (now (o .entry)) (now (s .entry)) (now (t .entry))) ⌝ }
+        ≡ secondOperand deepOf sourceOf endedOf (nextReader n) i (operandOf f (a .first) (now (o .entry)) (now (s .entry)) (now (t .entry))) ⌝ }
 {
     let b = a.first;
     second_half(n, i, s, t, o, f, b)
@@ -141,7 +147,7 @@ fn second_on(
     a: Applied,
 ) -> Begun
     ensures { λ r. ⌜ begunIn r (now (o .exit)) (now (s .entry)) (now (t .exit))
-        ≡ secondOperand deepOf sourceOf (nextReader n) i (operandOf f (a .second) (now (o .entry)) (now (s .entry)) (now (t .entry))) ⌝ }
+        ≡ secondOperand deepOf sourceOf endedOf (nextReader n) i (operandOf f (a .second) (now (o .entry)) (now (s .entry)) (now (t .entry))) ⌝ }
 {
     let b = a.second;
     second_half(n, i, s, t, o, f, b)
@@ -228,7 +234,7 @@ fn texts(
         (operandOf f b1 (now (o1 .entry)) (now (x .entry)) (now (t1 .entry)) ∷ operandOf g b2 (now (o2 .entry)) (now (y .entry)) (now (t2 .entry))
         ∷ []) (now (c .entry)) (now (t .entry)) (now (out .entry)) (now (w .entry)) (progressOf progress) ⌝ }
 {
-    if at_edges(d, f, g) {
+    if at_edges(k, d, at, f, g) {
         let p = edge_of(f, b1);
         let q = edge_of(g, b2);
         let r = apply(k.op, k.size, d, i, m, p, q, t1, t2, t, out, w, c, progress);

@@ -29,7 +29,7 @@ decided-same : (a b : Bool) → decided a ≡ decided b → a ≡ b
 decided-same a b e = cc
 
 -- the constant decides no, turned about or not
-constant-walk : (x : Source) (i : ℕ) (os : List Bool) → x .number ≡ 0 → sourceWalk x i os ≡ decided (x .complement)
+pub constant-walk : (x : Source) (i : ℕ) (os : List Bool) → x .number ≡ 0 → sourceWalk x i os ≡ decided (x .complement)
 constant-walk x i os z =
     ap (λ (c : ℕ). complemented (x .complement) (tableWalk (x .table) i c os)) z
     ∙ ap (complemented (x .complement)) (tableWalk-zero (x .table) i os) ∙ no (x .complement)
@@ -147,13 +147,17 @@ abbrev pub decisionsAt : List (ℕ → Bool) → ℕ → List Bool
 decisionsAt [] w = []
 decisionsAt (g ∷ gs) w = g w ∷ decisionsAt gs w
 
+-- what op makes of the decisions, word by word
+abbrev pub jointly : (List Bool → Bool) → List (ℕ → Bool) → ℕ → Bool
+jointly op gs w = op (decisionsAt gs w)
+
 -- the decisions from word k on
 abbrev pub decisionsFrom : ℕ → List (ℕ → Bool) → List (ℕ → Bool)
 decisionsFrom k [] = []
 decisionsFrom k (g ∷ gs) = (λ w. g (k + w)) ∷ decisionsFrom k gs
 
 -- at word w from word k on
-from-at : (k : ℕ) (gs : List (ℕ → Bool)) (w : ℕ) → decisionsAt gs (k + w) ≡ decisionsAt (decisionsFrom k gs) w
+pub from-at : (k : ℕ) (gs : List (ℕ → Bool)) (w : ℕ) → decisionsAt gs (k + w) ≡ decisionsAt (decisionsFrom k gs) w
 from-at k [] w = refl
 from-at k (g ∷ gs) w = ap (λ (l : List Bool). g (k + w) ∷ l) (from-at k gs w)
 

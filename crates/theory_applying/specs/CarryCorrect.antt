@@ -5,7 +5,7 @@ use mathlib.Core.Bool.{Bool, true, false, cond, not, _||_}
 use mathlib.Core.List.{List, [], _∷_}
 use Prim.Native.Nat.{ℕ, zero, suc, _+_, _^_}
 use native.Mathlib.Omega.{arith}
-use lib.Dec.{leb, eqb}
+use lib.Dec.{leb, ltb, eqb}
 use borrow.Author.Tests.{not-true, ne-eqb}
 use Rattle.theory_lists.specs.Lists.{differ}
 use Rattle.theory_reading.specs.Bytes.{opener}
@@ -23,25 +23,26 @@ use Rattle.theory_applying.specs.Merging.{mergeNodesIn, mergeIn}
 use Rattle.node_records.specs.declared.WriterRecord.{WriterRecord}
 
 -- two halves of one part, d + 1 options
-module _ {BlockReader : Type 0} (deepOf : BlockReader → ℕ) (sourceOf : BlockReader → Source) (next : BlockReader → BlockReader) (hash : List ℕ → ℕ)
+module _ {BlockReader : Type 0} (deepOf : BlockReader → ℕ) (sourceOf : BlockReader → Source) (endedOf : BlockReader → Bool)
+    (next : BlockReader → BlockReader) (hash : List ℕ → ℕ)
     (op : List Bool → Bool) (c size d i at m : ℕ) (fs : List (Operand BlockReader)) (μ : List (List ℕ)) (t : List WriterRecord)
     (out w : List ℕ) (progress : Progress) where
   -- the part, of e options
   abbrev whole : ℕ → Carried BlockReader
-  whole e = carryIn deepOf sourceOf next hash op c size e i at m fs μ t out w progress
+  whole e = carryIn deepOf sourceOf endedOf next hash op c size e i at m fs μ t out w progress
 
   -- all inputs at edges
   abbrev edges : ℕ → Carried BlockReader
-  edges e = recalledOn (recallIn hash op size e i m (edgesOf deepOf sourceOf next fs) μ t out w progress) (readersOf fs)
+  edges e = recalledOn (recallIn hash op size e i m (edgesOf deepOf sourceOf endedOf next fs) μ t out w progress) (readersOf fs)
 
   -- the first half, after the bytes p; ys: the inputs there
   abbrev firstFrom : List (Operand BlockReader) → Waiting → Carried BlockReader
-  firstFrom ys p = carryIn deepOf sourceOf next hash op c size d (i + 1) at (p .count) ys μ t out (p .bytes) progress
+  firstFrom ys p = carryIn deepOf sourceOf endedOf next hash op c size d (i + 1) at (p .count) ys μ t out (p .bytes) progress
 
   -- the second half after the first, a, and the bytes r; zs: the inputs there, k: the words of a half, x: the progress after the first
   abbrev secondFrom : List (Operand BlockReader) → ℕ → Carried BlockReader → Progress → Waiting → Carried BlockReader
   secondFrom zs k a x r =
-      carryIn deepOf sourceOf next hash op c size d (i + 1) (at + k) (r .count) zs (a .memo) (a .applied .walked .table)
+      carryIn deepOf sourceOf endedOf next hash op c size d (i + 1) (at + k) (r .count) zs (a .memo) (a .applied .walked .table)
       (a .applied .walked .output) (r .bytes) x
 
   -- after the second half, b; g: what the first came to, u: the `~` between them
@@ -53,14 +54,14 @@ module _ {BlockReader : Type 0} (deepOf : BlockReader → ℕ) (sourceOf : Block
   -- from the first half on, which had p before it
   abbrev started : List (Operand BlockReader) → ℕ → Waiting → Carried BlockReader → Half → Carried BlockReader
   started zs k p a g =
-      let u = differ (g .complement) (op (firstValuesOf deepOf sourceOf next zs)) in
+      let u = differ (g .complement) (op (firstValuesOf deepOf sourceOf endedOf next zs)) in
       let q = waitIn (a .applied .walked .waits) (p .count) (g .wrote) (g .skipped) (g .number) in
       let r = pushAll (q .bytes) (q .count) (tildeIf u) in
       met g u r (secondFrom zs k a (a .applied .walked .progress) r)
 
   -- the inputs at the second half
   abbrev later : Carried BlockReader → List (Operand BlockReader)
-  later a = secondOperands deepOf sourceOf next i (resume fs (a .applied .readers))
+  later a = secondOperands deepOf sourceOf endedOf next i (resume fs (a .applied .readers))
 
   -- the first word after it is not covered
   abbrev ending : Carried BlockReader → Carried BlockReader
@@ -72,24 +73,25 @@ module _ {BlockReader : Type 0} (deepOf : BlockReader → ℕ) (sourceOf : Block
       cond (halted (a .applied)) a
       (cond (leb c (at + k)) (ending a) (started (later a) k p a (a .applied .walked .half)))
 
-  edges-suc : anyText fs ≡ false → edges (suc d) ≡ whole (suc d)
+  edges-suc : (anyText fs || ltb c (at + 2 ^ suc d)) ≡ false → edges (suc d) ≡ whole (suc d)
   unfolding carryIn
   edges-suc h = rw h refl
 
-  halves-suc : anyText fs ≡ true →
+  halves-suc : (anyText fs || ltb c (at + 2 ^ suc d)) ≡ true →
       let p = pushAll w m (opener ∷ []) in
-      afterFirst (2 ^ d) p (firstFrom (firstOperands deepOf sourceOf next i fs) p) ≡ whole (suc d)
+      afterFirst (2 ^ d) p (firstFrom (firstOperands deepOf sourceOf endedOf next i fs) p) ≡ whole (suc d)
   unfolding carryIn
   halves-suc h = rw h refl
 
-  module _ (e : ℕ) (n : e ≡ suc d) (h : anyText fs ≡ true) (ys : List (Operand BlockReader)) (p : Waiting) (a : Carried BlockReader)
-      (went : ys ≡ firstOperands deepOf sourceOf next i fs) (pushed : p ≡ pushAll w m (opener ∷ [])) (walked : a ≡ firstFrom ys p) where
+  module _ (e : ℕ) (n : e ≡ suc d) (h : (anyText fs || ltb c (at + 2 ^ e)) ≡ true) (ys : List (Operand BlockReader)) (p : Waiting)
+      (a : Carried BlockReader)
+      (went : ys ≡ firstOperands deepOf sourceOf endedOf next i fs) (pushed : p ≡ pushAll w m (opener ∷ [])) (walked : a ≡ firstFrom ys p) where
     -- with the first half walked
     onward : afterFirst (2 ^ d) p a ≡ whole e
     onward =
         ap (afterFirst (2 ^ d) p) walked
         ∙ ap₂ (λ (ys : List (Operand BlockReader)) (p : Waiting). afterFirst (2 ^ d) p (firstFrom ys p)) went pushed
-        ∙ halves-suc h ∙ ap whole (sym n)
+        ∙ halves-suc (ap (λ (e : ℕ). anyText fs || ltb c (at + 2 ^ e)) (sym n) ∙ h) ∙ ap whole (sym n)
 
     -- nothing is walked after it
     pub carry-halted : halted (a .applied) ≡ true → a ≡ whole e
@@ -115,7 +117,7 @@ module _ {BlockReader : Type 0} (deepOf : BlockReader → ℕ) (sourceOf : Block
       -- u: the `~` between the halves
       module _ (more : leb c (at + k) ≡ false) (g : Half) (x : Progress) (zs : List (Operand BlockReader)) (v u : Bool) (q r : Waiting)
           (b : Carried BlockReader) (came : g ≡ a .applied .walked .half) (left : x ≡ a .applied .walked .progress) (gone : zs ≡ later a)
-          (first : v ≡ op (firstValuesOf deepOf sourceOf next zs)) (complement : u ≡ differ (g .complement) v)
+          (first : v ≡ op (firstValuesOf deepOf sourceOf endedOf next zs)) (complement : u ≡ differ (g .complement) v)
           (waited : q ≡ waitIn (a .applied .walked .waits) (p .count) (g .wrote) (g .skipped) (g .number))
           (ready : r ≡ pushAll (q .bytes) (q .count) (tildeIf u)) (both : b ≡ secondFrom zs k a x r) where
         -- with both halves walked
@@ -145,29 +147,32 @@ module _ {BlockReader : Type 0} (deepOf : BlockReader → ℕ) (sourceOf : Block
 
 -- ---- All inputs at edges ---------------------------------------------------------------------
 
--- no option is left, or no input is in its text
-module _ {BlockReader : Type 0} (deepOf : BlockReader → ℕ) (sourceOf : BlockReader → Source) (next : BlockReader → BlockReader) (hash : List ℕ → ℕ)
+-- no option is left, or no input is in its text and all words are covered
+module _ {BlockReader : Type 0} (deepOf : BlockReader → ℕ) (sourceOf : BlockReader → Source) (endedOf : BlockReader → Bool)
+    (next : BlockReader → BlockReader) (hash : List ℕ → ℕ)
     (op : List Bool → Bool) (c size i at m : ℕ) (fs : List (Operand BlockReader)) (μ : List (List ℕ)) (t : List WriterRecord)
     (out w : List ℕ) (progress : Progress) where
-  pub carry-edges : (d : ℕ) → (eqb d 0 || not (anyText fs)) ≡ true
-      → recalledOn (recallIn hash op size d i m (edgesOf deepOf sourceOf next fs) μ t out w progress) (readersOf fs)
-      ≡ carryIn deepOf sourceOf next hash op c size d i at m fs μ t out w progress
+  pub carry-edges : (d : ℕ) → (eqb d 0 || not (anyText fs || ltb c (at + 2 ^ d))) ≡ true
+      → recalledOn (recallIn hash op size d i m (edgesOf deepOf sourceOf endedOf next fs) μ t out w progress) (readersOf fs)
+      ≡ carryIn deepOf sourceOf endedOf next hash op c size d i at m fs μ t out w progress
   unfolding carryIn
   carry-edges zero h = refl
   carry-edges (suc d) h =
       let z = ne-eqb (suc d) 0 (λ e. omega (arith, e)) in
-      edges-suc deepOf sourceOf next hash op c size d i at m fs μ t out w progress
-      (not-true (anyText fs) (ap (λ (u : Bool). u || not (anyText fs)) (sym z) ∙ h))
+      edges-suc deepOf sourceOf endedOf next hash op c size d i at m fs μ t out w progress
+      (not-true (anyText fs || ltb c (at + 2 ^ suc d))
+      (ap (λ (u : Bool). u || not (anyText fs || ltb c (at + 2 ^ suc d))) (sym z) ∙ h))
 
 -- ---- The whole run ---------------------------------------------------------------------------
 
-module _ {BlockReader : Type 0} (deepOf : BlockReader → ℕ) (sourceOf : BlockReader → Source) (next : BlockReader → BlockReader) (hash : List ℕ → ℕ)
+module _ {BlockReader : Type 0} (deepOf : BlockReader → ℕ) (sourceOf : BlockReader → Source) (endedOf : BlockReader → Bool)
+    (next : BlockReader → BlockReader) (hash : List ℕ → ℕ)
     (op : List Bool → Bool) (n c size : ℕ) (fs : List (Operand BlockReader)) (μ : List (List ℕ)) (t : List WriterRecord) where
   -- the leading `~` and the walk; v: what the first word comes to
-  pub merge-correct : (x : Sent) (v : Bool) (m : Waiting) (y : Progress) (a : Carried BlockReader) → v ≡ op (firstValuesOf deepOf sourceOf next fs)
+  pub merge-correct : (x : Sent) (v : Bool) (m : Waiting) (y : Progress) (a : Carried BlockReader) → v ≡ op (firstValuesOf deepOf sourceOf endedOf next fs)
       → m ≡ pushAll (x .waits) 0 (tildeIf v) → y ≡ progressAfter x
-      → a ≡ carryIn deepOf sourceOf next hash op c size n 1 0 (m .count) fs μ t (x .output) (m .bytes) y
-      → finishIn n c (m .count) (a .applied) ≡ mergeNodesIn deepOf sourceOf next hash op n c size fs μ t x
+      → a ≡ carryIn deepOf sourceOf endedOf next hash op c size n 1 0 (m .count) fs μ t (x .output) (m .bytes) y
+      → finishIn n c (m .count) (a .applied) ≡ mergeNodesIn deepOf sourceOf endedOf next hash op n c size fs μ t x
   merge-correct x v m y a e p o q =
       ap (λ (a : Carried BlockReader). finishIn n c (m .count) (a .applied)) q
       ∙ ap (λ (y : Progress). walked m y) o
@@ -176,22 +181,22 @@ module _ {BlockReader : Type 0} (deepOf : BlockReader → ℕ) (sourceOf : Block
       walked : Waiting → Progress → Sent
       walked m y =
           finishIn n c (m .count)
-          (carryIn deepOf sourceOf next hash op c size n 1 0 (m .count) fs μ t (x .output) (m .bytes) y .applied)
+          (carryIn deepOf sourceOf endedOf next hash op c size n 1 0 (m .count) fs μ t (x .output) (m .bytes) y .applied)
 
   module _ (out w : List ℕ) (a : Waiting) (x : Sent) (pushed : a ≡ pushAll w 0 (head size))
       (sent : x ≡ sendText out (a .bytes) 0 (a .count)) where
-    begun : cond (x .full || eqb c 0) x (mergeNodesIn deepOf sourceOf next hash op n c size fs μ t x)
-        ≡ mergeIn deepOf sourceOf next hash op n c size fs μ t out w
+    begun : cond (x .full || eqb c 0) x (mergeNodesIn deepOf sourceOf endedOf next hash op n c size fs μ t x)
+        ≡ mergeIn deepOf sourceOf endedOf next hash op n c size fs μ t out w
     unfolding mergeIn
     begun =
-        ap (λ (x : Sent). cond (x .full || eqb c 0) x (mergeNodesIn deepOf sourceOf next hash op n c size fs μ t x))
+        ap (λ (x : Sent). cond (x .full || eqb c 0) x (mergeNodesIn deepOf sourceOf endedOf next hash op n c size fs μ t x))
         (sent ∙ ap (λ (a : Waiting). sendText out (a .bytes) 0 (a .count)) pushed)
 
     -- the size and its LF, and no more
-    pub merge-head : (x .full || eqb c 0) ≡ true → x ≡ mergeIn deepOf sourceOf next hash op n c size fs μ t out w
-    merge-head f = ap (λ (b : Bool). cond b x (mergeNodesIn deepOf sourceOf next hash op n c size fs μ t x)) (sym f) ∙ begun
+    pub merge-head : (x .full || eqb c 0) ≡ true → x ≡ mergeIn deepOf sourceOf endedOf next hash op n c size fs μ t out w
+    merge-head f = ap (λ (b : Bool). cond b x (mergeNodesIn deepOf sourceOf endedOf next hash op n c size fs μ t x)) (sym f) ∙ begun
 
     -- and the nodes
     pub merge-body : (x .full || eqb c 0) ≡ false
-        → mergeNodesIn deepOf sourceOf next hash op n c size fs μ t x ≡ mergeIn deepOf sourceOf next hash op n c size fs μ t out w
-    merge-body f = ap (λ (b : Bool). cond b x (mergeNodesIn deepOf sourceOf next hash op n c size fs μ t x)) (sym f) ∙ begun
+        → mergeNodesIn deepOf sourceOf endedOf next hash op n c size fs μ t x ≡ mergeIn deepOf sourceOf endedOf next hash op n c size fs μ t out w
+    merge-body f = ap (λ (b : Bool). cond b x (mergeNodesIn deepOf sourceOf endedOf next hash op n c size fs μ t x)) (sym f) ∙ begun

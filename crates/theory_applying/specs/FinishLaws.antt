@@ -17,12 +17,12 @@ use Rattle.theory_reading.specs.Bytes.{dot}
 use Rattle.theory_reading.specs.Nodes.{stamp}
 use Rattle.theory_writing.specs.UniqueTable.{start}
 use Rattle.theory_writing.specs.Texts.{tildeIf}
-use Rattle.theory_writing.specs.Run.{Input, runCovered, joint, head, runText, runOf, writtenBytes}
-use Rattle.theory_writing.specs.Inputs.{runCovered-most}
+use Rattle.theory_writing.specs.Run.{head, runText, writtenBytes}
 use Rattle.theory_writing.specs.Output.{written-length, written-all}
 use Rattle.theory_writing.specs.Online.{Went, waiting, online}
 use Rattle.theory_writing.specs.OnlineRuns.{cut, run-online, run-cut-online}
 use Rattle.theory_engine.specs.Streaming.{Wrote, start-stamp}
+use Rattle.theory_applying.specs.ApplyLaws.{jointly}
 use Rattle.theory_applying.specs.Operands.{Applied}
 use Rattle.theory_applying.specs.OperandLaws.{Cutly, cut-none}
 use Rattle.theory_applying.specs.Finishing.{sentBy}
@@ -34,44 +34,39 @@ fewer : (c e : ℕ) → c ≤ e → eqb c e ≡ false → c < e
 fewer c e l z = ⊎-elim (λ g. absurd (eqb-false c e z (omega (arith, l, g)))) (λ g. g) (decide-le e c)
 
 -- c: how many words the run covers
-module _ (op : List Bool → Bool) (n size c : ℕ) (xs : List Input) (e : c ≡ runCovered n xs) where
+module _ (op : List Bool → Bool) (n size c : ℕ) (xs : List (ℕ → Bool)) (e : c ≤ 2 ^ n) where
   -- what the walk begins with
   abbrev pub lead : List ℕ
-  lead = tildeIf (joint op xs 0)
+  lead = tildeIf (jointly op xs 0)
 
   -- the walk of Online
   abbrev pub walk : Went
-  walk = online size n 1 0 lead (joint op xs) start
-
-  -- by how many words are covered
-  text-covered : runOf op n size xs ≡ runText n size c (joint op xs)
-  unfolding runOf
-  text-covered = ap (λ (k : ℕ). runText n size k (joint op xs)) (sym e)
+  walk = online size n 1 0 lead (jointly op xs) start
 
   -- of a whole run
-  pub text-whole : c ≡ 2 ^ n → runOf op n size xs ≡ head size ++ ((walk .sent ++ waiting lead 1 walk) ++ (dot ∷ []))
-  text-whole h = text-covered ∙ ap (λ (k : ℕ). runText n size k (joint op xs)) h ∙ run-online n size (joint op xs)
+  pub text-whole : c ≡ 2 ^ n → runText n size c (jointly op xs) ≡ head size ++ ((walk .sent ++ waiting lead 1 walk) ++ (dot ∷ []))
+  text-whole h = ap (λ (k : ℕ). runText n size k (jointly op xs)) h ∙ run-online n size (jointly op xs)
 
   -- of a cut one
-  pub text-short : c < 2 ^ n → runOf op n size xs ≡ head size ++ cut c size n 1 0 lead (joint op xs) start
-  text-short l = text-covered ∙ run-cut-online n size c (joint op xs) l
+  pub text-short : c < 2 ^ n → runText n size c (jointly op xs) ≡ head size ++ cut c size n 1 0 lead (jointly op xs) start
+  text-short l = run-cut-online n size c (jointly op xs) l
 
   -- of one with no word covered
-  pub text-none : c ≡ 0 → runOf op n size xs ≡ head size
+  pub text-none : c ≡ 0 → runText n size c (jointly op xs) ≡ head size
   text-none z =
       text-short (omega (arith, z, pow-pos n))
-      ∙ ap (λ (l : List ℕ). head size ++ l) (cut-none c size n 1 0 lead (joint op xs) start (omega (arith, z)))
+      ∙ ap (λ (l : List ℕ). head size ++ l) (cut-none c size n 1 0 lead (jointly op xs) start (omega (arith, z)))
       ∙ append-nil (head size)
 
   -- not all words are covered
   pub covered-fewer : eqb c (2 ^ n) ≡ false → c < 2 ^ n
-  covered-fewer z = fewer c (2 ^ n) (omega (arith, e, runCovered-most n xs)) z
+  covered-fewer z = fewer c (2 ^ n) e z
 
   -- each begins with the size and its LF
-  pub text-begins : Begins (head size) (runOf op n size xs)
+  pub text-begins : Begins (head size) (runText n size c (jointly op xs))
   text-begins = go (eqb c (2 ^ n)) refl
     where
-      go : (u : Bool) → eqb c (2 ^ n) ≡ u → Begins (head size) (runOf op n size xs)
+      go : (u : Bool) → eqb c (2 ^ n) ≡ u → Begins (head size) (runText n size c (jointly op xs))
       go true z = (_, text-whole (eqb-true c (2 ^ n) z))
       go false z = (_, text-short (covered-fewer z))
 

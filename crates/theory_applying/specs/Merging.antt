@@ -14,16 +14,17 @@ use Rattle.theory_applying.specs.Finishing.{finishIn}
 use Rattle.theory_applying.specs.Carrying.{carryIn}
 use Rattle.node_records.specs.declared.WriterRecord.{WriterRecord}
 
--- deepOf, sourceOf, next: as in Operands
-module _ {BlockReader : Type 0} (deepOf : BlockReader → ℕ) (sourceOf : BlockReader → Source) (next : BlockReader → BlockReader) where
+-- deepOf, sourceOf, endedOf, next: as in Operands
+module _ {BlockReader : Type 0} (deepOf : BlockReader → ℕ) (sourceOf : BlockReader → Source) (endedOf : BlockReader → Bool)
+    (next : BlockReader → BlockReader) where
   -- after the size and its LF (x): the leading `~` and the outermost node; fs: the inputs there, μ: the memo, c: how many words are
   -- covered
   abbrev pub mergeNodesIn : (List ℕ → ℕ) → (List Bool → Bool) → ℕ → ℕ → ℕ → List (Operand BlockReader) → List (List ℕ)
       → List WriterRecord → Sent → Sent
   mergeNodesIn hash op n c size fs μ t x =
-      let m = pushAll (x .waits) 0 (tildeIf (op (firstValuesOf deepOf sourceOf next fs))) in
+      let m = pushAll (x .waits) 0 (tildeIf (op (firstValuesOf deepOf sourceOf endedOf next fs))) in
       finishIn n c (m .count)
-      (carryIn deepOf sourceOf next hash op c size n 1 0 (m .count) fs μ t (x .output) (m .bytes) (progressAfter x) .applied)
+      (carryIn deepOf sourceOf endedOf next hash op c size n 1 0 (m .count) fs μ t (x .output) (m .bytes) (progressAfter x) .applied)
 
   -- the stream of a run
   unfoldable pub mergeIn : (List ℕ → ℕ) → (List Bool → Bool) → ℕ → ℕ → ℕ → List (Operand BlockReader) → List (List ℕ) → List WriterRecord → List ℕ

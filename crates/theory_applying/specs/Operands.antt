@@ -1,6 +1,6 @@
 -- The inputs of a combiner and their texts: each stands at an edge of its table, or in its text at a block that a block reader has read.
 -- Definitions only; code mirrors them, and OperandLaws says where they stand. Assumes nothing.
-use mathlib.Core.Bool.{Bool, true, false, cond, _&&_, _||_}
+use mathlib.Core.Bool.{Bool, true, false, cond, _||_}
 use mathlib.Core.List.{List, [], _∷_}
 use Prim.Native.Nat.{ℕ, _+_}
 use lib.Dec.{eqb}
@@ -34,6 +34,10 @@ module _ {BlockReader : Type 0} where
   abbrev pub atEdge : Operand BlockReader → Source → Operand BlockReader
   atEdge f x = record { reader = f .reader; inText = false; number = x .number; complement = x .complement }
 
+  -- at the terminal, with its block reader kept
+  abbrev pub atTerminal : Operand BlockReader → Operand BlockReader
+  atTerminal f = record { reader = f .reader; inText = false; number = 0; complement = false }
+
   -- one of them is still in its text
   abbrev pub anyText : List (Operand BlockReader) → Bool
   anyText [] = false
@@ -64,8 +68,10 @@ module _ {BlockReader : Type 0} where
 
 -- ---- The halves of a part --------------------------------------------------------------------
 
--- deepOf: how many nodes are open around a block reader's block; sourceOf: the edge that stands for it; next: the block reader a block further
-module _ {BlockReader : Type 0} (deepOf : BlockReader → ℕ) (sourceOf : BlockReader → Source) (next : BlockReader → BlockReader) where
+-- deepOf: how many nodes are open around a block reader's block; sourceOf: the edge that stands for it; endedOf: reading has come to its end,
+-- and no block is there; next: the block reader a block further, or as it is where it has ended
+module _ {BlockReader : Type 0} (deepOf : BlockReader → ℕ) (sourceOf : BlockReader → Source) (endedOf : BlockReader → Bool)
+    (next : BlockReader → BlockReader) where
   -- the edge of an input in its block reader's table
   abbrev pub edgeOf : Operand BlockReader → Source
   edgeOf f = record { table = sourceOf (f .reader) .table; number = f .number; complement = f .complement }
@@ -75,9 +81,10 @@ module _ {BlockReader : Type 0} (deepOf : BlockReader → ℕ) (sourceOf : Block
   edgesOf [] = []
   edgesOf (f ∷ fs) = edgeOf f ∷ edgesOf fs
 
-  -- at a part of level i: a block as great as the part is an edge
+  -- at a part of level i: past the end of its text an input decides no; a block as great as the part is an edge
   abbrev pub settle : ℕ → Operand BlockReader → Operand BlockReader
-  settle i f = cond (f .inText && eqb (deepOf (f .reader) + 1) i) (atEdge f (sourceOf (f .reader))) f
+  settle i f =
+      cond (f .inText) (cond (endedOf (f .reader)) (atTerminal f) (cond (eqb (deepOf (f .reader) + 1) i) (atEdge f (sourceOf (f .reader))) f)) f
 
   -- at the two halves of a part of level i
   abbrev pub firstOperand : ℕ → Operand BlockReader → Operand BlockReader

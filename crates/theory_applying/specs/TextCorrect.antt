@@ -10,7 +10,7 @@ use Rattle.theory_engine.specs.Engine.{doneIn}
 use Rattle.theory_applying.specs.Operands.{Applied}
 use Rattle.theory_applying.specs.Finishing.{sentBy, finishIn}
 
--- not all inputs at edges: there is an option, and an input in its text
+-- not all inputs at edges, or not all words covered: there is an option, and one of these is so
 pub inside-option : (d : ℕ) (b : Bool) → (eqb d 0 || not b) ≡ false → 0 < d
 inside-option zero b h = absurd (true≢false h)
 inside-option (suc d) b h = omega arith

@@ -1,6 +1,6 @@
 -- A stream that is read block by block, as the combiner's code has it: a block reader for the walk over texts. Definitions only; BlockReaderLaws ties
 -- them to what the stream decides. Assumes nothing.
-use mathlib.Core.Bool.{true, false}
+use mathlib.Core.Bool.{Bool, true, false, cond}
 use mathlib.Core.List.{List}
 use Prim.Native.Nat.{ℕ}
 use Rattle.theory_applying.specs.Applying.{Source}
@@ -33,15 +33,19 @@ sourceOf τ =
       complement = τ .block .complement;
     }
 
--- a block further
+-- reading has come to its end, and no block is there
+abbrev pub endedOf : BlockReader → Bool
+endedOf τ = τ .block .halted
+
+-- a block further, unless it has ended
 abbrev pub nextReader : ℕ → BlockReader → BlockReader
-nextReader n τ = readerAt (τ .stream) (nextBlock n (τ .stream) (τ .block .cursor) (τ .table))
+nextReader n τ = cond (τ .block .halted) τ (readerAt (τ .stream) (nextBlock n (τ .stream) (τ .block .cursor) (τ .table)))
 
 -- at the first block of a stream, with the table lent
 abbrev pub firstReader : ℕ → List ℕ → List NodeRecord → BlockReader
 firstReader n s t = readerAt s (nextBlock n s firstCursor t)
 
--- an input at the outermost node, in its text unless its first block is all of it
+-- an input at the outermost node, in its text unless its first block is all of it, or it has none
 abbrev pub begunOperand : ℕ → List ℕ → List NodeRecord → Operand BlockReader
 begunOperand n s t =
-    settle deepOf sourceOf (nextReader n) 1 (record { reader = firstReader n s t; inText = true; number = 0; complement = false })
+    settle deepOf sourceOf endedOf (nextReader n) 1 (record { reader = firstReader n s t; inText = true; number = 0; complement = false })

@@ -4,7 +4,7 @@ use mathlib.Core.Path.{_≡_, refl, sym, ap, ap₂, _∙_, subst}
 use mathlib.Core.Bool.{Bool, cond}
 use mathlib.Core.List.{List, [], _∷_}
 use mathlib.Core.Option.{Option, none, some}
-use Prim.Native.Nat.{ℕ, min, _≤_, _<_, _^_}
+use Prim.Native.Nat.{ℕ, _≤_, _<_, _^_}
 use native.Mathlib.Omega.{arith}
 use lib.Dec.{eqb}
 use lib.ListN.{length, replicate}
@@ -14,12 +14,12 @@ use Rattle.theory_reading.specs.Causes.{optionCount, operatorCode, sizeToWrite,
 use Rattle.theory_reading.specs.Causes.{Result, refused, done, Refusal, refusal, gate, tableAfter, unlessRefused}
 use Rattle.theory_reading.specs.Reading.{Fault, reading}
 use Rattle.theory_reading.specs.Calls.{Checked, checkedOf, unlessFault, checkAnswer, Read, check}
+use Rattle.theory_reading.specs.Deciding.{decision}
 use Rattle.theory_reading.specs.Settled.{fault-leaves}
-use Rattle.theory_reading.specs.Covered.{covered, covered-most}
+use Rattle.theory_reading.specs.Covered.{covered}
 use Rattle.theory_reading.specs.CallLaws.{zeroes-table, zeroes-done}
-use Rattle.theory_writing.specs.Run.{runCovered, whole, inputEnded, outputFull, outputAfter, Answer, answerOf}
-use Rattle.theory_writing.specs.Inputs.{runCovered-two}
-use Rattle.theory_writing.specs.Calls.{inputOf, unlessFaults, combineText, combineAnswer, Combine, combine}
+use Rattle.theory_writing.specs.Run.{operate, runCovered, whole, inputEnded, outputFull, outputAfter, Answer, answerOf}
+use Rattle.theory_writing.specs.Calls.{unlessFaults, combineText, combineAnswer, Combine, combine}
 use Rattle.theory_engine.specs.Engine.{Sent}
 use Rattle.theory_engine.specs.Streaming.{Wrote}
 use Rattle.theory_engine.specs.WriteCorrect.{cleared-replicate}
@@ -33,29 +33,37 @@ use Rattle.node_records.specs.Records.{noRecord, noWriterRecord}
 abbrev pub inSecond : Refusal → Refusal
 inSecond f = refusal (f .cause) 2 (f .byte)
 
--- "then all of stream 1, then all of stream 2": the refusal, or the smaller covered count; c: that of stream 1
-abbrev pub afterFirst : ℕ → Result Checked → Result ℕ
-afterFirst c (refused f) = refused (inSecond f)
-afterFirst c (done y) = done (min c (y .covered))
+-- how many words each of them covers
+pub record BothCovered : Type 0 where
+  pub first : ℕ
+  pub second : ℕ
 
-abbrev pub bothIn : Result Checked → Result Checked → Result ℕ
+abbrev pub bothCovered : ℕ → ℕ → BothCovered
+bothCovered a b = record { first = a; second = b }
+
+-- "then all of stream 1, then all of stream 2": the refusal, or both covered counts; c: that of stream 1
+abbrev pub afterFirst : ℕ → Result Checked → Result BothCovered
+afterFirst c (refused f) = refused (inSecond f)
+afterFirst c (done y) = done (bothCovered c (y .covered))
+
+abbrev pub bothIn : Result Checked → Result Checked → Result BothCovered
 bothIn (refused f) b = refused f
 bothIn (done x) b = afterFirst (x .covered) b
 
 -- what it is, by the faults of the two streams
 both-faults : (f g : Option Fault) (a b : Checked)
     → bothIn (unlessFault 1 f (done a)) (unlessFault 1 g (done b))
-    ≡ unlessFault 1 f (unlessFault 2 g (done (min (a .covered) (b .covered))))
+    ≡ unlessFault 1 f (unlessFault 2 g (done (bothCovered (a .covered) (b .covered))))
 both-faults none none a b = refl
 both-faults none (some g) a b = refl
 both-faults (some f) g a b = refl
 
 -- a refusal is no answer
-never-done : {A : Type 0} (c : ℕ) (f : Refusal) → done c ≡ refused f → A
+never-done : {A B : Type 0} (c : B) (f : Refusal) → done c ≡ refused f → A
 never-done c f e = let z : _≡_ {A = ℕ} 0 1 = cc in absurd (omega arith)
 
 -- without a refusal neither has a fault
-both-clean : (f g : Option Fault) (c m : ℕ) → done c ≡ unlessFault 1 f (unlessFault 2 g (done m))
+both-clean : {A : Type 0} (f g : Option Fault) (c m : A) → done c ≡ unlessFault 1 f (unlessFault 2 g (done m))
     → (f ≡ none) × (g ≡ none) × (c ≡ m)
 both-clean none none c m e = (refl, refl, cc)
 both-clean none (some g) c m e = never-done c _ e
@@ -193,8 +201,11 @@ module _ (n op size : ℕ) (x y out : List ℕ) (t₁ t₂ : List NodeRecord) (t
   -- ---- Past the tests ------------------------------------------------------------------------
 
   -- what is answered without a fault
+  abbrev runCount : ℕ
+  runCount = runCovered (operate op) n (decision n x ∷ decision n y ∷ [])
+
   abbrev answer : Answer
-  answer = answerOf n (runCovered n (inputOf n x ∷ inputOf n y ∷ [])) (combineText n op size (x ∷ y ∷ [])) out
+  answer = answerOf n runCount (combineText n op size (x ∷ y ∷ [])) out
 
   module _ (few : n ≤ optionLimit) (code : op ≤ 15) (fits : size ≤ tableLimit) (room₁ : tableLimit ≤ length t₁) (room₂ : tableLimit ≤ length t₂)
       (room : tableLimit ≤ length t) where
@@ -217,7 +228,7 @@ module _ (n op size : ℕ) (x y out : List ℕ) (t₁ t₂ : List NodeRecord) (t
         (h₂ : record { answer = B; table = u₂ } ≡ check noRecord n y t₂) where
       -- the two checks together
       both-is : bothIn A B
-          ≡ unlessFault 1 (reading n x .fault) (unlessFault 2 (reading n y .fault) (done (min (covered n x) (covered n y))))
+          ≡ unlessFault 1 (reading n x .fault) (unlessFault 2 (reading n y .fault) (done (bothCovered (covered n x) (covered n y))))
       both-is =
           ap₂ bothIn (check-is n x t₁ u₁ A few room₁ h₁) (check-is n y t₂ u₂ B few room₂ h₂)
           ∙ both-faults (reading n x .fault) (reading n y .fault) _ _
@@ -225,14 +236,14 @@ module _ (n op size : ℕ) (x y out : List ℕ) (t₁ t₂ : List NodeRecord) (t
       -- their refusal keeps the output
       both-late : Late (bothIn A B)
       both-late =
-          subst Late (sym both-is) (fault-late n 1 x _ (fault-late n 2 y (done (min (covered n x) (covered n y))) tt))
+          subst Late (sym both-is) (fault-late n 1 x _ (fault-late n 2 y (done (bothCovered (covered n x) (covered n y))) tt))
 
       -- the answer is a refusal of the two checks, or that without a fault
       combine-is : answered answer (bothIn A B)
           ≡ combineAnswer n op size (x ∷ y ∷ []) out (length t₁ ∷ length t₂ ∷ length t ∷ [])
       combine-is =
           ap (answered answer) both-is
-          ∙ sym (answered-faults (min (covered n x) (covered n y)) answer (reading n x .fault) (reading n y .fault))
+          ∙ sym (answered-faults (bothCovered (covered n x) (covered n y)) answer (reading n x .fault) (reading n y .fault))
           ∙ sym combine-past
 
       -- with tables of zeros
@@ -280,20 +291,17 @@ module _ (n op size : ℕ) (x y out : List ℕ) (t₁ t₂ : List NodeRecord) (t
           combine-correct (refused f) (subst Late (sym e) both-late) (ap (answered answer) e) v₁ v₂ v
           (e₁ ∙ check-zero n x t₁ u₁ A few room₁ h₁) (e₂ ∙ check-zero n y t₂ u₂ B few room₂ h₂) e₃
 
-      -- neither stream has a fault: the smaller covered count is the run's
-      pub combine-clean : (c : ℕ) → done c ≡ bothIn A B
-          → (reading n x .fault ≡ none) × (reading n y .fault ≡ none) × (c ≡ runCovered n (inputOf n x ∷ inputOf n y ∷ []))
-      unfolding inputOf
-      combine-clean c e =
-          let k = both-clean (reading n x .fault) (reading n y .fault) c (min (covered n x) (covered n y)) (e ∙ both-is) in
-          (k .0, k .1, k .2 ∙ sym (runCovered-two n (inputOf n x) (inputOf n y) (covered-most n y)))
+      -- neither stream has a fault
+      pub combine-clean : (k : BothCovered) → done k ≡ bothIn A B
+          → (reading n x .fault ≡ none) × (reading n y .fault ≡ none) × (k ≡ bothCovered (covered n x) (covered n y))
+      combine-clean k e = both-clean (reading n x .fault) (reading n y .fault) k (bothCovered (covered n x) (covered n y)) (e ∙ both-is)
 
       -- the tables after the two checks
       pub combine-tables : (u₁ ≡ replicate (length t₁) noRecord) × (u₂ ≡ replicate (length t₂) noRecord)
       combine-tables = (check-zero n x t₁ u₁ A few room₁ h₁, check-zero n y t₂ u₂ B few room₂ h₂)
 
-      -- without a fault the answer is of what was sent
-      answer-is : (c : ℕ) → done c ≡ bothIn A B → (s : Sent) → Wrote out (combineText n op size (x ∷ y ∷ [])) s
+      -- without a fault the answer is of what was sent; c: how many words the run covers
+      answer-is : (c : ℕ) → c ≡ runCount → (s : Sent) → Wrote out (combineText n op size (x ∷ y ∷ [])) s
           → record {
             written = s .written;
             covered = c;
@@ -301,10 +309,10 @@ module _ (n op size : ℕ) (x y out : List ℕ) (t₁ t₂ : List NodeRecord) (t
           } ≡ answer
       answer-is c e s w =
           sent-answer n c (combineText n op size (x ∷ y ∷ [])) out s w
-          ∙ ap (λ (k : ℕ). answerOf n k (combineText n op size (x ∷ y ∷ [])) out) (combine-clean c e .2)
+          ∙ ap (λ (k : ℕ). answerOf n k (combineText n op size (x ∷ y ∷ [])) out) e
 
       -- then the stream is written and all tables are cleared
-      pub combine-finish : (c : ℕ) → done c ≡ bothIn A B → (s : Sent) → Wrote out (combineText n op size (x ∷ y ∷ [])) s
+      pub combine-finish : (k : BothCovered) → done k ≡ bothIn A B → (c : ℕ) → c ≡ runCount → (s : Sent) → Wrote out (combineText n op size (x ∷ y ∷ [])) s
           → (r : Answer) → r ≡ record {
             written = s .written;
             covered = c;
@@ -314,6 +322,6 @@ module _ (n op size : ℕ) (x y out : List ℕ) (t₁ t₂ : List NodeRecord) (t
           → record { answer = done r; first = v₁; second = v₂; third = v; output = s .output }
           ≡ combine noRecord noWriterRecord n op size x y out t₁ t₂ t
       unfolding unlessRefused
-      combine-finish c e s w r k v₁ v₂ v e₁ e₂ e₃ =
+      combine-finish k clean c e s w r re v₁ v₂ v e₁ e₂ e₃ =
           ap (λ (o : List ℕ). record { answer = done r; first = v₁; second = v₂; third = v; output = o }) (w .output)
-          ∙ combine-correct (done r) tt (ap done (k ∙ answer-is c e s w) ∙ ap (answered answer) e) v₁ v₂ v e₁ e₂ e₃
+          ∙ combine-correct (done r) tt (ap done (re ∙ answer-is c e s w) ∙ ap (answered answer) clean) v₁ v₂ v e₁ e₂ e₃

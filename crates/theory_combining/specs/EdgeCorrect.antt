@@ -10,7 +10,7 @@ use Rattle.theory_lists.specs.Lists.{differ}
 use Rattle.theory_reading.specs.Nodes.{Node, node}
 use Rattle.theory_writing.specs.Run.{digitAt}
 use Rattle.theory_applying.specs.Applying.{Source, firstSource, secondSource, fixed}
-use Rattle.theory_applying.specs.Operands.{Operand, atEdge, edgeOf, settle, firstOperand}
+use Rattle.theory_applying.specs.Operands.{Operand, atEdge, atTerminal, edgeOf, settle, firstOperand}
 use Rattle.work_table.specs.Table.{getIn}
 use Rattle.work_table.specs.TableLaws.{recordNode, tableOf, table-node}
 use Rattle.node_records.specs.Edges.{firstEdge, secondEdge}
@@ -76,31 +76,45 @@ module _ (t : List NodeRecord) (z i : ℕ) (x : Edge) (r : NodeRecord) (read : r
 
 -- ---- Where an input settles ------------------------------------------------------------------
 
-module _ {BlockReader : Type 0} (deepOf : BlockReader → ℕ) (sourceOf : BlockReader → Source) (next : BlockReader → BlockReader) (i : ℕ)
+module _ {BlockReader : Type 0} (deepOf : BlockReader → ℕ) (sourceOf : BlockReader → Source) (endedOf : BlockReader → Bool)
+    (next : BlockReader → BlockReader) (i : ℕ)
     (f : Operand BlockReader) where
+  -- by whether it is in its text, its text has ended, and its block is as great as the part
+  abbrev placed : Bool → Bool → Bool → Operand BlockReader
+  placed t u v = cond t (cond u (atTerminal f) (cond v (atEdge f (sourceOf (f .reader))) f)) f
+
   -- not in its text
-  pub settle-edge : f .inText ≡ false → f ≡ settle deepOf sourceOf next i f
-  settle-edge e = ap (λ (b : Bool). cond (b && eqb (deepOf (f .reader) + 1) i) (atEdge f (sourceOf (f .reader))) f) (sym e)
+  pub settle-edge : f .inText ≡ false → f ≡ settle deepOf sourceOf endedOf next i f
+  settle-edge e = ap (λ (t : Bool). placed t (endedOf (f .reader)) (eqb (deepOf (f .reader) + 1) i)) (sym e)
+
+  -- past the end of it
+  pub settle-ended : f .inText ≡ true → endedOf (f .reader) ≡ true → atTerminal f ≡ settle deepOf sourceOf endedOf next i f
+  settle-ended e h = ap₂ (λ (t u : Bool). placed t u (eqb (deepOf (f .reader) + 1) i)) (sym e) (sym h)
 
   -- in its text, at a smaller block
-  pub settle-inside : f .inText ≡ true → eqb (deepOf (f .reader) + 1) i ≡ false → f ≡ settle deepOf sourceOf next i f
-  settle-inside e h = ap₂ (λ (a b : Bool). cond (a && b) (atEdge f (sourceOf (f .reader))) f) (sym e) (sym h)
+  pub settle-inside : f .inText ≡ true → endedOf (f .reader) ≡ false → eqb (deepOf (f .reader) + 1) i ≡ false
+      → f ≡ settle deepOf sourceOf endedOf next i f
+  settle-inside e h g =
+      ap (λ (v : Bool). placed true false v) (sym g)
+      ∙ ap₂ (λ (t u : Bool). placed t u (eqb (deepOf (f .reader) + 1) i)) (sym e) (sym h)
 
   -- at one as great as the part
-  pub settle-here : f .inText ≡ true → eqb (deepOf (f .reader) + 1) i ≡ true
-      → atEdge f (sourceOf (f .reader)) ≡ settle deepOf sourceOf next i f
-  settle-here e h = ap₂ (λ (a b : Bool). cond (a && b) (atEdge f (sourceOf (f .reader))) f) (sym e) (sym h)
+  pub settle-here : f .inText ≡ true → endedOf (f .reader) ≡ false → eqb (deepOf (f .reader) + 1) i ≡ true
+      → atEdge f (sourceOf (f .reader)) ≡ settle deepOf sourceOf endedOf next i f
+  settle-here e h g =
+      ap (λ (v : Bool). placed true false v) (sym g)
+      ∙ ap₂ (λ (t u : Bool). placed t u (eqb (deepOf (f .reader) + 1) i)) (sym e) (sym h)
 
   -- at the first half of a part of level i: in its text, or at the edge x
-  pub first-inside : f .inText ≡ true → settle deepOf sourceOf next (i + 1) f ≡ firstOperand deepOf sourceOf next i f
+  pub first-inside : f .inText ≡ true → settle deepOf sourceOf endedOf next (i + 1) f ≡ firstOperand deepOf sourceOf endedOf next i f
   first-inside e =
-      ap (λ (b : Bool). cond b (settle deepOf sourceOf next (i + 1) f) (atEdge f (firstSource i (edgeOf deepOf sourceOf next f)))) (sym e)
+      ap (λ (b : Bool). cond b (settle deepOf sourceOf endedOf next (i + 1) f) (atEdge f (firstSource i (edgeOf deepOf sourceOf endedOf next f)))) (sym e)
 
-  pub first-edge : (x : Source) → f .inText ≡ false → x ≡ firstSource i (edgeOf deepOf sourceOf next f)
-      → atEdge f x ≡ firstOperand deepOf sourceOf next i f
+  pub first-edge : (x : Source) → f .inText ≡ false → x ≡ firstSource i (edgeOf deepOf sourceOf endedOf next f)
+      → atEdge f x ≡ firstOperand deepOf sourceOf endedOf next i f
   first-edge x e h =
       ap (atEdge f) h
-      ∙ ap (λ (b : Bool). cond b (settle deepOf sourceOf next (i + 1) f) (atEdge f (firstSource i (edgeOf deepOf sourceOf next f)))) (sym e)
+      ∙ ap (λ (b : Bool). cond b (settle deepOf sourceOf endedOf next (i + 1) f) (atEdge f (firstSource i (edgeOf deepOf sourceOf endedOf next f)))) (sym e)
 
 -- the second of two, if there is no more
 pub and-none : (b : Bool) → b ≡ (b && true)

@@ -8,3 +8,4 @@ pub mod EdgeCorrect
 pub mod CombineCorrect
 pub mod Merged
 pub mod Entering
+pub mod Called

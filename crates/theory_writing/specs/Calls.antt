@@ -9,10 +9,10 @@ use lib.ListN.{length, getD}
 use Rattle.theory_reading.specs.Limits.{tableLimit}
 use Rattle.theory_reading.specs.Bytes.{isDigit}
 use Rattle.theory_reading.specs.Causes.{operatorCode, sizeToWrite, Result, done, Test, test, atCall, gate, tableAfter, unlessRefused}
-use Rattle.theory_reading.specs.Deciding.{Decision, undecided, decided, decision}
+use Rattle.theory_reading.specs.Deciding.{decision}
 use Rattle.theory_reading.specs.Reading.{reading}
 use Rattle.theory_reading.specs.Calls.{manyOptions, shortTable, notTruthTable, wrongLength, unlessFault}
-use Rattle.theory_writing.specs.Run.{Input, runCovered, operate, runText, runOf, outputAfter, Answer, answerOf}
+use Rattle.theory_writing.specs.Run.{runCovered, operate, runText, runOf, outputAfter, Answer, answerOf}
 
 -- ---- Writing from a truth table --------------------------------------------------------------
 
@@ -66,29 +66,20 @@ unfolding reading
 unlessFaults n k [] x = x
 unlessFaults n k (s ∷ ss) x = unlessFault k (reading n s .fault) (unlessFaults n (suc k) ss x)
 
--- What a stream decides on a word that it covers. On the others it counts as no: that choice is free, no answer depends on it (`run-stable`).
-abbrev pub orNo : Decision → Bool
-orNo undecided = false
-orNo (decided d) = d
-
-unfoldable pub inputOf : ℕ → List ℕ → Input
-unfolding reading decision
-inputOf n s = record { covered = reading n s .state .covered; decides = λ w. orNo (decision n s w) }
-
 -- the text of combining streams by an operator
 unfoldable pub combineText : ℕ → ℕ → ℕ → List (List ℕ) → List ℕ
-unfolding runOf inputOf operate
-combineText n op size streams = runOf (operate op) n size (map (inputOf n) streams)
+unfolding runOf decision operate
+combineText n op size streams = runOf (operate op) n size (map (decision n) streams)
 
 abbrev pub shortTables : List ℕ → List Test
 shortTables records = map shortTable records
 
 -- records: of each work table lent
 unfoldable pub combineAnswer : ℕ → ℕ → ℕ → List (List ℕ) → List ℕ → List ℕ → Result Answer
-unfolding gate unlessFaults combineText runCovered inputOf answerOf isDigit
+unfolding gate unlessFaults combineText runCovered decision operate answerOf isDigit
 combineAnswer n op size streams out records =
     gate (manyOptions n ∷ largeOperator (length streams) op ∷ largeSize size ∷ shortTables records)
-    (unlessFaults n 1 streams (done (answerOf n (runCovered n (map (inputOf n) streams)) (combineText n op size streams) out)))
+    (unlessFaults n 1 streams (done (answerOf n (runCovered (operate op) n (map (decision n) streams)) (combineText n op size streams) out)))
 
 -- R: a record of the two tables for reading, S: one of the table for writing
 pub record Combine (R S : Type 0) : Type 0 where

@@ -1,16 +1,17 @@
 -- Written streams computed, beside those of `PaperCases`: document 01's example of a program, and rows that tell the definitions from near misses of
 -- them (the edits in must-fail/ each break one).
 use mathlib.Core.Path.{_≡_, refl}
-use mathlib.Core.Bool.{Bool, true, false, _&&_}
+use mathlib.Core.Bool.{Bool, true, false, cond, _&&_}
 use mathlib.Core.List.{[], _∷_}
 use Prim.Native.Nat.{ℕ, zero, suc, _+_, _/_, _%_, _^_}
-use lib.Dec.{leb, eqb}
+use lib.Dec.{leb, ltb, eqb}
 use Rattle.theory_reading.specs.Limits.{tableLimit}
 use Rattle.theory_reading.specs.Bytes.{text}
-use Rattle.theory_reading.specs.Causes.{operatorCode, sizeToWrite, notInTable, refused, done, refusal}
+use Rattle.theory_reading.specs.Causes.{operatorCode, sizeToWrite, wrongByte, notInTable, refused, done, refusal}
+use Rattle.theory_reading.specs.Deciding.{undecided, decided}
 use Rattle.theory_writing.specs.UniqueTable.{start}
 use Rattle.theory_writing.specs.Rules.{Text, number, one, two, part}
-use Rattle.theory_writing.specs.Run.{digitAt, operate, Input, runText, runOf, outputAfter, whole, inputEnded, outputFull, answerOf}
+use Rattle.theory_writing.specs.Run.{digitAt, operate, Input, runCovered, runText, runOf, outputAfter, whole, inputEnded, outputFull, answerOf}
 use Rattle.theory_writing.specs.Calls.{writeAnswer, combineAnswer}
 
 -- binary digit w of x: the decision at word w
@@ -65,19 +66,51 @@ covered-whole = refl
 
 -- ---- Runs over inputs ------------------------------------------------------------------------
 
--- an input of three options that covers c words
+-- an input that covers c words
 abbrev input : ℕ → ℕ → Input
-input c x = record { covered = c; decides = byNumber x }
+input c x w = cond (ltb w c) (decided (byNumber x w)) undecided
 
 -- the example of document 01's program: OR of `(0(0~0):1):2` and `(((0~0):1))`
 combined-whole : runOf (operate 14) 3 4 (input 8 192 ∷ input 8 170 ∷ []) ≡ text "4\n(((0~0):1)(1~0):2):3."
 unfolding runOf operate text
 combined-whole = refl
 
--- the smaller covered count
+-- OR: the first refuses word 5, which the second does not cover
 combined-cut : runOf (operate 14) 3 4 (input 8 192 ∷ input 5 170 ∷ []) ≡ text "4\n(((0~0):1"
 unfolding runOf operate text
 combined-cut = refl
+
+-- ---- Words that one rule settles alone (document 02, R-3) ------------------------------------
+
+-- AND 8 of an input that refuses words 0 to 5, beside one that covers nothing: they are settled, and word 6 is not.
+refused-settles : runCovered (operate 8) 3 (input 8 192 ∷ input 0 0 ∷ []) ≡ 6
+unfolding runCovered operate
+refused-settles = refl
+
+-- OR 14 of the same: word 0 is not settled
+admitted-settles : runCovered (operate 14) 3 (input 8 192 ∷ input 0 0 ∷ []) ≡ 0
+unfolding runCovered operate
+admitted-settles = refl
+
+-- OR of one that admits words 0 to 5
+others-settled : runCovered (operate 14) 3 (input 8 63 ∷ input 2 0 ∷ []) ≡ 6
+unfolding runCovered operate
+others-settled = refl
+
+-- "the least word": words 1 to 7 are settled, and do not count
+later-settled : runCovered (operate 8) 3 (input 8 1 ∷ input 0 0 ∷ []) ≡ 0
+unfolding runCovered operate
+later-settled = refl
+
+-- of three inputs, a AND b AND c: one that refuses is enough
+three-settled : runCovered (operate 128) 2 (input 0 0 ∷ input 3 0 ∷ input 1 1 ∷ []) ≡ 3
+unfolding runCovered operate
+three-settled = refl
+
+-- the text follows the count: the first refuses words 2 to 6, which the second does not cover, and the node of words 0 to 3 is released
+settled-text : runOf (operate 8) 3 4 (input 8 130 ∷ input 2 2 ∷ []) ≡ text "4\n(((0~0):1 0):2"
+unfolding runOf operate text
+settled-text = refl
 
 -- BUT 4: "decisions a, b give binary digit 2a + b", here digit 2
 first-but-not-second : operate 4 (true ∷ false ∷ []) ≡ true
@@ -114,6 +147,29 @@ above-combined : combineAnswer 0 14 769 (text "0\n0." ∷ text "0\n~0." ∷ []) 
     ≡ refused (refusal sizeToWrite 0 0)
 unfolding combineAnswer text
 above-combined = refl
+
+-- document 02, R-3, as settled: "Inputs vary independently where they are not covered, also if they are the same bytes": XOR 6 of `0/(0` with itself
+same-bytes : combineAnswer 2 6 0 (text "0\n(0" ∷ text "0\n(0" ∷ []) (text "..") (tableLimit ∷ tableLimit ∷ tableLimit ∷ [])
+    ≡ done (record { written = 2; covered = 2; ending = inputEnded })
+unfolding combineAnswer text
+same-bytes = refl
+
+-- "Cut inputs may give 'whole': operators 0 and 15 on two empty streams do."
+none-asked : combineAnswer 2 15 0 ([] ∷ [] ∷ []) (text ".....") (tableLimit ∷ tableLimit ∷ tableLimit ∷ [])
+    ≡ done (record { written = 5; covered = 4; ending = whole })
+unfolding combineAnswer text
+none-asked = refl
+
+-- "NOT (3, of the first) never waits for stream 2, but a fault in stream 2 is still given."
+second-not-asked : combineAnswer 1 3 0 (text "0\n(0~0)." ∷ [] ∷ []) (text "..........") (tableLimit ∷ tableLimit ∷ tableLimit ∷ [])
+    ≡ done (record { written = 9; covered = 2; ending = whole })
+unfolding combineAnswer text
+second-not-asked = refl
+
+second-not-asked-faulty : combineAnswer 1 3 0 (text "0\n(0~0)." ∷ text "0\n)" ∷ []) [] (tableLimit ∷ tableLimit ∷ tableLimit ∷ [])
+    ≡ refused (refusal wrongByte 2 2)
+unfolding combineAnswer text
+second-not-asked-faulty = refl
 
 -- number 1 is not in the table of stream 2
 second-stream : combineAnswer 3 14 4 (text "4\n(0(0~0):1):2." ∷ text "4\n(1)." ∷ []) [] (tableLimit ∷ tableLimit ∷ tableLimit ∷ [])

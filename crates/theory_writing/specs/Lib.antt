@@ -21,6 +21,7 @@ pub mod Stable
 pub mod Grows
 pub mod Output
 pub mod Inputs
+pub mod TwoInputs
 pub mod Decimal
 -- What a text means
 pub mod Meaning

@@ -1,13 +1,15 @@
--- A run: its inputs, its text, what a lent output gets of it, and the answer (document 01, "The written stream", from the operator on).
+-- A run: its inputs, its text, what a lent output gets of it, and the answer (document 01, "The written stream", from the operator on; the covered count
+-- by document 02, R-3).
 -- Assumes nothing.
 use mathlib.Core.Bool.{Bool, true, false, cond}
 use mathlib.Core.Option.{Option, none, some}
 use mathlib.Core.List.{List, [], _∷_, _++_}
-use Prim.Native.Nat.{ℕ, zero, suc, _+_, _*_, _/_, _%_, _^_, min}
+use Prim.Native.Nat.{ℕ, zero, suc, _+_, _*_, _/_, _%_, _^_}
 use lib.Dec.{ltb, leb, eqb}
 use lib.ListN.{length, take, drop}
-use Rattle.theory_lists.specs.Lists.{bit}
+use Rattle.theory_lists.specs.Lists.{bit, differ}
 use Rattle.theory_reading.specs.Bytes.{opener, dot, lineFeed}
+use Rattle.theory_reading.specs.Deciding.{Decision, undecided, decided}
 use Rattle.theory_writing.specs.UniqueTable.{start}
 use Rattle.theory_writing.specs.Rules.{Text, number, one, two, part}
 use Rattle.theory_writing.specs.Texts.{decimal, tildeIf, bytes, between}
@@ -26,24 +28,46 @@ operate op ds = eqb (op / 2 ^ digitAt ds % 2) 1
 
 -- ---- The inputs ------------------------------------------------------------------------------
 
--- An input: how many words it covers, and how it decides them
-pub record Input : Type 0 where
-  pub covered : ℕ
-  pub decides : ℕ → Bool
-
--- "The covered count of a run is the smaller of the two inputs'." Of any number of inputs it is the least, and 2 ^ n of none.
-unfoldable pub runCovered : ℕ → List Input → ℕ
-runCovered n [] = 2 ^ n
-runCovered n (x ∷ xs) = min (x .covered) (runCovered n xs)
+-- An input: yes, no or not covered, for each word
+abbrev pub Input : Type 0
+Input = ℕ → Decision
 
 -- what the inputs decide at word w, in their order
-abbrev pub decisions : List Input → ℕ → List Bool
+abbrev pub decisions : List Input → ℕ → List Decision
 decisions [] w = []
-decisions (x ∷ xs) w = x .decides w ∷ decisions xs w
+decisions (x ∷ xs) w = x w ∷ decisions xs w
+
+-- one result for both values of what is not covered
+abbrev pub agreed : Decision → Decision → Decision
+agreed undecided y = undecided
+agreed (decided a) undecided = undecided
+agreed (decided a) (decided b) = cond (differ a b) undecided (decided a)
+
+-- Document 02, R-3: "A word is settled when the operator gives one result for all values of what an input doesn't cover; that result is then what the
+-- operator decides". Undecided: the word is not settled. (Each input has its own values where it is not covered.)
+unfoldable pub outcome : (List Bool → Bool) → List Decision → Decision
+outcome op [] = decided (op [])
+outcome op (decided d ∷ ds) = outcome (λ vs. op (d ∷ vs)) ds
+outcome op (undecided ∷ ds) = agreed (outcome (λ vs. op (false ∷ vs)) ds) (outcome (λ vs. op (true ∷ vs)) ds)
 
 -- the operator taken word by word
-abbrev pub joint : (List Bool → Bool) → List Input → ℕ → Bool
-joint op inputs w = op (decisions inputs w)
+abbrev pub joint : (List Bool → Bool) → List Input → ℕ → Decision
+joint op inputs w = outcome op (decisions inputs w)
+
+-- the least one of the k words from w on that is not decided, one past them if all are
+unfoldable pub leastOpen : ℕ → Input → ℕ → ℕ
+leastOpen zero f w = w
+leastOpen (suc k) f w = elim (f w) [ undecided ↦ w | decided d ↦ leastOpen k f (w + 1) ]
+
+-- "the covered count of a run is the least word that is not settled, or 2^n"
+unfoldable pub runCovered : (List Bool → Bool) → ℕ → List Input → ℕ
+unfolding leastOpen outcome
+runCovered op n inputs = leastOpen (2 ^ n) (joint op inputs) 0
+
+-- What is decided; on a word that is not, it counts as no: that choice is free, nothing that is written depends on it (`run-stable`).
+abbrev pub orNo : Decision → Bool
+orNo undecided = false
+orNo (decided d) = d
 
 -- ---- The release of a text -------------------------------------------------------------------
 
@@ -105,7 +129,7 @@ runText n size c f =
 -- the text of a run over inputs, for an operator
 unfoldable pub runOf : (List Bool → Bool) → ℕ → ℕ → List Input → List ℕ
 unfolding runText runCovered
-runOf op n size inputs = runText n size (runCovered n inputs) (joint op inputs)
+runOf op n size inputs = runText n size (runCovered op n inputs) (λ w. orNo (joint op inputs w))
 
 -- ---- The output and the answer ---------------------------------------------------------------
 

@@ -1,2 +1,2 @@
-# crates/combiner/src/lib.rt
-/^fn ignores_first/,/^}/s/^    !differs(.*/    true/
+# crates/covering/src/lib.rt
+/^pub fn ignores_first/,/^}/s/^    !opens_first(op, true)/    true/

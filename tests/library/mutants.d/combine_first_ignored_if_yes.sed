@@ -1,2 +1,2 @@
-# crates/combiner/src/lib.rt
-/^fn ignores_first/,/^}/s/operate(op, true, false)) {/operate(op, false, false)) {/
+# crates/covering/src/lib.rt
+/^pub fn ignores_first/,/^}/s/opens_first(op, false)/false/

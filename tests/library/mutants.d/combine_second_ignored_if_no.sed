@@ -1,2 +1,2 @@
-# crates/combiner/src/lib.rt
-/^fn ignores_second/,/^}/s/^    !differs(.*/    true/
+# crates/covering/src/lib.rt
+/^pub fn ignores_second/,/^}/s/^    !opens_second(op, true)/    true/

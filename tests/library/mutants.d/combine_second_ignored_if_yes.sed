@@ -1,2 +1,2 @@
-# crates/combiner/src/lib.rt
-/^fn ignores_second/,/^}/s/operate(op, false, true)) {/operate(op, false, false)) {/
+# crates/covering/src/lib.rt
+/^pub fn ignores_second/,/^}/s/opens_second(op, false)/false/

@@ -1,9 +1,10 @@
 //! The cases of combining for a seed: those of `walk::generate`, all pairs of functions of two options with all
-//! operators, cuts at every byte, outputs of every length, refusals, faults in either stream and in both, many options,
-//! then random ones.
+//! operators, whole and cut at every byte, cuts of longer streams, outputs of every length, refusals, faults in either
+//! stream and in both, many options, then random ones.
 
 use crate::case::{Call, Case, Combine};
 use crate::streams::{changed, long_stream, stream_of, valid};
+use std::collections::BTreeSet;
 use walk::limits::{LEAST_RECORDS, MOST_SIZE};
 use walk::random::Random;
 use walk::reading::read;
@@ -14,8 +15,14 @@ use walk::writing::write_words;
 /// Of the functions of two options, sizes to write up to this one.
 const TWO_OPTION_SIZES: u32 = 4;
 
+/// Of the functions of two options that are cut, the table size of their streams.
+const CUT_SIZE: u64 = 1;
+
 /// Pairs of streams that are cut at each place.
 const EVERY_CUT: usize = 60;
+
+/// Pairs of streams of which both are cut at each place.
+const EVERY_TWO_CUTS: usize = 12;
 
 /// Texts that are written to outputs of every length.
 const EVERY_OUTPUT: usize = 60;
@@ -49,8 +56,12 @@ impl Combines {
             left: count,
         };
         combines.two_options();
+        combines.two_options_cut();
         for _ in 0..EVERY_CUT {
             combines.every_cut();
+        }
+        for _ in 0..EVERY_TWO_CUTS {
+            combines.every_two_cuts();
         }
         for _ in 0..EVERY_OUTPUT {
             combines.every_output();
@@ -142,6 +153,33 @@ impl Combines {
                     });
                     self.ready.push(combine(2, op, size, streams, 40));
                 }
+            }
+        }
+    }
+
+    /// Every beginning of every stream of a function of two options beside every other, with all operators
+    /// (document 02, R-3).
+    fn two_options_cut(&mut self) {
+        let beginnings = beginnings_of_two_options();
+        for one in &beginnings {
+            for two in &beginnings {
+                for op in 0..16 {
+                    let (size, streams) = (self.random.below(4), [one.clone(), two.clone()]);
+                    self.ready.push(combine(2, op, size as u32, streams, 40));
+                }
+            }
+        }
+    }
+
+    /// Both streams cut at every byte, each pair of cuts with some operator.
+    fn every_two_cuts(&mut self) {
+        let n = 1 + self.random.below(5) as u32;
+        let whole = [(); 2].map(|()| self.short(n, 40));
+        for one in 0..=whole[0].len() {
+            for two in 0..=whole[1].len() {
+                let streams = [whole[0][..one].to_vec(), whole[1][..two].to_vec()];
+                let (op, size) = (self.random.below(16) as u32, self.size());
+                self.ready.push(combine(n, op, size, streams, 600));
             }
         }
     }
@@ -299,6 +337,16 @@ impl Combines {
     fn output(&mut self, text: usize) -> usize {
         output_for(&mut self.random, text)
     }
+}
+
+/// All beginnings of the streams of the functions of two options, each once.
+fn beginnings_of_two_options() -> BTreeSet<Vec<u8>> {
+    let mut beginnings = BTreeSet::new();
+    for function in 0..16u32 {
+        let text = write_words(2, CUT_SIZE, |word| function >> word & 1 == 1).text;
+        beginnings.extend((0..=text.len()).map(|end| text[..end].to_vec()));
+    }
+    beginnings
 }
 
 /// Option counts that no stream has.

@@ -12,7 +12,7 @@ use walk::dense::{rule, selected, stream, stream_of_size, SIZES};
 use walk::diagrams::Diagrams;
 use walk::limits::LEAST_RECORDS;
 use walk::random::Random;
-use walk::run::operate;
+use walk::settled::outcome;
 use walk::shapes::{cut, small_size};
 
 /// Up to this option count all words are looked at.
@@ -121,16 +121,16 @@ fn decided(case: &Case, run: &Run, word: u64) -> Result<Option<bool>, String> {
     let Some(given) = decision(&run.bytes)? else {
         return Ok(None);
     };
-    let (Some(a), Some(b)) = (decision(&case.stream)?, decision(&of.second)?) else {
-        return Err(format!("word {word} is decided, but not by both streams"));
-    };
+    let (a, b) = (decision(&case.stream)?, decision(&of.second)?);
     if word >= run.covered {
         return Err(format!(
             "word {word} is decided, but not answered as covered"
         ));
     }
-    if given != operate(of.op.into(), a, b) {
-        return Err(format!("word {word} is decided as {given} for {a} and {b}"));
+    if outcome(of.op.into(), a, b) != Some(given) {
+        return Err(format!(
+            "word {word} is decided as {given} for {a:?} and {b:?}"
+        ));
     }
     Ok(Some(given))
 }

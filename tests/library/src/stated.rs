@@ -1,5 +1,5 @@
-//! Cases of combining whose answer is stated here: the examples of document 01 and its "Plausible but false", and such
-//! with more words than can be walked.
+//! Cases of combining whose answer is stated here: the examples of document 01 and its "Plausible but false", the
+//! settled readings of document 02, R-3, and such with more words than can be walked.
 
 use crate::case::{Call, Case};
 use crate::combines::{combine, MOST};
@@ -55,7 +55,7 @@ type Row = (
     u32,
 );
 
-const WRITTEN: [Row; 24] = [
+const WRITTEN: [Row; 33] = [
     ("P1", [0, 8, 0], ["0/0.", "0/0."], "0/0.", 1, WHOLE),
     (
         "P2",
@@ -241,12 +241,90 @@ const WRITTEN: [Row; 24] = [
         2,
         INPUT_ENDED,
     ),
+    (
+        "R-3: the same bytes vary independently",
+        [2, 6, 0],
+        ["0/(0", "0/(0"],
+        "0/",
+        2,
+        INPUT_ENDED,
+    ),
+    (
+        "R-3: operator 0 asks nothing",
+        [2, 0, 0],
+        ["", ""],
+        "0/0.",
+        4,
+        WHOLE,
+    ),
+    (
+        "R-3: operator 15 asks nothing",
+        [2, 15, 0],
+        ["", ""],
+        "0/~0.",
+        4,
+        WHOLE,
+    ),
+    (
+        "R-3: NOT never waits for stream 2",
+        [1, 3, 1],
+        ["0/(0~0).", ""],
+        "1/~(0~0):1.",
+        2,
+        WHOLE,
+    ),
+    (
+        "R-3: AND, refused by stream 1",
+        [2, 8, 4],
+        ["0/(0~0).", ""],
+        "4/",
+        2,
+        INPUT_ENDED,
+    ),
+    (
+        "R-3: AND, refused by stream 2",
+        [2, 8, 4],
+        ["0/(0", "0/0."],
+        "4/0.",
+        4,
+        WHOLE,
+    ),
+    (
+        "R-3: OR, admitted by stream 2",
+        [2, 14, 4],
+        ["", "0/~(0~0)."],
+        "4/",
+        2,
+        INPUT_ENDED,
+    ),
+    (
+        "R-3: later words that are settled do not count",
+        [2, 8, 0],
+        ["0/~((0~0)~0).", ""],
+        "0/",
+        0,
+        INPUT_ENDED,
+    ),
+    (
+        "R-3: the text follows the count",
+        [3, 8, 4],
+        ["1/(((0~0):1 0)(0~0)).", "1/(((0~0):1"],
+        "4/(((0~0):1 0):2",
+        6,
+        INPUT_ENDED,
+    ),
 ];
 
 /// Name; n, operator, size; both streams; cause, stream, byte.
 type Refused = (&'static str, [u32; 3], [&'static str; 2], [u32; 3]);
 
-const REFUSED: [Refused; 9] = [
+const REFUSED: [Refused; 10] = [
+    (
+        "R-3: a fault in a stream that is not asked",
+        [1, 3, 0],
+        ["0/(0~0).", "0/)"],
+        [7, 2, 2],
+    ),
     ("33 options", [33, 16, MOST + 1], ["x", "x"], [1, 0, 0]),
     ("operator 16", [32, 16, MOST + 1], ["x", "x"], [2, 0, 0]),
     ("size too large", [32, 15, MOST + 1], ["x", "x"], [3, 0, 0]),

@@ -11,7 +11,7 @@
 
 use crate::diagrams::{Diagrams, Edge, Function, CONSTANT};
 use crate::reading::Reading;
-use crate::run::covered_by_both;
+use crate::settled::covered_by_run;
 use crate::table::Standing;
 use crate::writing::{ends_in_digit, heading};
 use std::collections::BTreeMap;
@@ -29,7 +29,7 @@ pub fn combined_text(
     let (one, two) = (diagrams.of_reading(first), diagrams.of_reading(second));
     let both = diagrams.combine(operator, one, two);
     // Words that are not covered are taken as no: "later words can't change that beginning".
-    let covered = covered_by_both(first, second);
+    let covered = covered_by_run(operator, first, second);
     let before = diagrams.before(first.options, covered);
     let both = diagrams.combine(8, both, before);
     text(&diagrams, first.options, size, both, covered, most)

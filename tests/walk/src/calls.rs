@@ -9,7 +9,8 @@ use crate::deciding::{truth_digit, truth_table};
 use crate::limits::*;
 use crate::reading::{read, Reading};
 use crate::refusal::Refusal;
-use crate::run::{combined_text, covered_by_both, put_out, Written};
+use crate::run::{combined_text, put_out, Written};
+use crate::settled::covered_by_run;
 use crate::writing::write_words;
 
 /// A lent work table.
@@ -151,7 +152,7 @@ pub fn combine(
     let first = read_stream(options, 1, streams[0])?;
     let second = read_stream(options, 2, streams[1])?;
     let text = combined_text(operator, size, &first, &second, output.len());
-    let covered = covered_by_both(&first, &second);
+    let covered = covered_by_run(operator, &first, &second);
     Ok(put_out(options, covered, &text, output))
 }
 

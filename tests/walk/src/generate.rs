@@ -23,6 +23,7 @@ pub fn cases(seed: u64, count: usize) -> Vec<Case> {
     cases.extend(order_cases());
     cases.extend(queue_cases());
     cases.extend(next_cases());
+    cases.extend(alone_cases());
     cases.extend(job_cases());
     cases.extend(draw.every_cut());
     cases.extend(draw.every_output());
@@ -60,6 +61,9 @@ pub const MARKED: [(u64, &str); 12] = [
 
 /// The example of "Program".
 pub const JOB: &str = "3 OR 4/4/(0(0~0):1):2./4/(((0~0):1))./";
+
+/// The same, of which the second stream has come as far as four words.
+const CUT_JOB: &str = "3 OR 4/4/(0(0~0):1):2./4/(((0~0):1)";
 
 /// The readings of document 01 that are settled, and their neighbours: option count and stream.
 pub const SETTLED: [(u64, &str); 60] = [
@@ -529,6 +533,40 @@ fn next_cases() -> Vec<Case> {
         (0..=1 << n).map(move |word| next(n, stream.clone(), word))
     };
     NEXT.into_iter().flat_map(asked).collect()
+}
+
+/// What document 02, R-3, is read as: option count and streams, with each operator.
+pub const ALONE: [(u64, &str, &str); 12] = [
+    // The same bytes, which vary independently where they are not covered.
+    (2, "0/(0", "0/(0"),
+    // Neither stream covers a word.
+    (2, "", ""),
+    // Stream 2 covers nothing, and is faulty.
+    (1, "0/(0~0).", ""),
+    (1, "0/(0~0).", "0/)"),
+    // Constants beside cut streams.
+    (2, "0/0.", "0/(0"),
+    (2, "0/(0", "0/~0."),
+    (2, "", "0/~(0~0)."),
+    // Later words that are settled.
+    (2, "0/~((0~0)~0).", ""),
+    // The cut stream's end is inside a part that the other passes over.
+    (3, "4/(0(0~0):1):2.", "4/(((0~0):1)"),
+    (3, "1/(((0~0):1 0)(0~0)).", "1/(((0~0):1"),
+    (3, "2/((0 (0~0):1)~0).", "2/(((0~0):1 0)"),
+    // Both end, one before the other.
+    (3, "1/(((0~0):1 0)(0", "1/((0~0"),
+];
+
+fn alone_cases() -> Vec<Case> {
+    let operated = |(n, one, two): (u64, &str, &str)| {
+        let (one, two) = (shown(one), shown(two));
+        (0..16).map(move |op| combine(n, op, 2, one.clone(), two.clone(), 30))
+    };
+    let joined = OPERATORS.map(|(name, _)| Case::Join {
+        input: shown(&CUT_JOB.replace("OR", name)),
+    });
+    ALONE.into_iter().flat_map(operated).chain(joined).collect()
 }
 
 /// `depth` stored nodes, each with the one before as both children: none of them changes a

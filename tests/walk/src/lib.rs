@@ -15,7 +15,8 @@
 //! - `deciding`: one word, one block, a truth table ("A stream that stops early");
 //! - `next`: the next admitted word (document 02, R-1);
 //! - `writing`: rules 1 to 5 and the queue ("The written stream");
-//! - `run`: covered count, released text, clipping, ending ("The written stream");
+//! - `settled`: settled words, the covered count of a run (document 02, R-3);
+//! - `run`: released text, clipping, ending ("The written stream");
 //! - `cached`, over the functions of `diagrams`: the text of a run with no walk over all words;
 //! - `calls`: each call with its refusals and every lent slice ("Turned down");
 //! - `join`: the program ("Program").
@@ -38,6 +39,7 @@ pub mod reader;
 pub mod reading;
 pub mod refusal;
 pub mod run;
+pub mod settled;
 pub mod shapes;
 pub mod table;
 pub mod writing;

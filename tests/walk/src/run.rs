@@ -1,8 +1,9 @@
-//! A run (document 01, "The written stream"): operator, covered count, the text that is released,
-//! clipping to the output, ending.
+//! A run (document 01, "The written stream"): operator, the text that is released, clipping to the
+//! output, ending. `settled` has the covered count.
 
 use crate::cached;
 use crate::reading::Reading;
+use crate::settled::{covered_by_run, outcome, settled};
 use crate::writing::{heading, write_blocks, write_words, WholeStream};
 
 /// Up to this option count a run walks all words; above it, functions (see `cached`). Both give the
@@ -29,11 +30,6 @@ pub fn operate(operator: u64, a: bool, b: bool) -> bool {
     (operator >> (2 * u64::from(a) + u64::from(b))) & 1 == 1
 }
 
-/// "The covered count of a run is the smaller of the two inputs'."
-pub fn covered_by_both(first: &Reading, second: &Reading) -> u64 {
-    first.covered.min(second.covered)
-}
-
 /// The text of combining two streams that were read with one option count; with many options, of a
 /// text of more than `most` bytes at least its first `most` + 1.
 pub fn combined_text(
@@ -48,7 +44,8 @@ pub fn combined_text(
         return cached::combined_text(operator, size, first, second, most);
     }
     let whole = combine_words(operator, size, first, second, false);
-    released(options, size, covered_by_both(first, second), whole)
+    let covered = covered_by_run(operator, first, second);
+    released(options, size, covered, whole)
 }
 
 /// The walk over all words. Words that are not covered are taken as `later`: "later words can't
@@ -60,10 +57,10 @@ pub fn combine_words(
     second: &Reading,
     later: bool,
 ) -> WholeStream {
-    let covered = covered_by_both(first, second);
+    let covered = covered_by_run(operator, first, second);
     write_words(first.options, size, |word| {
         if word < covered {
-            operate(operator, first.decision(word), second.decision(word))
+            settled(operator, first, second, word).expect("the words before it are settled")
         } else {
             later
         }
@@ -73,32 +70,53 @@ pub fn combine_words(
 /// The same, where a block that both inputs decide at once is one step, for many options and few
 /// blocks.
 pub fn combine_blocks(operator: u64, size: u64, first: &Reading, second: &Reading) -> WholeStream {
+    let covered = covered_by_run(operator, first, second);
     write_blocks(first.options, size, |level, word| {
-        block(operator, first, second, level, word)
+        block(operator, covered, first, second, level, word)
     })
 }
 
-/// The decision of a block, if both inputs decide it at once; later words are taken as no.
-fn block(operator: u64, first: &Reading, second: &Reading, level: u32, word: u64) -> Option<bool> {
-    let covered = covered_by_both(first, second);
+/// The decision of a block, if both inputs decide it at once or do not cover it; later words are
+/// taken as no.
+fn block(
+    operator: u64,
+    covered: u64,
+    first: &Reading,
+    second: &Reading,
+    level: u32,
+    word: u64,
+) -> Option<bool> {
     let words = 1u64 << (first.options + 1 - level);
     if word >= covered {
         Some(false)
     } else if word + words > covered {
         None
     } else {
-        let a = first.block_decision(level, word)?;
-        let b = second.block_decision(level, word)?;
-        Some(operate(operator, a, b))
+        let a = block_of_input(first, level, word)?;
+        let b = block_of_input(second, level, word)?;
+        Some(outcome(operator, a, b).expect("the words before the covered count are settled"))
+    }
+}
+
+/// Yes, no or not covered for all words of a block, if one of them holds for all.
+fn block_of_input(input: &Reading, level: u32, word: u64) -> Option<Option<bool>> {
+    let words = 1u64 << (input.options + 1 - level);
+    if word >= input.covered {
+        Some(None)
+    } else if word + words > input.covered {
+        None
+    } else {
+        input.block_decision(level, word).map(Some)
     }
 }
 
 /// How many blocks the walk of `combine_blocks` has, if at most `most`.
-pub fn count_blocks(first: &Reading, second: &Reading, most: u64) -> Option<u64> {
+pub fn count_blocks(operator: u64, first: &Reading, second: &Reading, most: u64) -> Option<u64> {
+    let covered = covered_by_run(operator, first, second);
     let mut waiting = vec![(1u32, 0u64)];
     let mut blocks = 0;
     while let Some((level, word)) = waiting.pop() {
-        if block(0, first, second, level, word).is_some() {
+        if block(operator, covered, first, second, level, word).is_some() {
             blocks += 1;
             if blocks > most {
                 return None;

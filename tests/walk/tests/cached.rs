@@ -7,18 +7,26 @@ use walk::functions::{busy_function, random_function};
 use walk::random::Random;
 use walk::reading::{read, Reading};
 use walk::run::*;
+use walk::settled::*;
 use walk::shapes::{cut, shaped, written};
 use walk::writing::write_words;
 
 /// The text of a run by the walk over all words.
 fn plain(operator: u64, size: u64, one: &Reading, two: &Reading) -> Vec<u8> {
     let whole = combine_words(operator, size, one, two, false);
-    released(one.options, size, covered_by_both(one, two), whole)
+    released(
+        one.options,
+        size,
+        covered_by_words(operator, one, two),
+        whole,
+    )
 }
 
 /// Both give the same text, whole and clipped.
 fn same(random: &mut Random, operator: u64, size: u64, one: &Reading, two: &Reading) {
     let due = plain(operator, size, one, two);
+    let covered = covered_by_words(operator, one, two);
+    assert_eq!(covered_by_functions(operator, one, two), covered);
     let text = cached::combined_text(operator, size, one, two, usize::MAX);
     assert_eq!(due, text);
     let most = random.index(due.len() + 2);
@@ -157,12 +165,12 @@ fn many_options() {
         let (operator, size) = (round % 16, random.pick(&SIZES));
         let text = cached::combined_text(operator, size, &one, &two, 65_536);
         let reading = read(32, &text).expect("what was written is taken");
-        assert!(reading.covered <= covered_by_both(&one, &two));
+        assert!(reading.covered <= covered_by_run(operator, &one, &two));
         for place in 0..200 {
             let word = random.below(reading.covered >> (place % 33));
             if word < reading.covered {
-                let decision = operate(operator, one.decision(word), two.decision(word));
-                assert_eq!(reading.decision(word), decision);
+                let decision = settled(operator, &one, &two, word);
+                assert_eq!(Some(reading.decision(word)), decision);
             }
         }
     }

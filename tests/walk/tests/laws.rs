@@ -12,6 +12,7 @@ use walk::reader::{Reader, Step};
 use walk::reading::{read, Reading};
 use walk::refusal::Fault;
 use walk::run::*;
+use walk::settled::*;
 use walk::shapes::{cut, shaped, written};
 use walk::writing::{write_words, WholeStream};
 
@@ -211,7 +212,7 @@ fn later_words_and_blocks() {
         }
         let [one, two] = streams.map(|stream| read(n, &stream).expect("taken"));
         let (operator, size) = (random.below(16), random.below(8));
-        let covered = covered_by_both(&one, &two);
+        let covered = covered_by_run(operator, &one, &two);
         let text = combined_text(operator, size, &one, &two, usize::MAX);
         let later = combine_words(operator, size, &one, &two, true);
         assert_eq!(released(n, size, covered, later), text);
@@ -221,7 +222,7 @@ fn later_words_and_blocks() {
         let other = random_function(&mut random, n);
         let any = write_words(n, size, |word| {
             if word < covered {
-                operate(operator, one.decision(word), two.decision(word))
+                settled(operator, &one, &two, word).expect("settled")
             } else {
                 other[word as usize]
             }
@@ -241,7 +242,7 @@ fn many_options() {
         let [one, two] = [0, 1].map(|index: usize| read(n, &streams[index]).expect("taken"));
         let (operator, size) = (random.below(16), random.below(8));
         let text = combined_text(operator, size, &one, &two, 65_536);
-        if count_blocks(&one, &two, 2_000).is_some() {
+        if count_blocks(operator, &one, &two, 2_000).is_some() {
             met += 1;
             let blocks = combine_blocks(operator, size, &one, &two);
             assert_eq!(blocks.text, text);
@@ -290,8 +291,8 @@ fn decides_as_the_operator(
     assert!(reading.covered <= written.covered);
     assert!(reading.covered == written.covered || written.ending != Ending::Whole);
     for word in 0..reading.covered {
-        let decision = operate(operator, one.decision(word), two.decision(word));
-        assert_eq!(reading.decision(word), decision);
+        let decision = settled(operator, one, two, word);
+        assert_eq!(Some(reading.decision(word)), decision);
     }
 }
 

@@ -354,6 +354,11 @@ fn refusals_of_combine_in_order() {
         refusal(32, 15, MOST_SIZE, LEAST_RECORDS, b"0", b"y"),
         (7, 2, 0)
     );
+    // Document 02, R-3: "A refusal in either stream is still given", also where it is not asked.
+    assert_eq!(
+        refusal(1, 3, 0, LEAST_RECORDS, b"0\n(0~0).", b"0\n)"),
+        (7, 2, 2)
+    );
 }
 
 #[test]
@@ -366,9 +371,36 @@ fn released_text() {
     assert_eq!(run(3, 12, 4, "1/~((0", "0/0."), ended("4/", 2));
     let given = run(2, 12, 4, "1/~((0~0)", "0/0.");
     assert_eq!(given, ended("4/~((0~0):1", 2));
-    // The smaller covered count, of either input.
-    assert_eq!(run(2, 8, 4, "0/0.", "0/(0"), ended("4/", 2));
-    assert_eq!(run(2, 8, 4, "", "0/0."), ended("4/", 0));
+}
+
+/// Document 02, R-3: "the covered count of a run is the least word that is not settled, or 2^n".
+#[test]
+fn settled_words() {
+    let ended = |text: &str, covered| (text.to_string(), covered, Ending::InputEnded);
+    let whole = |text: &str, covered| (text.to_string(), covered, Ending::Whole);
+    // "With AND, a word that one rule refuses is settled though the other rule's transfer hasn't
+    // come so far": of either rule.
+    assert_eq!(run(2, 8, 4, "0/0.", "0/(0"), whole("4/0.", 4));
+    assert_eq!(run(2, 8, 4, "", "0/0."), whole("4/0.", 4));
+    assert_eq!(run(2, 8, 4, "0/(0~0).", ""), ended("4/", 2));
+    assert_eq!(run(2, 8, 4, "", "0/(0~0)."), ended("4/", 2));
+    // With OR a word that one rule admits.
+    assert_eq!(run(2, 14, 4, "0/~0.", "0/(0"), whole("4/~0.", 4));
+    assert_eq!(run(2, 14, 4, "0/0.", "0/(0"), ended("4/", 2));
+    assert_eq!(run(2, 14, 4, "", "0/~(0~0)."), ended("4/", 2));
+    // The text follows the count: words 2 to 5 are refused by the first rule alone.
+    let (one, two) = ("1/(((0~0):1 0)(0~0)).", "1/(((0~0):1");
+    assert_eq!(run(3, 8, 4, one, two), ended("4/(((0~0):1 0):2", 6));
+    // "So operators 0 and 15 always cover everything".
+    assert_eq!(run(2, 0, 0, "", ""), whole("0/0.", 4));
+    assert_eq!(run(2, 15, 0, "", ""), whole("0/~0.", 4));
+    // "NOT ignores stream 2's length".
+    assert_eq!(run(1, 3, 1, "0/(0~0).", ""), whole("1/~(0~0):1.", 2));
+    // "Inputs vary independently where they are not covered, also if they are the same bytes".
+    assert_eq!(run(2, 6, 0, "0/(0", "0/(0"), ended("0/", 2));
+    // "The covered count is the LEAST word that is not settled; later words that are settled do
+    // not count."
+    assert_eq!(run(2, 8, 0, "0/~((0~0)~0).", ""), ended("0/", 0));
 }
 
 #[test]

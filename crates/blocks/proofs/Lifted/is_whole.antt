@@ -1,5 +1,5 @@
 -- Generated: what callers cite of is_whole.
--- From 8c6b66533af4a33b, as e051fe97bc5c6c08.
+-- From 9d7fbd44082f02c4, as e051fe97bc5c6c08.
 use Rattle.node_records.proofs.Tables.NodeRecord as NodeRecordT
 use Rattle.reader.proofs.Reached
 use Rattle.reader.proofs.Reached.Laws

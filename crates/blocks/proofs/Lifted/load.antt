@@ -1,5 +1,5 @@
 -- Generated: what callers cite of load.
--- From 8c6b66533af4a33b, as e8563fc83e51ef9c.
+-- From 9d7fbd44082f02c4, as e8563fc83e51ef9c.
 use Rattle.blocks.proofs.Loaded
 use Rattle.blocks.proofs.Loaded.Laws
 use Rattle.node_records.proofs.Tables.NodeRecord as NodeRecordT

@@ -2,6 +2,7 @@
 -- Assumes nothing.
 mod Lts
 mod Tie
+use mathlib.Core.Path.{_∙_}
 use native.Mathlib.Omega.{arith}
 use Rattle.blocks.specs.Load.{load-options, load-table, load-correct}
 use borrow.Author.Needs.{needs}
@@ -31,42 +32,26 @@ first-cursor-requires c κs = search needs
 read-on-requires : tie.Need-read-on-requires
 read-on-requires c κs = search needs
 
-is-whole-requires : tie.Need-is-whole-requires
-is-whole-requires c κs = search needs
-
-block-of-requires : tie.Need-block-of-requires
-block-of-requires c κs = search needs
-
-checked-at-requires : tie.Need-checked-at-requires
-checked-at-requires c κs = search needs
+loaded-at-requires : tie.Need-loaded-at-requires
+loaded-at-requires c κs = search needs
 
 same-length : tie.Need-same-length
-same-length c = search needs
+same-length c =
+    let c4 = c .before .before .before .before in
+    c .t2 .given ∙ c4 .t .given
 
 returns-3 : tie.Need-returns-3
 returns-3 c =
-    let a = c .before .before .before .before .before .before .before .before .before .before .before .before .before .args in
-    let if1 = c .before .before .before .before .before .before .before .before .before .before .before .if1 in
-    let if2 = c .before .before .before .before .before .before .before .before .before .before .if2 in
-    let firstcursor = c .before .before .before .before .before .before .before .first-cursor in
-    let readon = c .before .before .before .before .before .before .read-on in
-    let iswhole = c .before .before .before .is-whole in
-    load-correct (a .n) (a .s .now) (a .t .now) (omega (arith, if1 .left)) (omega (arith, if2 .left)) (firstcursor .result) (firstcursor .ensures) _ _
-    (readon .ensures)
-    _ (c .before .block-of .ensures) _ (c .checked-at .ensures) _ (iswhole .ensures)
+    let c1 = c .before in
+    let c5 = c1 .before .before .before .before in
+    let c6 = c5 .before in
+    let c9 = c6 .before .before .before in
+    let c10 = c9 .before in
+    let a = c10 .before .before .args in
+    load-correct (a .n) (a .s .now) (a .t .now) (omega (arith, c10 .if1 .left)) (omega (arith, c9 .if2 .left)) (c6 .first-cursor .result)
+    (c6 .first-cursor .ensures) _ _ (c5 .read-on .ensures) _ (c1 .loaded-at .ensures)
 
 pub load-spec : {M : Type 1} → statement M
 load-spec =
-    tie.close
-    (tie.spec
-    not-loaded-requires
-    returns
-    not-loaded-requires-2
-    returns-2
-    first-cursor-requires
-    read-on-requires
-    is-whole-requires
-    block-of-requires
-    checked-at-requires
-    same-length
-    returns-3)
+    tie.close (tie.spec not-loaded-requires returns not-loaded-requires-2 returns-2 first-cursor-requires read-on-requires loaded-at-requires
+    same-length returns-3)

@@ -1,5 +1,5 @@
 -- Generated: what callers cite of find_next.
--- From 4b098d8b5bc2dd43, as ff3f99126e741792.
+-- From 4c6c92dac9b25b75, as ff3f99126e741792.
 use Rattle.answers.proofs.Finding
 use Rattle.answers.proofs.Finding.Laws
 use Rattle.node_records.proofs.Tables.NodeRecord as NodeRecordT

@@ -1,5 +1,5 @@
 -- Generated: what callers cite of start_word.
--- From 4b098d8b5bc2dd43, as 91b6388c8d353473.
+-- From 4c6c92dac9b25b75, as 91b6388c8d353473.
 use Rattle.node_records.proofs.Edge
 use Rattle.node_records.proofs.Edge.Laws
 use Rattle.node_records.proofs.Tables.NodeRecord as NodeRecordT

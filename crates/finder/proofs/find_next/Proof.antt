@@ -101,7 +101,7 @@ returns-4 c =
     let sought = seeks-same (a .n) (a .s .now) (a .w) true (c7 .seek .result .reached) (c5 .reached-of .result) (c7 .seek .last .1 .1 .1 .0)
     (c7 .seek .result .word) (c7 .seek .last .1 .1 .0) _ (c5 .reached-of .ensures) (c7 .seek .ensures) in
     find-ended (a .n) (a .s .now) (a .t .now) (a .w) few (omega (arith, c11 .if2 .left))
-    (omega (arith, c10 .if3 .left, shifted (a .n) (omega (arith, few)))) _ _ _ _ _ _ sought (c4 .if4 .taken) (c .ended-at .ensures)
+    (omega (arith, c10 .if3 .left, shifted (a .n) (omega (arith, few)))) _ _ _ _ _ sought (c4 .if4 .taken) (c .ended-at .ensures)
     (seeks-cleared (a .n) (a .s .now) (a .w) true _ _ _ (a .t .now) sought _ (c2 .clear-records .ensures))
 
 cursor-of-requires : tie.Need-cursor-of-requires
@@ -137,12 +137,12 @@ returns-5 c =
     let sought = seeks-same (a .n) (a .s .now) (a .w) true (c12 .seek .result .reached) (c10 .reached-of .result) (c12 .seek .last .1 .1 .1 .0)
     (c12 .seek .result .word) (c12 .seek .last .1 .1 .0) _ (c10 .reached-of .ensures) (c12 .seek .ensures) in
     find-found (a .n) (a .s .now) (a .t .now) (a .w) few (omega (arith, c16 .if2 .left))
-    (omega (arith, c15 .if3 .left, shifted (a .n) (omega (arith, few)))) _ _ _ _ _ _ sought (c9 .if4 .left) _ _
+    (omega (arith, c15 .if3 .left, shifted (a .n) (omega (arith, few)))) _ _ _ _ _ sought (c9 .if4 .left) _ _
     (end-reads (a .n) (a .s .now) few (a .w) (c10 .reached-of .result) (c12 .seek .last .1 .1 .1 .0) (c12 .seek .result .word)
     (c12 .seek .last .1 .1 .0) _ sought (c6 .cursor-of .result) (c6 .cursor-of .ensures) _ _ (c5 .read-on .ensures)) (c .found-at .ensures)
     (end-cleared (a .n) (a .s .now) few (a .w) (c10 .reached-of .result) (c12 .seek .last .1 .1 .1 .0) (c12 .seek .result .word)
-    (c12 .seek .last .1 .1 .0) _ sought (c6 .cursor-of .result) (c6 .cursor-of .ensures) _ _ (c5 .read-on .ensures) (a .t .now)
-    (c4 .t3 .given) refl _ (c2 .clear-records2 .ensures))
+    (c12 .seek .last .1 .1 .0) _ sought (c6 .cursor-of .result) (c6 .cursor-of .ensures) _ _ (c5 .read-on .ensures)
+    (c4 .t3 .given) _ (c2 .clear-records2 .ensures))
 
 pub find-next-spec : {M : Type 1} → statement M
 find-next-spec =

@@ -28,7 +28,8 @@ returns c =
     let p = c7 .pre in
     let first = read-first (a .n) (a .s .now) (p .0) (a .w) (a .v) (a .t .now) (a .o .now) (c3 .first-cursor .result) _ _ (p .1 .0) (p .1 .1 .0) (p .1 .1 .1)
     (c3 .first-cursor .ensures) (c2 .read-on .ensures) in
-    seeks-ended (a .n) (a .s .now) (a .v) (a .w) _ _ first (a .w) (none-first (a .n) (a .s .now) (p .0) (a .w) (a .v) .1) 0 _ (c .if1 .taken) (c1 .t .given)
+    seeks-ended (a .n) (a .s .now) (a .v) (a .w) _ _ (first .0) (a .w) (none-first (a .n) (a .s .now) (p .0) (a .w) (a .v) .1) 0 _ (c .if1 .taken)
+    (c1 .t .given) (first .1)
 
 word-at-requires : tie.Need-word-at-requires
 word-at-requires c κs =
@@ -40,7 +41,7 @@ word-at-requires c κs =
     let p = c9 .pre in
     let first = read-first (a .n) (a .s .now) (p .0) (a .w) (a .v) (a .t .now) (a .o .now) (c5 .first-cursor .result) _ _ (p .1 .0) (p .1 .1 .0) (p .1 .1 .1)
     (c5 .first-cursor .ensures) (c4 .read-on .ensures) in
-    passed-bounds (a .n) (a .s .now) (p .0) (a .v) (a .w) _ _ first (c2 .if1 .left)
+    passed-bounds (a .n) (a .s .now) (p .0) (a .v) (a .w) _ _ (first .0) (c2 .if1 .left)
 
 covered-of-requires : tie.Need-covered-of-requires
 covered-of-requires c κs = search needs
@@ -62,8 +63,8 @@ returns-2 c =
     let first = read-first (a .n) (a .s .now) (p .0) (a .w) (a .v) (a .t .now) (a .o .now) (c8 .first-cursor .result) _ _ (p .1 .0) (p .1 .1 .0) (p .1 .1 .1)
     (c8 .first-cursor .ensures) (c7 .read-on .ensures) in
     let none = none-first (a .n) (a .s .now) (p .0) (a .w) (a .v) in
-    seeks-found (a .n) (a .s .now) (p .0) (a .v) (a .w) _ _ first (c5 .if1 .left) (a .w) (none .0) (none .1) (c2 .word-at .result) _ (c2 .word-at .ensures)
-    (omega (arith, c .if2 .taken, c1 .covered-of .ensures)) (c6 .t .given)
+    seeks-found (a .n) (a .s .now) (p .0) (a .v) (a .w) _ _ (first .0) (c5 .if1 .left) (a .w) (none .0) (none .1) (c2 .word-at .result) _
+    (c2 .word-at .ensures) (omega (arith, c .if2 .taken, c1 .covered-of .ensures)) (c6 .t .given) (first .1)
 
 cursor-of-requires : tie.Need-cursor-of-requires
 cursor-of-requires c κs = search needs
@@ -98,10 +99,10 @@ returns-3 c =
     let p = c20 .pre in
     let first = read-first (a .n) (a .s .now) (p .0) (a .w) (a .v) (a .t .now) (a .o .now) (c16 .first-cursor .result) _ _ (p .1 .0) (p .1 .1 .0) (p .1 .1 .1)
     (c16 .first-cursor .ensures) (c15 .read-on .ensures) in
-    let found = searches (a .n) (a .s .now) (p .0) (a .w) (a .v) (c15 .read-on .result) (c15 .read-on .last .1 .1 .1 .0) _ first (c13 .if1 .left) (c10 .word-at .result)
-    (c10 .word-at .ensures) (omega (arith, c8 .if2 .left, c9 .covered-of .ensures)) (c5 .cursor-of .result) (c5 .cursor-of .ensures) (c3 .odd-of .result)
-    (c3 .odd-of .ensures) _ _ (c2 .search-on .ensures) in
-    search-ended (a .n) (a .s .now) (p .0) (a .w) (a .v) _ _ found 0 _ (c .if3 .taken) (c1 .t2 .given ∙ c14 .t .given)
+    let found = searches (a .n) (a .s .now) (p .0) (a .w) (a .v) (c15 .read-on .result) (c15 .read-on .last .1 .1 .1 .0) _ _ first (c13 .if1 .left)
+    (c10 .word-at .result) (c10 .word-at .ensures) (omega (arith, c8 .if2 .left, c9 .covered-of .ensures))
+    (c5 .cursor-of .result) (c5 .cursor-of .ensures) (c3 .odd-of .result) (c3 .odd-of .ensures) _ _ (c2 .search-on .ensures) in
+    search-ended (a .n) (a .s .now) (p .0) (a .w) (a .v) _ _ _ found 0 (c .if3 .taken) (c1 .t2 .given ∙ c14 .t .given)
 
 word-at-requires-2 : tie.Need-word-at-requires-2
 word-at-requires-2 c κs =
@@ -120,10 +121,10 @@ word-at-requires-2 c κs =
     let p = c22 .pre in
     let first = read-first (a .n) (a .s .now) (p .0) (a .w) (a .v) (a .t .now) (a .o .now) (c18 .first-cursor .result) _ _ (p .1 .0) (p .1 .1 .0) (p .1 .1 .1)
     (c18 .first-cursor .ensures) (c17 .read-on .ensures) in
-    let found = searches (a .n) (a .s .now) (p .0) (a .w) (a .v) (c17 .read-on .result) (c17 .read-on .last .1 .1 .1 .0) _ first (c15 .if1 .left) (c12 .word-at .result)
-    (c12 .word-at .ensures) (omega (arith, c10 .if2 .left, c11 .covered-of .ensures)) (c7 .cursor-of .result) (c7 .cursor-of .ensures) (c5 .odd-of .result)
-    (c5 .odd-of .ensures) _ _ (c4 .search-on .ensures) in
-    search-bounds (a .n) (a .s .now) (p .0) (a .w) (a .v) _ _ found (c2 .if3 .left)
+    let found = searches (a .n) (a .s .now) (p .0) (a .w) (a .v) (c17 .read-on .result) (c17 .read-on .last .1 .1 .1 .0) _ _ first (c15 .if1 .left)
+    (c12 .word-at .result) (c12 .word-at .ensures) (omega (arith, c10 .if2 .left, c11 .covered-of .ensures))
+    (c7 .cursor-of .result) (c7 .cursor-of .ensures) (c5 .odd-of .result) (c5 .odd-of .ensures) _ _ (c4 .search-on .ensures) in
+    search-bounds (a .n) (a .s .now) (p .0) (a .w) (a .v) _ _ _ found (c2 .if3 .left)
 
 same-length-4 : tie.Need-same-length-4
 same-length-4 c =
@@ -150,10 +151,11 @@ returns-4 c =
     let p = c23 .pre in
     let first = read-first (a .n) (a .s .now) (p .0) (a .w) (a .v) (a .t .now) (a .o .now) (c19 .first-cursor .result) _ _ (p .1 .0) (p .1 .1 .0) (p .1 .1 .1)
     (c19 .first-cursor .ensures) (c18 .read-on .ensures) in
-    let found = searches (a .n) (a .s .now) (p .0) (a .w) (a .v) (c18 .read-on .result) (c18 .read-on .last .1 .1 .1 .0) _ first (c16 .if1 .left) (c13 .word-at .result)
-    (c13 .word-at .ensures) (omega (arith, c11 .if2 .left, c12 .covered-of .ensures)) (c8 .cursor-of .result) (c8 .cursor-of .ensures) (c6 .odd-of .result)
-    (c6 .odd-of .ensures) _ _ (c5 .search-on .ensures) in
-    search-found (a .n) (a .s .now) (p .0) (a .w) (a .v) _ _ found (c3 .if3 .left) (c .word-at2 .result) _ (c .word-at2 .ensures) (c4 .t2 .given ∙ c17 .t .given)
+    let found = searches (a .n) (a .s .now) (p .0) (a .w) (a .v) (c18 .read-on .result) (c18 .read-on .last .1 .1 .1 .0) _ _ first (c16 .if1 .left)
+    (c13 .word-at .result) (c13 .word-at .ensures) (omega (arith, c11 .if2 .left, c12 .covered-of .ensures))
+    (c8 .cursor-of .result) (c8 .cursor-of .ensures) (c6 .odd-of .result) (c6 .odd-of .ensures) _ _ (c5 .search-on .ensures) in
+    search-found (a .n) (a .s .now) (p .0) (a .w) (a .v) _ _ _ found (c3 .if3 .left) (c .word-at2 .result) (c .word-at2 .ensures)
+    (c4 .t2 .given ∙ c17 .t .given)
 
 pub seek-spec : {M : Type 1} → statement M
 seek-spec =

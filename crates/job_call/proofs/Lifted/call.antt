@@ -1,5 +1,5 @@
 -- Generated: what callers cite of call.
--- From d738873de74f0b52, as 7d86284afbef109e.
+-- From 863aab4a080b4da0, as 7d86284afbef109e.
 use Rattle.meeting.proofs.Writing
 use Rattle.meeting.proofs.Writing.Laws
 use borrow.Fn.Kinds

@@ -2,7 +2,7 @@
 mod Lts
 mod Tie
 use mathlib.Core.Path.{_∙_}
-use Rattle.theory_combining.specs.BlockReaders.{deepOf, sourceOf, nextReader}
+use Rattle.theory_combining.specs.BlockReaders.{deepOf, sourceOf, endedOf, nextReader}
 use Rattle.theory_combining.specs.EdgeCorrect.{first-inside}
 use Rattle.operands.specs.Abstraction.{operandOn}
 use Rattle.operands.specs.OperandCorrect.{first-gone}
@@ -14,7 +14,7 @@ settle-requires c κs = tt
 
 returns : tie.Need-returns
 returns c = λ n o s. c .settle .ensures n o s (c .before .before .args .t .now)
-    ∙ first-inside deepOf sourceOf (nextReader n) (c .before .before .args .i)
+    ∙ first-inside deepOf sourceOf endedOf (nextReader n) (c .before .before .args .i)
     (operandOn (c .before .before .args .f) (c .before .before .args .b) o s (c .before .before .args .t .now)) (c .before .if1 .taken)
 
 edge-of-requires : tie.Need-edge-of-requires

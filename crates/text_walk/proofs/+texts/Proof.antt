@@ -23,11 +23,9 @@ use Rattle.text_walk.proofs.walked_of.Reads as walked-of
 use Rattle.text_walk.proofs.went_on.Reads as went-on
 use Rattle.text_walk.proofs.+texts.{statement}
 use Rattle.text_walk.proofs.+texts.Proof.Tie.{close}
-use mathlib.Core.Path.{sym, ap, _∙_}
-use mathlib.Core.Bool.{false, _||_}
+use mathlib.Core.Path.{ap, _∙_}
 use native.Mathlib.Omega.{arith}
 use Prim.Native.Nat.{ℕ, _*_, _-_, _%_, _<_, _^_}
-use Rattle.theory_applying.specs.TextCorrect.{inside-option}
 use Rattle.theory_lists.specs.Powers.{shifted, both-halves}
 use Rattle.meeting.specs.Abstraction.{progressOf}
 use Rattle.edges.specs.Abstraction.{edgeIn}
@@ -35,7 +33,8 @@ use Rattle.edges.specs.declared.TableEdge.{TableEdge}
 use Rattle.reader.specs.OpenCells.{opensIn}
 use Rattle.operands.specs.Abstraction.{readerOf, operandOf, begunIn}
 use Rattle.text_walk.specs.Abstraction.{gapIn}
-use Rattle.text_walk.specs.TextsCorrect.{one-down, first-asks, second-asks, texts-edges, texts-halted, texts-ended, texts-done, texts-on}
+use Rattle.text_walk.specs.TextsCorrect.{some-option, one-down, first-asks, second-asks, texts-edges, texts-halted, texts-ended, texts-done}
+use Rattle.text_walk.specs.TextsCorrect.{texts-on}
 
 abbrev μ : Measures 10 texts-kinds.ps ℕ
 μ κs a = a .1 .0
@@ -83,7 +82,8 @@ module _ (t : ℕ) where
   )
 
   at-edges-requires : texts-lts.Need-at-edges-requires K (at t) texts-kinds.Post
-  at-edges-requires c κs = tt
+  at-edges-requires c κs =
+      let z = c .before .before .before .before .pre in (omega (arith, z), omega (arith, z))
 
   edge-of-requires : texts-lts.Need-edge-of-requires K (at t) texts-kinds.Post
   edge-of-requires c κs = tt
@@ -135,7 +135,7 @@ module _ (t : ℕ) where
       (operandOf (a .g) (a .b2) (a .o2 .now) (a .y .now) (a .t2 .now)) (a .c .now) (a .t .now) (a .out .now) (a .w .now)
       (progressOf (a .progress))
       (edgeIn (c15 .edge-of .result) (a .t1 .now)) (edgeIn (c14 .edge-of2 .result) (a .t2 .now)) (c7 .apply .result) (l .0) (l .1 .0) (l .1 .1 .0)
-      (l .1 .1 .1 .0) (sym (c17 .at-edges .ensures) ∙ c16 .if1 .taken) (omega (arith, c22 .pre)) (omega (arith, c22 .pre))
+      (l .1 .1 .1 .0) (c17 .at-edges .result) (c17 .at-edges .ensures) (c16 .if1 .taken) (omega (arith, c22 .pre)) (omega (arith, c22 .pre))
       (ap (λ (e : TableEdge). edgeIn e (a .t1 .now)) (c15 .edge-of .ensures)) (ap (λ (e : TableEdge). edgeIn e (a .t2 .now)) (c14 .edge-of2 .ensures))
       (c7 .apply .ensures))
 
@@ -143,8 +143,8 @@ module _ (t : ℕ) where
   sub-e c =
       let c1 = c .before in
       let c6 = c1 .before .before .before .before .before in
-      let a = c6 .args in let z = inside-option (a .d) (a .f .inside || (a .g .inside || false)) (sym (c1 .at-edges .ensures) ∙ c .if1 .left) in omega
-      (arith, z)
+      let a = c6 .args in let z = some-option (a .k) (a .d) (a .at) (a .f .inside) (a .g .inside) (c1 .at-edges .result)
+      (c1 .at-edges .ensures) (c .if1 .left) in omega (arith, z)
 
   add-j : texts-lts.Need-add-j K (at t) texts-kinds.Post
   add-j c =
@@ -161,7 +161,8 @@ module _ (t : ℕ) where
   add-mid c =
       let c1 = c .before in
       let c6 = c1 .before .before .before .before .before in
-      let a = c6 .args in let z = inside-option (a .d) (a .f .inside || (a .g .inside || false)) (sym (c1 .at-edges .ensures) ∙ c .if1 .left) in
+      let a = c6 .args in let z = some-option (a .k) (a .d) (a .at) (a .f .inside) (a .g .inside) (c1 .at-edges .result)
+      (c1 .at-edges .ensures) (c .if1 .left) in
       omega (arith, c6 .pre, z, shifted (a .d - 1) (omega (arith, c6 .pre)), both-halves (a .d) (λ e. omega (arith, e, z)))
 
   push-requires : texts-lts.Need-push-requires K (at t) texts-kinds.Post
@@ -178,7 +179,8 @@ module _ (t : ℕ) where
       let c16 = c .before .before .before .before .before .before .before .before .before .before .before .before .before .before .before .before in
       let c17 = c16 .before in
       let c22 = c17 .before .before .before .before .before in
-      let a = c22 .args in let z = inside-option (a .d) (a .f .inside || (a .g .inside || false)) (sym (c17 .at-edges .ensures) ∙ c16 .if1 .left) in
+      let a = c22 .args in let z = some-option (a .k) (a .d) (a .at) (a .f .inside) (a .g .inside) (c17 .at-edges .result)
+      (c17 .at-edges .ensures) (c16 .if1 .left) in
       first-asks (a .d) (a .i) (a .at) t (c22 .pre) z
 
   is-halted-requires : texts-lts.Need-is-halted-requires K (at t) texts-kinds.Post
@@ -224,12 +226,13 @@ module _ (t : ℕ) where
       let c27 = c25 .before .before in
       let c28 = c27 .before in
       let c33 = c28 .before .before .before .before .before in
-      let a = c33 .args in let l = c10 .texts .last .1 .1 .1 .1 .1 .1 .1 .1 .1 .1 .1 in let z = inside-option (a .d)
-      (a .f .inside || (a .g .inside || false)) (sym (c28 .at-edges .ensures) ∙ c27 .if1 .left) in
+      let a = c33 .args in let l = c10 .texts .last .1 .1 .1 .1 .1 .1 .1 .1 .1 .1 .1 in
+      let z = some-option (a .k) (a .d) (a .at) (a .f .inside) (a .g .inside) (c28 .at-edges .result)
+      (c28 .at-edges .ensures) (c27 .if1 .left) in
       texts-halted (a .k) (a .d) (a .i) (a .at) (a .m) (operandOf (a .f) (a .b1) (a .o1 .now) (a .x .now) (a .t1 .now))
       (operandOf (a .g) (a .b2) (a .o2 .now) (a .y .now) (a .t2 .now)) (a .c .now) (a .t .now) (a .out .now) (a .w .now)
       (progressOf (a .progress))
-      (a .d - 1) (one-down (a .d) z) (sym (c28 .at-edges .ensures) ∙ c27 .if1 .left)
+      (a .d - 1) (one-down (a .d) z) (c28 .at-edges .result) (c28 .at-edges .ensures) (c27 .if1 .left)
       (operandOf (c21 .first-half .result) (a .b1) (a .o1 .now) (a .x .now) (a .t1 .now))
       (operandOf (c19 .first-half2 .result) (a .b2) (a .o2 .now) (a .y .now) (a .t2 .now))
       (record { bytes = c25 .push .last .0; count = c25 .push .result }) (c10 .texts .result)
@@ -287,12 +290,13 @@ module _ (t : ℕ) where
       let c30 = c28 .before .before in
       let c31 = c30 .before in
       let c36 = c31 .before .before .before .before .before in
-      let a = c36 .args in let l = c13 .texts .last .1 .1 .1 .1 .1 .1 .1 .1 .1 .1 .1 in let z = inside-option (a .d)
-      (a .f .inside || (a .g .inside || false)) (sym (c31 .at-edges .ensures) ∙ c30 .if1 .left) in
+      let a = c36 .args in let l = c13 .texts .last .1 .1 .1 .1 .1 .1 .1 .1 .1 .1 .1 in
+      let z = some-option (a .k) (a .d) (a .at) (a .f .inside) (a .g .inside) (c31 .at-edges .result)
+      (c31 .at-edges .ensures) (c30 .if1 .left) in
       rw (c .ended-at .ensures) (texts-ended (a .k) (a .d) (a .i) (a .at) (a .m) (operandOf (a .f) (a .b1) (a .o1 .now) (a .x .now) (a .t1 .now))
       (operandOf (a .g) (a .b2) (a .o2 .now) (a .y .now) (a .t2 .now)) (a .c .now) (a .t .now) (a .out .now) (a .w .now)
       (progressOf (a .progress))
-      (a .d - 1) (one-down (a .d) z) (sym (c31 .at-edges .ensures) ∙ c30 .if1 .left)
+      (a .d - 1) (one-down (a .d) z) (c31 .at-edges .result) (c31 .at-edges .ensures) (c30 .if1 .left)
       (operandOf (c24 .first-half .result) (a .b1) (a .o1 .now) (a .x .now) (a .t1 .now))
       (operandOf (c22 .first-half2 .result) (a .b2) (a .o2 .now) (a .y .now) (a .t2 .now))
       (record { bytes = c28 .push .last .0; count = c28 .push .result }) (c13 .texts .result)
@@ -321,7 +325,8 @@ module _ (t : ℕ) where
       .before .before .before .before .before .before .before .before .before .before .before .before .before .before .before .before .before in
       let c51 = c50 .before in
       let c56 = c51 .before .before .before .before .before in
-      let a = c56 .args in let z = inside-option (a .d) (a .f .inside || (a .g .inside || false)) (sym (c51 .at-edges .ensures) ∙ c50 .if1 .left) in
+      let a = c56 .args in let z = some-option (a .k) (a .d) (a .at) (a .f .inside) (a .g .inside) (c51 .at-edges .result)
+      (c51 .at-edges .ensures) (c50 .if1 .left) in
       second-asks (a .d) (a .i) (a .at) t (1 * 2 ^ (a .d - 1) % 18446744073709551616) (c56 .pre) z (shifted (a .d - 1) (omega (arith, c56 .pre)))
 
   is-halted-requires-2 : texts-lts.Need-is-halted-requires-2 K (at t) texts-kinds.Post
@@ -396,11 +401,12 @@ module _ (t : ℕ) where
       let c62 = c61 .before in
       let c67 = c62 .before .before .before .before .before in
       let a = c67 .args in let l = c44 .texts .last .1 .1 .1 .1 .1 .1 .1 .1 .1 .1 .1 in let q = c10 .texts2 .last .1 .1 .1 .1 .1 .1 .1 .1 .1 .1 .1 in
-      let z = inside-option (a .d) (a .f .inside || (a .g .inside || false)) (sym (c62 .at-edges .ensures) ∙ c61 .if1 .left) in
+      let z = some-option (a .k) (a .d) (a .at) (a .f .inside) (a .g .inside) (c62 .at-edges .result)
+      (c62 .at-edges .ensures) (c61 .if1 .left) in
       texts-done (a .k) (a .d) (a .i) (a .at) (a .m) (operandOf (a .f) (a .b1) (a .o1 .now) (a .x .now) (a .t1 .now))
       (operandOf (a .g) (a .b2) (a .o2 .now) (a .y .now) (a .t2 .now)) (a .c .now) (a .t .now) (a .out .now) (a .w .now)
       (progressOf (a .progress))
-      (a .d - 1) (one-down (a .d) z) (sym (c62 .at-edges .ensures) ∙ c61 .if1 .left)
+      (a .d - 1) (one-down (a .d) z) (c62 .at-edges .result) (c62 .at-edges .ensures) (c61 .if1 .left)
       (operandOf (c55 .first-half .result) (a .b1) (a .o1 .now) (a .x .now) (a .t1 .now))
       (operandOf (c53 .first-half2 .result) (a .b2) (a .o2 .now) (a .y .now) (a .t2 .now))
       (record { bytes = c59 .push .last .0; count = c59 .push .result }) (c44 .texts .result)
@@ -506,11 +512,12 @@ module _ (t : ℕ) where
       let c74 = c73 .before in
       let c79 = c74 .before .before .before .before .before in
       let a = c79 .args in let l = c56 .texts .last .1 .1 .1 .1 .1 .1 .1 .1 .1 .1 .1 in let q = c22 .texts2 .last .1 .1 .1 .1 .1 .1 .1 .1 .1 .1 .1 in
-      let z = inside-option (a .d) (a .f .inside || (a .g .inside || false)) (sym (c74 .at-edges .ensures) ∙ c73 .if1 .left) in
+      let z = some-option (a .k) (a .d) (a .at) (a .f .inside) (a .g .inside) (c74 .at-edges .result)
+      (c74 .at-edges .ensures) (c73 .if1 .left) in
       rw (c .met .ensures) (texts-on (a .k) (a .d) (a .i) (a .at) (a .m) (operandOf (a .f) (a .b1) (a .o1 .now) (a .x .now) (a .t1 .now))
       (operandOf (a .g) (a .b2) (a .o2 .now) (a .y .now) (a .t2 .now)) (a .c .now) (a .t .now) (a .out .now) (a .w .now)
       (progressOf (a .progress))
-      (a .d - 1) (one-down (a .d) z) (sym (c74 .at-edges .ensures) ∙ c73 .if1 .left)
+      (a .d - 1) (one-down (a .d) z) (c74 .at-edges .result) (c74 .at-edges .ensures) (c73 .if1 .left)
       (operandOf (c67 .first-half .result) (a .b1) (a .o1 .now) (a .x .now) (a .t1 .now))
       (operandOf (c65 .first-half2 .result) (a .b2) (a .o2 .now) (a .y .now) (a .t2 .now))
       (record { bytes = c71 .push .last .0; count = c71 .push .result }) (c56 .texts .result)

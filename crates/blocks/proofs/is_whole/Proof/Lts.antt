@@ -1,5 +1,5 @@
 -- Generated: the derivation of a body.
--- From 8c6b66533af4a33b, as 7144f69f2cd72b76.
+-- From 9d7fbd44082f02c4, as 7144f69f2cd72b76.
 use Prim.Native.Nat
 use Rattle.cursors.proofs.Run
 use Rattle.cursors.proofs.Run.Laws

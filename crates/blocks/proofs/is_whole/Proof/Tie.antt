@@ -1,5 +1,5 @@
 -- Generated: the needs of is_whole at its contract, and how its theorem closes.
--- From 8c6b66533af4a33b, as 29617e4edd7fc3e7.
+-- From 9d7fbd44082f02c4, as 29617e4edd7fc3e7.
 use borrow.Fn.Run
 use borrow.Fn.Written
 use contract.Running.{givenOf, tablesOf}

@@ -1,5 +1,5 @@
 -- Generated: the needs of load at its contract, and how its theorem closes.
--- From 8c6b66533af4a33b, as 25cf3c4c1ba3d94e.
+-- From 9d7fbd44082f02c4, as 196e40035756466f.
 use borrow.Fn.Run
 use borrow.Fn.Written
 use contract.Running.{givenOf, tablesOf}
@@ -12,15 +12,9 @@ use Rattle.cursors.proofs.first_cursor.Symbol as first-cursor-symbol
 use Rattle.reader.proofs.Lifted.read_on as read-on-reads
 use Rattle.reader.proofs.read_on.Met as read-on-met
 use Rattle.reader.proofs.read_on.Symbol as read-on-symbol
-use Rattle.blocks.proofs.Lifted.is_whole as is-whole-reads
-use Rattle.blocks.proofs.is_whole.Met as is-whole-met
-use Rattle.blocks.proofs.is_whole.Symbol as is-whole-symbol
-use Rattle.blocks.proofs.block_of.Reads as block-of-reads
-use Rattle.blocks.proofs.block_of.Met as block-of-met
-use Rattle.blocks.proofs.block_of.Symbol as block-of-symbol
-use Rattle.checker.proofs.checked_at.Reads as checked-at-reads
-use Rattle.checker.proofs.checked_at.Met as checked-at-met
-use Rattle.checker.proofs.checked_at.Symbol as checked-at-symbol
+use Rattle.blocks.proofs.Lifted.loaded_at as loaded-at-reads
+use Rattle.blocks.proofs.loaded_at.Met as loaded-at-met
+use Rattle.blocks.proofs.loaded_at.Symbol as loaded-at-symbol
 use Rattle.blocks.proofs.load.Key
 use Rattle.blocks.proofs.load.Code as code
 use Rattle.blocks.proofs.load.Statement.{statement}
@@ -28,7 +22,7 @@ use Rattle.blocks.proofs.load.Proof.Lts as lts
 use Rattle.blocks.proofs.Lifted.load as self
 
 abbrev callees : lts.Claims
-callees = (not-loaded-reads.Asked, not-loaded-reads.Learnt, first-cursor-reads.Asked, first-cursor-reads.Learnt, read-on-reads.Asked, read-on-reads.Learnt, is-whole-reads.Asked, is-whole-reads.Learnt, block-of-reads.Asked, block-of-reads.Learnt, checked-at-reads.Asked, checked-at-reads.Learnt)
+callees = (not-loaded-reads.Asked, not-loaded-reads.Learnt, first-cursor-reads.Asked, first-cursor-reads.Learnt, read-on-reads.Asked, read-on-reads.Learnt, loaded-at-reads.Asked, loaded-at-reads.Learnt)
 
 abbrev pub Need-not-loaded-requires : Type 0
 Need-not-loaded-requires = lts.Need-not-loaded-requires callees self.Pre self.Post
@@ -48,14 +42,8 @@ Need-first-cursor-requires = lts.Need-first-cursor-requires callees self.Pre sel
 abbrev pub Need-read-on-requires : Type 0
 Need-read-on-requires = lts.Need-read-on-requires callees self.Pre self.Post
 
-abbrev pub Need-is-whole-requires : Type 0
-Need-is-whole-requires = lts.Need-is-whole-requires callees self.Pre self.Post
-
-abbrev pub Need-block-of-requires : Type 0
-Need-block-of-requires = lts.Need-block-of-requires callees self.Pre self.Post
-
-abbrev pub Need-checked-at-requires : Type 0
-Need-checked-at-requires = lts.Need-checked-at-requires callees self.Pre self.Post
+abbrev pub Need-loaded-at-requires : Type 0
+Need-loaded-at-requires = lts.Need-loaded-at-requires callees self.Pre self.Post
 
 abbrev pub Need-same-length : Type 0
 Need-same-length = lts.Need-same-length callees self.Pre self.Post
@@ -64,8 +52,8 @@ abbrev pub Need-returns-3 : Type 0
 Need-returns-3 = lts.Need-returns-3 callees self.Pre self.Post
 
 module _ {M : Type 1} where
-  pub spec : Need-not-loaded-requires → Need-returns → Need-not-loaded-requires-2 → Need-returns-2 → Need-first-cursor-requires → Need-read-on-requires → Need-is-whole-requires → Need-block-of-requires → Need-checked-at-requires → Need-same-length → Need-returns-3 → lts.Closed callees self.Pre self.Post M
-  spec n0 n1 n2 n3 n4 n5 n6 n7 n8 n9 n10 = lts.spec callees self.Pre self.Post n0 n1 n2 n3 n4 n5 n6 n7 n8 n9 n10
+  pub spec : Need-not-loaded-requires → Need-returns → Need-not-loaded-requires-2 → Need-returns-2 → Need-first-cursor-requires → Need-read-on-requires → Need-loaded-at-requires → Need-same-length → Need-returns-3 → lts.Closed callees self.Pre self.Post M
+  spec n0 n1 n2 n3 n4 n5 n6 n7 n8 = lts.spec callees self.Pre self.Post n0 n1 n2 n3 n4 n5 n6 n7 n8
 
   pub close : lts.Closed callees self.Pre self.Post M → statement M
   unfolding code.routine tablesOf
@@ -75,6 +63,4 @@ module _ {M : Type 1} where
       (not-loaded-reads.known record { M = M; 𝓤 = 𝓤; H = H; 𝓜 = 𝓜; 𝓖 = 𝓖; 𝓡 = 𝓡 } code.env not-loaded-symbol.name not-loaded-symbol.routine code.calls-blocks·not-loaded (not-loaded-met.met 𝓤 H 𝓜 𝓖 𝓡))
       (first-cursor-reads.known record { M = M; 𝓤 = 𝓤; H = H; 𝓜 = 𝓜; 𝓖 = 𝓖; 𝓡 = 𝓡 } code.env first-cursor-symbol.name first-cursor-symbol.routine code.calls-cursors·first-cursor (first-cursor-met.met 𝓤 H 𝓜 𝓖 𝓡))
       (read-on-reads.known record { M = M; 𝓤 = 𝓤; H = H; 𝓜 = 𝓜; 𝓖 = 𝓖; 𝓡 = 𝓡 } code.env read-on-symbol.name read-on-symbol.routine code.calls-reader·read-on (read-on-met.met 𝓤 H 𝓜 𝓖 𝓡))
-      (is-whole-reads.known record { M = M; 𝓤 = 𝓤; H = H; 𝓜 = 𝓜; 𝓖 = 𝓖; 𝓡 = 𝓡 } code.env is-whole-symbol.name is-whole-symbol.routine code.calls-blocks·is-whole (is-whole-met.met 𝓤 H 𝓜 𝓖 𝓡))
-      (block-of-reads.known record { M = M; 𝓤 = 𝓤; H = H; 𝓜 = 𝓜; 𝓖 = 𝓖; 𝓡 = 𝓡 } code.env block-of-symbol.name block-of-symbol.routine code.calls-blocks·block-of (block-of-met.met 𝓤 H 𝓜 𝓖 𝓡))
-      (checked-at-reads.known record { M = M; 𝓤 = 𝓤; H = H; 𝓜 = 𝓜; 𝓖 = 𝓖; 𝓡 = 𝓡 } code.env checked-at-symbol.name checked-at-symbol.routine code.calls-checker·checked-at (checked-at-met.met 𝓤 H 𝓜 𝓖 𝓡))
+      (loaded-at-reads.known record { M = M; 𝓤 = 𝓤; H = H; 𝓜 = 𝓜; 𝓖 = 𝓖; 𝓡 = 𝓡 } code.env loaded-at-symbol.name loaded-at-symbol.routine code.calls-blocks·loaded-at (loaded-at-met.met 𝓤 H 𝓜 𝓖 𝓡))

@@ -1,5 +1,5 @@
 -- Generated: the needs of enter at its contract, and how its theorem closes.
--- From d3160673ce475718, as e21995f8692c4183.
+-- From 16db91cec44d69fc, as ee489e9bb4de354d.
 use borrow.Fn.Run
 use borrow.Fn.Written
 use contract.Running.{givenOf, tablesOf}
@@ -15,14 +15,14 @@ use Rattle.combiner.proofs.Lifted.enter as self
 abbrev callees : lts.Claims
 callees = (begin-reads.Asked, begin-reads.Learnt)
 
+abbrev pub Need-returns : Type 0
+Need-returns = lts.Need-returns callees self.Pre self.Post
+
 abbrev pub Need-begin-requires : Type 0
 Need-begin-requires = lts.Need-begin-requires callees self.Pre self.Post
 
 abbrev pub Need-same-length : Type 0
 Need-same-length = lts.Need-same-length callees self.Pre self.Post
-
-abbrev pub Need-returns : Type 0
-Need-returns = lts.Need-returns callees self.Pre self.Post
 
 abbrev pub Need-returns-2 : Type 0
 Need-returns-2 = lts.Need-returns-2 callees self.Pre self.Post
@@ -31,7 +31,7 @@ abbrev pub Need-returns-3 : Type 0
 Need-returns-3 = lts.Need-returns-3 callees self.Pre self.Post
 
 module _ {M : Type 1} where
-  pub spec : Need-begin-requires → Need-same-length → Need-returns → Need-returns-2 → Need-returns-3 → lts.Closed callees self.Pre self.Post M
+  pub spec : Need-returns → Need-begin-requires → Need-same-length → Need-returns-2 → Need-returns-3 → lts.Closed callees self.Pre self.Post M
   spec n0 n1 n2 n3 n4 = lts.spec callees self.Pre self.Post n0 n1 n2 n3 n4
 
   pub close : lts.Closed callees self.Pre self.Post M → statement M

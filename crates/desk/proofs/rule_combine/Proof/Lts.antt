@@ -1,5 +1,5 @@
 -- Generated: the derivation of a body.
--- From 35306dbf2e36724e, as 53a4208eee8f21b0.
+-- From d758cf536ec07dd8, as 53a4208eee8f21b0.
 use Prim.Native.Nat
 use Rattle.desk.proofs.RuleWritten
 use Rattle.desk.proofs.RuleWritten.Laws

@@ -1,5 +1,5 @@
 -- Generated: the derivation of a body.
--- From 35306dbf2e36724e, as 1b77b4f85e4be5d2.
+-- From d758cf536ec07dd8, as 1b77b4f85e4be5d2.
 use Prim.Native.Nat
 use Rattle.desk.proofs.RuleWritten
 use Rattle.desk.proofs.RuleWritten.Laws

@@ -1,5 +1,5 @@
 -- Generated: how the theorem of word_from, which calls itself, closes.
--- From 4b098d8b5bc2dd43, as 4ab3633523ddab5a.
+-- From 4c6c92dac9b25b75, as 4ab3633523ddab5a.
 use Prim.Native.Nat.{ℕ, _<_}
 use borrow.Fn.Kinds.{In}
 use borrow.Fn.PlainCycle

@@ -1,5 +1,5 @@
 -- Generated: the derivation of a body.
--- From 4b098d8b5bc2dd43, as 540bd89d117d1f08.
+-- From 4c6c92dac9b25b75, as 540bd89d117d1f08.
 use Prim.Native.Nat
 use Rattle.finder.proofs.Sought
 use Rattle.finder.proofs.Sought.Laws

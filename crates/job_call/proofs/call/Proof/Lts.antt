@@ -1,5 +1,5 @@
 -- Generated: the derivation of a body.
--- From d738873de74f0b52, as fdab8b1abf6b5b47.
+-- From 863aab4a080b4da0, as fdab8b1abf6b5b47.
 use Prim.Native.Nat
 use Rattle.meeting.proofs.Writing
 use Rattle.meeting.proofs.Writing.Laws

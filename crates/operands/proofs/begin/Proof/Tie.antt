@@ -1,5 +1,5 @@
 -- Generated: the needs of begin at its contract, and how its theorem closes.
--- From 5ea5b9926eeb9801, as 8d2e4e2671df3641.
+-- From f6d4b45c7368632f, as 8d2e4e2671df3641.
 use borrow.Fn.Run
 use borrow.Fn.Written
 use contract.Running.{givenOf, tablesOf}

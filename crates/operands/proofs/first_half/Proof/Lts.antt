@@ -1,5 +1,5 @@
 -- Generated: the derivation of a body.
--- From 5ea5b9926eeb9801, as 8df5db362f1dc2f9.
+-- From f6d4b45c7368632f, as 8df5db362f1dc2f9.
 use Prim.Native.Nat
 use Rattle.blocks.proofs.Block
 use Rattle.blocks.proofs.Block.Laws

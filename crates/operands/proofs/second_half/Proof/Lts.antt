@@ -1,5 +1,5 @@
 -- Generated: the derivation of a body.
--- From 5ea5b9926eeb9801, as 7ee13eb3b9b97cdf.
+-- From f6d4b45c7368632f, as 7ee13eb3b9b97cdf.
 use Prim.Native.Nat
 use Rattle.blocks.proofs.Block
 use Rattle.blocks.proofs.Block.Laws

@@ -1,5 +1,5 @@
 -- Generated: the needs of second_operand at its contract, and how its theorem closes.
--- From 5ea5b9926eeb9801, as 912b364618091f89.
+-- From f6d4b45c7368632f, as 912b364618091f89.
 use borrow.Fn.Run
 use borrow.Fn.Written
 use contract.Running.{givenOf, tablesOf}

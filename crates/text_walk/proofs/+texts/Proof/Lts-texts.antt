@@ -1,5 +1,5 @@
 -- Generated: the derivation of a body.
--- From 08d2dc670682ba80, as f9b9466d99186a97.
+-- From 850c6230e71eb988, as f81d95c7a1a59ac8.
 use Prim.Native.Nat
 use Rattle.blocks.proofs.Block
 use Rattle.blocks.proofs.Block.Laws
@@ -652,16 +652,20 @@ xs = y1 ∷ y1 ∷ y5 ∷ y0 ∷ y0 ∷ y2 ∷ y2 ∷ y6 ∷ y6 ∷ y13 ∷ y14 
 abbrev pub m : Nat.ℕ
 m = 33
 abbrev pub ps·0 : List (Kinds.PK 0)
-ps·0 = (Num.pNum Syntax.w32) ∷ (Value.pVal record { ty = Declared.row Operand.the-type; one = Path'.refl; val = Laws'10.val Operand.the-type Laws'6.the-laws;
+ps·0 = (Value.pVal record { ty = Declared.row Task.the-type; one = Path'.refl; val = Laws'10.val Task.the-type Laws'9.the-laws; tells = Laws'10.tells
+    Task.the-type Laws'9.the-laws; still = Laws'10.still Task.the-type Laws'9.the-copy Exit.yes; row = Rows.whole (Declared.row Task.the-type); rd = λ x. x;
+    mk = λ x. x } λ M 𝓤 H A W. record { copies = Laws'10.copy Task.the-type Laws'9.the-copy 𝓤 H A W; lawful = Laws'10.lawful Task.the-type Laws'9.the-laws 𝓤 H
+    A W; makes = Laws'10.makes Task.the-type Laws'9.the-plain 𝓤 H A; in-mem = Local.mem-whole 𝓤 H A W (Declared.row Task.the-type); of-mem = Local.whole-mem 𝓤
+    H A W (Declared.row Task.the-type) }) ∷ (Num.pNum Syntax.w32) ∷ (Num.pNum Syntax.w64) ∷ (Value.pVal record { ty = Declared.row Operand.the-type; one =
+    Path'.refl; val = Laws'10.val Operand.the-type Laws'6.the-laws; tells = Laws'10.tells Operand.the-type Laws'6.the-laws; still = Laws'10.still
+    Operand.the-type Laws'6.the-copy Exit.yes; row = Rows.whole (Declared.row Operand.the-type); rd = λ x. x; mk = λ x. x } λ M 𝓤 H A W. record { copies =
+    Laws'10.copy Operand.the-type Laws'6.the-copy 𝓤 H A W; lawful = Laws'10.lawful Operand.the-type Laws'6.the-laws 𝓤 H A W; makes = Laws'10.makes
+    Operand.the-type Laws'6.the-plain 𝓤 H A; in-mem = Local.mem-whole 𝓤 H A W (Declared.row Operand.the-type); of-mem = Local.whole-mem 𝓤 H A W (Declared.row
+    Operand.the-type) }) ∷ (Value.pVal record { ty = Declared.row Operand.the-type; one = Path'.refl; val = Laws'10.val Operand.the-type Laws'6.the-laws;
     tells = Laws'10.tells Operand.the-type Laws'6.the-laws; still = Laws'10.still Operand.the-type Laws'6.the-copy Exit.yes; row = Rows.whole (Declared.row
     Operand.the-type); rd = λ x. x; mk = λ x. x } λ M 𝓤 H A W. record { copies = Laws'10.copy Operand.the-type Laws'6.the-copy 𝓤 H A W; lawful =
     Laws'10.lawful Operand.the-type Laws'6.the-laws 𝓤 H A W; makes = Laws'10.makes Operand.the-type Laws'6.the-plain 𝓤 H A; in-mem = Local.mem-whole 𝓤 H A W
-    (Declared.row Operand.the-type); of-mem = Local.whole-mem 𝓤 H A W (Declared.row Operand.the-type) }) ∷ (Value.pVal record { ty = Declared.row
-    Operand.the-type; one = Path'.refl; val = Laws'10.val Operand.the-type Laws'6.the-laws; tells = Laws'10.tells Operand.the-type Laws'6.the-laws; still =
-    Laws'10.still Operand.the-type Laws'6.the-copy Exit.yes; row = Rows.whole (Declared.row Operand.the-type); rd = λ x. x; mk = λ x. x } λ M 𝓤 H A W. record
-    { copies = Laws'10.copy Operand.the-type Laws'6.the-copy 𝓤 H A W; lawful = Laws'10.lawful Operand.the-type Laws'6.the-laws 𝓤 H A W; makes = Laws'10.makes
-    Operand.the-type Laws'6.the-plain 𝓤 H A; in-mem = Local.mem-whole 𝓤 H A W (Declared.row Operand.the-type); of-mem = Local.whole-mem 𝓤 H A W (Declared.row
-    Operand.the-type) }) ∷ []
+    (Declared.row Operand.the-type); of-mem = Local.whole-mem 𝓤 H A W (Declared.row Operand.the-type) }) ∷ []
 abbrev pub r·0 : Kinds.RK 0
 r·0 = Bool.rBool
 abbrev pub ps·1 : List (Kinds.PK 0)
@@ -928,8 +932,8 @@ hs = Syntax.valueLocal ∷ Syntax.valueLocal ∷ Syntax.valueLocal ∷ Syntax.va
     Syntax.valueLocal ∷ Syntax.valueLocal ∷ Syntax.valueLocal ∷ Syntax.valueLocal ∷ Syntax.valueLocal ∷ Syntax.valueLocal ∷ Syntax.valueLocal ∷
     Syntax.valueLocal ∷ Syntax.valueLocal ∷ Syntax.valueLocal ∷ Syntax.valueLocal ∷ Syntax.valueLocal ∷ Syntax.valueLocal ∷ Syntax.valueLocal ∷ []
 abbrev b0 : Syntax.Body
-b0 = Syntax.call "text_walk::at_edges" ((Syntax.copy (Syntax.place 2 [])) ∷ (Syntax.copy (Syntax.place 8 [])) ∷ (Syntax.copy (Syntax.place 9 [])) ∷ [])
-    (Syntax.place 38 [])
+b0 = Syntax.call "text_walk::at_edges" ((Syntax.copy (Syntax.place 1 [])) ∷ (Syntax.copy (Syntax.place 2 [])) ∷ (Syntax.copy (Syntax.place 4 [])) ∷
+    (Syntax.copy (Syntax.place 8 [])) ∷ (Syntax.copy (Syntax.place 9 [])) ∷ []) (Syntax.place 38 [])
 abbrev b1 : Syntax.Body
 b1 = Syntax.call "operands::edge_of" ((Syntax.copy (Syntax.place 8 [])) ∷ (Syntax.copy (Syntax.place 10 [])) ∷ []) (Syntax.place 21 [])
 abbrev b2 : Syntax.Body
@@ -2322,8 +2326,8 @@ module _ (claims· : Claims) where
   abbrev s3 : (bs : List Nat.ℕ) → Typed.Gives T4 T5
   s3 = λ bs. Know.k-sl-known (Referent.fInt Syntax.w8) T4 18 8 y39 Row.off 0 λ x. x
   abbrev s4 : (bs : List Nat.ℕ) → Typed.Both T5 T6
-  s4 = λ bs. Call.callB ps·0 r·0 (claims· .0) (claims· .1) T5 (Num.vAt 2 λ x. x, (record { pos = 8; st = []; d = 0; at = λ x. x }, (record { pos = 9; st = [];
-      d = 0; at = λ x. x }, tt))) 38 [] Syntax.tyBool
+  s4 = λ bs. Call.callB ps·0 r·0 (claims· .0) (claims· .1) T5 (record { pos = 1; st = []; d = 0; at = λ x. x }, (Num.vAt 2 λ x. x, (Num.vAt 4 λ x. x, (record
+      { pos = 8; st = []; d = 0; at = λ x. x }, (record { pos = 9; st = []; d = 0; at = λ x. x }, tt))))) 38 [] Syntax.tyBool
   abbrev s5 : (bs : List Nat.ℕ) → Typed.Mo T6 → Typed.Mo T8
   s5 = λ bs. Scalar.n-room T6 38 Syntax.tyBool
   abbrev s6 : (bs : List Nat.ℕ) → Typed.Both T8 T9
@@ -6445,14 +6449,18 @@ module _ (claims· : Claims) where
           d334 = Typed.t-seq 𝓤 H A W 𝓣 E G6 G7 b35 b192 Δ0 (at61 bs) (at333 bs) d61 d333
           d335 : Typed.Typed 𝓤 H A 𝓣 E G5 b194 Δ0 (at335 bs)
           d335 = Typed.s-seq 𝓤 H A W 𝓣 E G5 G6 b0 b193 Δ0 (Typed.both (s4 bs)) (at334 bs) (Plain.t-call-plain 𝓤 H A W 𝓣 0 ps·0 r·0 (claims· .0) (claims· .1)
-              "text_walk::at_edges" (known .0) E (λ pos β. β) G5 (Num.vAt 2 λ x. x, (record { pos = 8; st = []; d = 0; at = λ x. x }, (record { pos = 9; st =
-              []; d = 0; at = λ x. x }, tt))) 38 [] (Call.sub-id 𝓤 H A W (G5 .slots)) ((Scalar.reads-sc 𝓤 H A W (Row.sInt Syntax.w32), Path'.refl),
-              ((Yields.yields-copy 𝓤 H A W (λ ρ. Unit) (Declared.row Operand.the-type) Path'.refl (Copies.cStruct Operand.the-type Laws'6.the-laws
-              Laws'6.the-copy .copy 𝓤 H A W) (Rows.whole (Declared.row Operand.the-type)) (λ x. x) (λ x. x) (λ ρ told. Local.mem-whole 𝓤 H A W (Declared.row
-              Operand.the-type) ρ) λ ρ told. Local.whole-mem 𝓤 H A W (Declared.row Operand.the-type) ρ, Path'.refl), ((Yields.yields-copy 𝓤 H A W (λ ρ. Unit)
-              (Declared.row Operand.the-type) Path'.refl (Copies.cStruct Operand.the-type Laws'6.the-laws Laws'6.the-copy .copy 𝓤 H A W) (Rows.whole
-              (Declared.row Operand.the-type)) (λ x. x) (λ x. x) (λ ρ told. Local.mem-whole 𝓤 H A W (Declared.row Operand.the-type) ρ) λ ρ told.
-              Local.whole-mem 𝓤 H A W (Declared.row Operand.the-type) ρ, Path'.refl), tt))) (Reads'.room-gone 𝓤 H A Syntax.tyBool) tt Path'.refl) d334
+              "text_walk::at_edges" (known .0) E (λ pos β. β) G5 (record { pos = 1; st = []; d = 0; at = λ x. x }, (Num.vAt 2 λ x. x, (Num.vAt 4 λ x. x,
+              (record { pos = 8; st = []; d = 0; at = λ x. x }, (record { pos = 9; st = []; d = 0; at = λ x. x }, tt))))) 38 [] (Call.sub-id 𝓤 H A W (G5
+              .slots)) ((Yields.yields-copy 𝓤 H A W (λ ρ. Unit) (Declared.row Task.the-type) Path'.refl (Copies.cStruct Task.the-type Laws'9.the-laws
+              Laws'9.the-copy .copy 𝓤 H A W) (Rows.whole (Declared.row Task.the-type)) (λ x. x) (λ x. x) (λ ρ told. Local.mem-whole 𝓤 H A W (Declared.row
+              Task.the-type) ρ) λ ρ told. Local.whole-mem 𝓤 H A W (Declared.row Task.the-type) ρ, Path'.refl), ((Scalar.reads-sc 𝓤 H A W (Row.sInt
+              Syntax.w32), Path'.refl), ((Scalar.reads-sc 𝓤 H A W (Row.sInt Syntax.w64), Path'.refl), ((Yields.yields-copy 𝓤 H A W (λ ρ. Unit) (Declared.row
+              Operand.the-type) Path'.refl (Copies.cStruct Operand.the-type Laws'6.the-laws Laws'6.the-copy .copy 𝓤 H A W) (Rows.whole (Declared.row
+              Operand.the-type)) (λ x. x) (λ x. x) (λ ρ told. Local.mem-whole 𝓤 H A W (Declared.row Operand.the-type) ρ) λ ρ told. Local.whole-mem 𝓤 H A W
+              (Declared.row Operand.the-type) ρ, Path'.refl), ((Yields.yields-copy 𝓤 H A W (λ ρ. Unit) (Declared.row Operand.the-type) Path'.refl
+              (Copies.cStruct Operand.the-type Laws'6.the-laws Laws'6.the-copy .copy 𝓤 H A W) (Rows.whole (Declared.row Operand.the-type)) (λ x. x) (λ x. x)
+              (λ ρ told. Local.mem-whole 𝓤 H A W (Declared.row Operand.the-type) ρ) λ ρ told. Local.whole-mem 𝓤 H A W (Declared.row Operand.the-type) ρ,
+              Path'.refl), tt))))) (Reads'.room-gone 𝓤 H A Syntax.tyBool) tt Path'.refl) d334
           d336 : Typed.Typed 𝓤 H A 𝓣 E G4 b194 Δ0 (at336 bs)
           d336 = Typed.g-pre 𝓤 H A W 𝓣 E G4 G5 b194 Δ0 (Typed.give (s3 bs)) (at335 bs) (Know.g-sl-known 𝓤 H A W (Referent.fInt Syntax.w8) E G4 18 8 y39 K4 0
               (λ x. x) record { fits = Dec'.lit< tt } (Reads'.as-is 𝓤 H A (Mut.mslice (Referent.rtF (Referent.fInt Syntax.w8)) y39 8)) Path'.refl tt) d335
@@ -6579,15 +6587,17 @@ module _ (claims· : Claims) where
       m5 = λ before given. s4 (before .before .before .before .before .blocks) .next (m4 (before .before) (before .slice-known2 .given)) given
       module _ (before· : After-slice-known2) where
         abbrev pub After-at-edges·own : Type 0
-        After-at-edges·own = Called.Called ps·0 r·0 (claims· .1) T5 (Num.vAt 2 λ x. x, (record { pos = 8; st = []; d = 0; at = λ x. x }, (record { pos = 9; st
-            = []; d = 0; at = λ x. x }, tt))) (m4 (before· .before) (before· .slice-known2 .given))
+        After-at-edges·own = Called.Called ps·0 r·0 (claims· .1) T5 (record { pos = 1; st = []; d = 0; at = λ x. x }, (Num.vAt 2 λ x. x, (Num.vAt 4 λ x. x,
+            (record { pos = 8; st = []; d = 0; at = λ x. x }, (record { pos = 9; st = []; d = 0; at = λ x. x }, tt))))) (m4 (before· .before) (before·
+            .slice-known2 .given))
       pub record After-at-edges : Type 0 where
         pub before : After-slice-known2
         pub at-edges : After-at-edges·own before
       abbrev pub After-at-edges·gave : (c : After-at-edges) → s4 (c .before .before .before .before .before .blocks) .gives (m4 (c .before .before) (c .before
           .slice-known2 .given))
-      After-at-edges·gave = λ c. Called.given ps·0 r·0 (claims· .1) T5 (Num.vAt 2 λ x. x, (record { pos = 8; st = []; d = 0; at = λ x. x }, (record { pos = 9;
-          st = []; d = 0; at = λ x. x }, tt))) (m4 (c .before .before) (c .before .slice-known2 .given)) (c .at-edges)
+      After-at-edges·gave = λ c. Called.given ps·0 r·0 (claims· .1) T5 (record { pos = 1; st = []; d = 0; at = λ x. x }, (Num.vAt 2 λ x. x, (Num.vAt 4 λ x. x,
+          (record { pos = 8; st = []; d = 0; at = λ x. x }, (record { pos = 9; st = []; d = 0; at = λ x. x }, tt))))) (m4 (c .before .before) (c .before
+          .slice-known2 .given)) (c .at-edges)
       abbrev W1 : (before : After-slice-known2) → (given : s4 (before .before .before .before .before .blocks) .gives (m4 (before .before) (before
           .slice-known2 .given))) → Typed.Want O1
       W1 = λ before given. Typed.wantNext T7 O0 (at333 (before .before .before .before .before .blocks) (W0 (before .before .before .before .before .κs)
@@ -9995,9 +10005,10 @@ module _ (claims· : Claims) where
             = record { given = g } }; shared-slice-known2 = record { given = g' } }; slice-known = record { given = g'' } }; slice-known2 = record { given =
             g'3 } }, λ g'4. lay1 record { before = record { before = record { before = record { before = record { before = c; shared-slice-known = record {
             given = g } }; shared-slice-known2 = record { given = g' } }; slice-known = record { given = g'' } }; slice-known2 = record { given = g'3 } };
-            at-edges = Called.called ps·0 r·0 (claims· .1) T5 (Num.vAt 2 λ x. x, (record { pos = 8; st = []; d = 0; at = λ x. x }, (record { pos = 9; st = [];
-            d = 0; at = λ x. x }, tt))) (m4 record { before = record { before = record { before = c; shared-slice-known = record { given = g } };
-            shared-slice-known2 = record { given = g' } }; slice-known = record { given = g'' } } g'3) g'4 })
+            at-edges = Called.called ps·0 r·0 (claims· .1) T5 (record { pos = 1; st = []; d = 0; at = λ x. x }, (Num.vAt 2 λ x. x, (Num.vAt 4 λ x. x, (record
+            { pos = 8; st = []; d = 0; at = λ x. x }, (record { pos = 9; st = []; d = 0; at = λ x. x }, tt))))) (m4 record { before = record { before = record
+            { before = c; shared-slice-known = record { given = g } }; shared-slice-known2 = record { given = g' } }; slice-known = record { given = g'' } }
+            g'3) g'4 })
         module _ (κs : Lifetimes.Lfts 10) (qs : Lifetimes.Shares 10) where
           pub asked : (a : Kinds.Dens κs ps) → (good : Kinds.GoodsP κs ps a) → (pre : Pre· κs a) → (bs : List Nat.ℕ) → Φ bs (Any.wantQ 10 ps r xs m κs qs a
               (Post· κs a)) (Function.init 10 ps r xs m κs qs a)

@@ -1,5 +1,5 @@
 -- Generated: the needs of nodes at its contract, and how its theorem closes.
--- From 08d2dc670682ba80, as 694ebaccc28e3923.
+-- From 850c6230e71eb988, as 694ebaccc28e3923.
 use borrow.Fn.Run
 use borrow.Fn.Written
 use contract.Running.{givenOf, tablesOf}

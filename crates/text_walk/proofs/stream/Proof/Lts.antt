@@ -1,5 +1,5 @@
 -- Generated: the derivation of a body.
--- From 08d2dc670682ba80, as 70296fa8fbc3d854.
+-- From 850c6230e71eb988, as 70296fa8fbc3d854.
 use Prim.Native.Nat
 use Rattle.node_records.proofs.Tables.NodeRecord as NodeRecordT
 use Rattle.node_records.proofs.Tables.WriterRecord as WriterRecordT

@@ -1,0 +1,7 @@
+-- Generated: what callers cite of the lifted functions.
+-- From 318fe9cadeab99f2, as fcb6738b0f0ba815.
+pub mod load_beside
+pub mod load_both
+pub mod first_word
+pub mod reach
+pub mod covered

@@ -1,0 +1,35 @@
+-- With a search, or without. Assumes nothing.
+mod Lts
+mod Tie
+use Rattle.blocks.specs.Load.{loadIn}
+use Rattle.covering.specs.Covering.{beside-sought, beside-plain}
+use borrow.Author.Needs.{needs}
+use Rattle.covering.proofs.load_beside.Statement.{statement}
+use Rattle.covering.proofs.load_beside.Proof.Tie as tie
+
+differs-requires : tie.Need-differs-requires
+differs-requires c κs = search needs
+
+load-from-requires : tie.Need-load-from-requires
+load-from-requires c κs = search needs
+
+same-length : tie.Need-same-length
+same-length c = search needs
+
+returns : tie.Need-returns
+returns c = beside-sought (c .before .before .before .before .before .before .before .args .n) (c .before .before .before .before .before .before .before .args .s .now) (c .before .before .before .before .before .before .before .args .w) (c .before .before .before .before .before .before .before .args .noes) (c .before .before .before .before .before .before .before .args .yeses) (c .before .before .before .before .before .before .before .args .t .now) (c .before .before .before .before .before .differs .result) (c .before .before .before .before .before .differs .ensures) (c .before .before .before .before .if1 .taken) _ _ (c .before .before .load-from .ensures)
+
+load-requires : tie.Need-load-requires
+load-requires c κs = search needs
+
+none-sought-requires : tie.Need-none-sought-requires
+none-sought-requires c κs = search needs
+
+same-length-2 : tie.Need-same-length-2
+same-length-2 c = search needs
+
+returns-2 : tie.Need-returns-2
+returns-2 c = beside-plain (c .before .before .before .before .before .before .before .args .n) (c .before .before .before .before .before .before .before .args .s .now) (c .before .before .before .before .before .before .before .args .w) (c .before .before .before .before .before .before .before .args .noes) (c .before .before .before .before .before .before .before .args .yeses) (c .before .before .before .before .before .before .before .args .t .now) (c .before .before .before .before .before .differs .result) (c .before .before .before .before .before .differs .ensures) (c .before .before .before .before .if1 .left) _ (c .before .before .load .ensures) _ (c .none-sought .ensures)
+
+pub load-beside-spec : {M : Type 1} → statement M
+load-beside-spec = tie.close (tie.spec differs-requires load-from-requires same-length returns load-requires none-sought-requires same-length-2 returns-2)

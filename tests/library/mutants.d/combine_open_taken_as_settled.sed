@@ -1,0 +1,2 @@
+# crates/covering/src/lib.rt
+/^fn reach/,/^}/s/^            return short;/            return long;/
