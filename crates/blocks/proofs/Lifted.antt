@@ -1,6 +1,13 @@
 -- Generated: what callers cite of the lifted functions.
--- From 9d7fbd44082f02c4, as d38b6c31d686a3e6.
+-- From eec01787ca9aefac, as b03bfff2a35c9d10.
 pub mod next_block
-pub mod is_whole
+pub mod stays
+pub mod first_stays
+pub mod firsts_stay
+pub mod highest
+pub mod put_worded
+pub mod put_spine
+pub mod can_root
+pub mod root
 pub mod loaded_at
 pub mod load

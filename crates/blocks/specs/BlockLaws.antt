@@ -54,7 +54,7 @@ stands-all n bytes r o t h = omega (arith, at-all n bytes (h .steps) (stateAt r 
 -- ---- The table where code stands -------------------------------------------------------------
 
 -- before the size is read it has no number, and the theory's table nothing
-none-node : (t : List NodeRecord) (k : ℕ) → node (tableOf t 0) k ≡ node [] k
+pub none-node : (t : List NodeRecord) (k : ℕ) → node (tableOf t 0) k ≡ node [] k
 none-node t zero = refl
 none-node t (suc k) = refl
 

@@ -1,19 +1,21 @@
--- A whole stream read into its table, as code does it: what checking answers, and the outermost node, if the table has it. With a law for each
--- way through code. Assumes nothing.
-use mathlib.Core.Path.{_≡_, refl, sym, ap, _∙_}
-use mathlib.Core.Bool.{Bool, false, cond, not, _&&_}
+-- A stream read to its end into its table, as code does it: what checking answers, and the number of the outermost node, if the table has it. With a
+-- law for each way through code. Assumes nothing.
+use mathlib.Core.Path.{_≡_, refl, sym, ap, ap₂, _∙_}
+use mathlib.Core.Logic.{_⊎_, ⊎-elim}
+use mathlib.Core.Bool.{Bool, true, false, cond, not, _&&_, _||_}
 use mathlib.Core.List.{List}
-use Prim.Native.Nat.{ℕ, _<_, _≤_}
+use Prim.Native.Nat.{ℕ, _+_, _<_, _≤_}
 use native.Mathlib.Omega.{arith}
-use lib.Dec.{eqb, ltb}
+use lib.Dec.{ltb}
 use lib.ListN.{length, replicate}
 use borrow.Author.Tests.{lt-ltb, le-ltb}
 use Rattle.theory_reading.specs.Limits.{optionLimit, openLimit, tableLimit, wordLimit}
 use Rattle.theory_reading.specs.Causes as C
 use Rattle.theory_reading.specs.Calls as R
 use Rattle.theory_reading.specs.Deciding.{ended}
-use Rattle.elements.specs.Abstraction.{contextOf}
-use Rattle.work_table.specs.Table.{getIn}
+use Rattle.theory_reading.specs.Spine.{firstsStay, spineNumber}
+use Rattle.elements.specs.Abstraction.{contextOf, opensOf, deepOf, openList}
+use Rattle.work_table.specs.TableLaws.{tableOf}
 use Rattle.reader.specs.OpenCells.{ReadReached, cursorIn}
 use Rattle.cursors.specs.Cursors.{firstRun}
 use Rattle.reader.specs.Loop.{firstOpens, stands-first}
@@ -22,16 +24,17 @@ use Rattle.checker.specs.CheckCorrect.{checkedBy}
 use Rattle.cursors.specs.Cursors.{startCursor}
 use Rattle.reader.specs.Legs.{bare}
 use Rattle.reader.specs.ReadOn.{ReadTo, readOn, readAll, firstCursor, readFrom, read-within}
-use Rattle.blocks.specs.Blocks.{ReadBlock, blockOf}
+use Rattle.blocks.specs.Spine.{staysIn, highestIn, spineAt}
 use Rattle.blocks.specs.declared.Loaded.{Loaded}
-use Rattle.elements.specs.declared.Ref.{Ref}
+use Rattle.blocks.specs.declared.Rooting.{Rooting}
 use Rattle.cursors.specs.declared.Cursor.{Cursor}
+use Rattle.cursors.specs.declared.Run.{Run}
 use Rattle.node_records.specs.declared.NodeRecord.{NodeRecord}
 
 -- ---- Definitions -----------------------------------------------------------------------------
 
--- what loading comes to: the answer of checking; whether the table has the outermost node; the size, and what ended last: a number (0: the
--- terminal), turned about or not; the table
+-- what loading comes to: the answer of checking; whether the table has the outermost node, as far as it was read; the size, and the number of that node
+-- (0: the terminal), turned about or not; the table
 pub record LoadTo : Type 0 where
   pub answer : C.Result R.Checked
   pub whole : Bool
@@ -56,36 +59,141 @@ loadIn x u = record {
 abbrev pub refusedLoad : C.Cause → List NodeRecord → LoadTo
 refusedLoad c t = record { answer = C.refused (C.refusal c 0 0); whole = false; size = 0; number = 0; complement = false; table = t }
 
--- a is the terminal, or a number that was not given out again
-abbrev pub staysIn : List NodeRecord → ℕ → Ref → Bool
-staysIn t z a = eqb (getIn t z (a .number) .stamp) (a .stamp)
+-- one number that stands for all that was read, and the size of its table; the table
+pub record RootTo : Type 0 where
+  pub whole : Bool
+  pub size : ℕ
+  pub number : ℕ
+  pub table : List NodeRecord
 
--- no fault was met, no node is open, and the one that has just ended is in the table
-abbrev pub wholeBy : ReadReached → List NodeRecord → Bool
-wholeBy y t = not (y .faulty) && (eqb (y .opens .depth) 0 && (ended (contextOf (y .run .context)) && staysIn t (y .run .size) (y .run .last)))
+-- as code has it; u: the table after it
+abbrev pub rootingIn : Rooting → List NodeRecord → RootTo
+rootingIn x u = record { whole = x .whole; size = x .size; number = x .number; table = u }
 
--- what is made of what the loop reaches
+-- there is none
+abbrev pub unrooted : ℕ → List NodeRecord → RootTo
+unrooted z t = record { whole = false; size = z; number = 0; table = t }
+
+-- no fault was met, and the table has what ended last, if a node has just ended, and the first children of all open nodes
+abbrev pub canRoot : ReadReached → List NodeRecord → Bool
+canRoot y t =
+    not (y .faulty) && ((not (ended (contextOf (y .run .context))) || staysIn t (y .run .size) (y .run .last))
+    && firstsStay (tableOf t (y .run .size)) (openList (y .opens)))
+
+-- the number of what ended last, if a node has just ended
+abbrev pub lastIn : Run → ℕ
+lastIn r = cond (ended (contextOf (r .context))) (r .last .number) 0
+
+-- the open nodes get the numbers above h, in a table of z numbers
+abbrev pub rootedAt : ReadReached → List NodeRecord → ℕ → ℕ → RootTo
+rootedAt y t h z = record {
+  whole = true;
+  size = z;
+  number = spineNumber (openList (y .opens)) (h + 1) (lastIn (y .run));
+  table = spineAt t z (openList (y .opens)) (h + 1) (lastIn (y .run));
+}
+
+-- the larger number
+abbrev pub larger : ℕ → ℕ → ℕ
+larger z m = cond (ltb z m) m z
+
+-- h: the highest number that has a node
+abbrev pub rootAbove : ReadReached → List NodeRecord → ℕ → RootTo
+rootAbove y t h =
+    cond (ltb tableLimit (h + deepOf (y .opens .depth))) (unrooted (y .run .size) t)
+    (rootedAt y t h (larger (y .run .size) (h + deepOf (y .opens .depth))))
+
+-- The open nodes get records, above all numbers that have a node, if there is room.
+unfoldable pub rootIn : ReadReached → List NodeRecord → RootTo
+rootIn y t = cond (canRoot y t) (rootAbove y t (highestIn t (y .run .size))) (unrooted (y .run .size) t)
+
+-- what is made of what the loop reaches; x: the number that stands for it
+abbrev pub loadedAs : ReadReached → RootTo → LoadTo
+loadedAs y x = record {
+  answer = checkedBy y;
+  whole = x .whole;
+  size = x .size;
+  number = x .number;
+  complement = y .run .complement;
+  table = x .table;
+}
+
 abbrev pub loadOf : ReadTo → LoadTo
-loadOf z =
-    let b = blockOf (z .reached) in
-    record {
-      answer = checkedBy (z .reached);
-      whole = wholeBy (z .reached) (z .table);
-      size = b .cursor .run .size;
-      number = b .number;
-      complement = b
-          .complement;
-      table = z .table;
-    }
+loadOf z = loadedAs (z .reached) (rootIn (z .reached) (z .table))
 
 -- LOADING a stream: causes 1 and 4, then the stream is read to its end
 unfoldable pub load : ℕ → List ℕ → List NodeRecord → LoadTo
-unfolding readOn
+unfolding readOn rootIn
 load n bytes t =
     cond (ltb optionLimit n) (refusedLoad C.optionCount t)
     (cond (ltb (length t) tableLimit) (refusedLoad C.workTable t) (loadOf (readAll n bytes wordLimit firstRun firstOpens t)))
 
 -- ---- The ways through code -------------------------------------------------------------------
+
+-- y: what the loop reaches
+module _ (y : ReadReached) (t : List NodeRecord) where
+  abbrev hasEnded : Bool
+  hasEnded = ended (contextOf (y .run .context))
+
+  abbrev lastStays : Bool
+  lastStays = staysIn t (y .run .size) (y .run .last)
+
+  pub can-faulty : y .faulty ≡ true → false ≡ canRoot y t
+  can-faulty e = rw e refl
+
+  pub can-stale : y .faulty ≡ false → hasEnded ≡ true → lastStays ≡ false → false ≡ canRoot y t
+  can-stale f e s = rw (f, e, s) refl
+
+  -- b: whether all first children stay
+  pub can-rest : y .faulty ≡ false → (hasEnded ≡ false) ⊎ (lastStays ≡ true) → (b : Bool)
+      → b ≡ firstsStay (tableOf t (y .run .size)) (openList (y .opens)) → b ≡ canRoot y t
+  can-rest f s b e = ⊎-elim
+      (λ (h : hasEnded ≡ false). rw (f, h) e)
+      (λ (h : lastStays ≡ true). go hasEnded h)
+      s
+    where
+      go : (c : Bool) → lastStays ≡ true
+          → b ≡ (not (y .faulty) && ((not c || lastStays) && firstsStay (tableOf t (y .run .size)) (openList (y .opens))))
+      go true h = rw (f, h) e
+      go false h = rw f e
+
+  pub root-cannot : (x : RootTo) → false ≡ canRoot y t → x ≡ unrooted (y .run .size) t → x ≡ rootIn y t
+  unfolding rootIn
+  root-cannot x c e = rw (sym c) e
+
+  -- h, d: the highest number that has a node, and the count of open nodes
+  module _ (h d : ℕ) (he : h ≡ highestIn t (y .run .size)) (de : d ≡ deepOf (y .opens .depth)) (can : true ≡ canRoot y t) where
+    pub root-full : (x : RootTo) → tableLimit < h + d → x ≡ unrooted (y .run .size) t → x ≡ rootIn y t
+    unfolding rootIn
+    root-full x l e =
+        let q : ltb tableLimit (highestIn t (y .run .size) + deepOf (y .opens .depth)) ≡ true
+        = lt-ltb tableLimit (highestIn t (y .run .size) + deepOf (y .opens .depth)) (omega (arith, l, he, de)) in
+        rw (sym can, q) e
+
+    -- z: the size; e: what ended last; m, u: the number of the outermost node, and the table
+    pub root-done : h + d ≤ tableLimit → (z e : ℕ) → z ≡ larger (y .run .size) (h + d) → e ≡ lastIn (y .run) → (m : ℕ) (u : List NodeRecord)
+        → (u ≡ spineAt t z (opensOf (y .opens .nodes) d) (h + 1) e) × (m ≡ spineNumber (opensOf (y .opens .nodes) d) (h + 1) e)
+        → record { whole = true; size = z; number = m; table = u } ≡ rootIn y t
+    unfolding rootIn
+    root-done l z e ze ee m u p =
+        let q : ltb tableLimit (highestIn t (y .run .size) + deepOf (y .opens .depth)) ≡ false
+        = le-ltb tableLimit (highestIn t (y .run .size) + deepOf (y .opens .depth)) (omega (arith, l, he, de)) in
+        let s : z ≡ larger (y .run .size) (highestIn t (y .run .size) + deepOf (y .opens .depth)) = ze
+        ∙ ap₂ (λ (h d : ℕ). larger (y .run .size) (h + d)) he de in
+        rw (sym can, q) (ap₂ (λ (u : List NodeRecord) (m : ℕ). record { whole = true; size = z; number = m; table = u }) (p .0) (p .1)
+        ∙ ap (λ (d : ℕ). record {
+          whole = true;
+          size = z;
+          number = spineNumber (opensOf (y .opens .nodes) d) (h + 1) e;
+          table = spineAt t z (opensOf (y .opens .nodes) d) (h + 1) e;
+        }) de
+        ∙ ap₂ (λ (h e : ℕ). record {
+          whole = true;
+          size = z;
+          number = spineNumber (openList (y .opens)) (h + 1) e;
+          table = spineAt t z (openList (y .opens)) (h + 1) e;
+        }) he ee
+        ∙ ap (rootedAt y t (highestIn t (y .run .size))) s)
 
 module _ (n : ℕ) (bytes : List ℕ) (t : List NodeRecord) where
   pub load-options : (x : LoadTo) → optionLimit < n → x ≡ refusedLoad C.optionCount t → x ≡ load n bytes t
@@ -112,15 +220,13 @@ module _ (n : ℕ) (bytes : List ℕ) (t : List NodeRecord) where
       ∙ read-within n bytes few wordLimit (omega arith) firstCursor t (stands-first n bytes t room))
       ∙ sym (load-on few room)
 
--- y, u: what the loop reaches, and the table after it; b, a, w: the block, the answer and whether it is whole, as code has them
-pub load-made : (y : ReadReached) (u : List NodeRecord) (b : ReadBlock) → b ≡ blockOf y → (a : C.Result R.Checked) → a ≡ checkedBy y
-    → (w : Bool) → w ≡ wholeBy y u
-    → record { answer = a; whole = w; size = b .cursor .run .size; number = b .number; complement = b .complement; table = u }
-    ≡ loadOf (record { reached = y; table = u })
-load-made y u b be a ae w we =
-    ap (λ (b : ReadBlock). record { answer = a; whole = w; size = b .cursor .run .size; number = b .number; complement = b .complement; table = u }) be
-    ∙ rw (ae, we) refl
+-- y, u: what the loop reaches, and the table after it; x, v: the number that stands for it, and the table then; a, z, k, p: the answer, and what the block has
+pub load-made : (y : ReadReached) (u : List NodeRecord) (x : Rooting) (v : List NodeRecord) → rootingIn x v ≡ rootIn y u → (a : C.Result R.Checked)
+    → a ≡ checkedBy y → (z k : ℕ) (p : Bool) → (z ≡ x .size) × ((k ≡ x .number) × (p ≡ y .run .complement))
+    → record { answer = a; whole = x .whole; size = z; number = k; complement = p; table = v } ≡ loadOf (record { reached = y; table = u })
+load-made y u x v xe a ae z k p b = rw (b .0, b .1 .0, b .1 .1, ae) (ap (loadedAs y) xe)
 
 -- What the last element passed does not count.
 pub load-bare : (z w : ReadTo) → bare z ≡ bare w → loadOf z ≡ loadOf w
+unfolding rootIn
 load-bare z w e = ap loadOf e

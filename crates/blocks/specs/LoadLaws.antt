@@ -1,39 +1,42 @@
--- The laws of loading a stream: it answers as checking does, and where it is whole the number of the outermost node decides every word, by the
--- table as it is left. Assumes nothing.
+-- The laws of loading a stream: it answers as checking does, and where its table is whole one number decides every word that the stream decides, as it does,
+-- by the table as it is left. Assumes nothing.
 use mathlib.Core.Path.{_≡_, refl, sym, ap, ap₂, _∙_, subst}
 use mathlib.Core.Logic.{⊎-elim}
-use mathlib.Core.Bool.{Bool, true, false, cond, not, _&&_, false≢true}
-use mathlib.Core.List.{List, []}
-use Prim.Native.Nat.{ℕ, suc, _<_, _≤_, _^_}
+use mathlib.Core.Bool.{Bool, true, false, cond, not, _&&_, _||_, false≢true}
+use mathlib.Core.List.{List, [], _∷_}
+use Prim.{tt}
+use Prim.Native.Nat.{ℕ, suc, _+_, _<_, _≤_, _^_}
 use native.Mathlib.Omega.{arith}
-use lib.Dec.{eqb}
+use lib.Dec.{eqb, ltb}
 use lib.ListN.{length}
-use borrow.Author.Tests.{eqb-true}
-use Rattle.theory_lists.specs.Lists.{differ, decide-le}
+use borrow.Author.Tests.{ltb-false}
+use Rattle.theory_lists.specs.Lists.{decide-le}
 use Rattle.theory_reading.specs.Limits.{optionLimit, tableLimit, wordLimit}
-use Rattle.theory_reading.specs.Nodes.{Node, child, node, bars}
+use Rattle.theory_reading.specs.Nodes.{Ref, terminal, entry, temporary, child, Node, node, bars}
 use Rattle.theory_reading.specs.Causes as C
 use Rattle.theory_reading.specs.Element as T
 use Rattle.theory_reading.specs.Reading.{State, Reading, isStart, reading}
 use Rattle.theory_reading.specs.Deciding.{decided, complemented, options, ended, decision}
 use Rattle.theory_reading.specs.Calls as R
-use Rattle.theory_reading.specs.Covered.{parity, covered, covered-decided}
 use Rattle.theory_reading.specs.TableWalk.{tableWalk}
 use Rattle.theory_reading.specs.Lasting.{Ordered}
-use Rattle.theory_reading.specs.Rooted.{Rooted, rooted-decides, rooted-deep, rooted-covers}
-use Rattle.elements.specs.Abstraction.{contextOf, refOf, openList}
-use Rattle.elements.specs.OpenLaws.{open-none}
+use Rattle.theory_reading.specs.Spine.{firstsStay, spineNumber, SpineIn, Shows, Extends, FirstsDeep, Stays, begunNumber, spine-decides, begun-deep, reading-firsts}
+use Rattle.elements.specs.Abstraction.{contextOf, refOf, deepOf, openList}
+use Rattle.elements.specs.OpenLaws.{open-length}
 use Rattle.node_records.specs.Records.{noRecord}
-use Rattle.work_table.specs.TableLaws.{tableOf, Held}
+use Rattle.work_table.specs.TableLaws.{tableOf, Worded}
 use Rattle.reader.specs.Simulation.{child-of}
 use Rattle.reader.specs.Advance.{stateAt, bars-record}
 use Rattle.reader.specs.OpenCells.{ReadReached}
 use Rattle.cursors.specs.Cursors.{firstRun}
-use Rattle.reader.specs.Loop.{firstOpens, stands-first, ReachedBy}
+use Rattle.reader.specs.Loop.{firstOpens, Stands, stands-first, ReachedBy}
 use Rattle.checker.specs.CheckCorrect.{checkedBy, Reads, all-reads, check-options, check-table, check-correct}
 use Rattle.reader.specs.ReadOn.{ReadTo, readAll, read-length, read-reaches}
-use Rattle.blocks.specs.BlockLaws.{none-ordered, stands-ordered}
-use Rattle.blocks.specs.Load.{LoadTo, staysIn, wholeBy, refusedLoad, loadOf, load, load-options, load-table, load-on}
+use Rattle.blocks.specs.BlockLaws.{none-node, none-ordered, stands-ordered}
+use Rattle.blocks.specs.Spine.{staysIn, highestIn}
+use Rattle.blocks.specs.SpineLaws.{spine-length, spine-ordered, spine-worded, spine-extends, spine-has, spine-deep}
+use Rattle.blocks.specs.Load.{LoadTo, RootTo, unrooted, canRoot, lastIn, rootedAt, larger, rootIn, refusedLoad, loadedAs, loadOf, load}
+use Rattle.blocks.specs.Load.{load-options, load-table, load-on}
 use Rattle.node_records.specs.declared.NodeRecord.{NodeRecord}
 
 -- ---- What is made of what the loop reaches ---------------------------------------------------
@@ -48,64 +51,156 @@ ended-later T.afterTwo e = refl
 ended-later T.afterOne e = refl
 ended-later T.over e = refl
 
--- what whole says
-record Whole (y : ReadReached) (u : List NodeRecord) : Type 0 where
-  clean : y .faulty ≡ false
-  alone : y .opens .depth ≡ 0
-  done : ended (contextOf (y .run .context)) ≡ true
-  stays : staysIn u (y .run .size) (y .run .last) ≡ true
+-- what the test says
+record CanRoot (y : ReadReached) (u : List NodeRecord) : Type 0 where
+  last : ended (contextOf (y .run .context)) ≡ true → staysIn u (y .run .size) (y .run .last) ≡ true
+  firsts : firstsStay (tableOf u (y .run .size)) (openList (y .opens)) ≡ true
 
-whole-says : (y : ReadReached) (u : List NodeRecord) → wholeBy y u ≡ true → Whole y u
-whole-says y u = go (y .faulty) (eqb (y .opens .depth) 0) (ended (contextOf (y .run .context))) refl refl refl
+can-says : (y : ReadReached) (u : List NodeRecord) → canRoot y u ≡ true → CanRoot y u
+can-says y u = go (y .faulty) (ended (contextOf (y .run .context))) (staysIn u (y .run .size) (y .run .last)) refl refl
   where
-    go : (a b c : Bool) → y .faulty ≡ a → eqb (y .opens .depth) 0 ≡ b → ended (contextOf (y .run .context)) ≡ c
-        → (not a && (b && (c && staysIn u (y .run .size) (y .run .last)))) ≡ true → Whole y u
-    go true b c i j k e = absurd (false≢true e)
-    go false false c i j k e = absurd (false≢true e)
-    go false true false i j k e = absurd (false≢true e)
-    go false true true i j k e = record { clean = i; alone = eqb-true (y .opens .depth) 0 j; done = k; stays = e }
+    go : (a b c : Bool) → ended (contextOf (y .run .context)) ≡ b → staysIn u (y .run .size) (y .run .last) ≡ c
+        → (not a && ((not b || c) && firstsStay (tableOf u (y .run .size)) (openList (y .opens)))) ≡ true → CanRoot y u
+    go true b c i j e = absurd (false≢true e)
+    go false true true i j e = record { last = λ _. j; firsts = e }
+    go false true false i j e = absurd (false≢true e)
+    go false false c i j e = record { last = λ k. absurd (false≢true (sym i ∙ k)); firsts = e }
+
+-- the ways of rooting
+root-ways : (P : RootTo → Type 0) (y : ReadReached) (u : List NodeRecord) → P (unrooted (y .run .size) u)
+    → (CanRoot y u → highestIn u (y .run .size) + deepOf (y .opens .depth) ≤ tableLimit
+    → P (rootedAt y u (highestIn u (y .run .size)) (larger (y .run .size) (highestIn u (y .run .size) + deepOf (y .opens .depth)))))
+    → P (rootIn y u)
+unfolding rootIn
+root-ways P y u none some = go (canRoot y u) refl
+    (ltb tableLimit (highestIn u (y .run .size) + deepOf (y .opens .depth))) refl
+  where
+    go : (a : Bool) → canRoot y u ≡ a → (b : Bool) → ltb tableLimit (highestIn u (y .run .size) + deepOf (y .opens .depth)) ≡ b
+        → P (cond a (cond b (unrooted (y .run .size) u)
+        (rootedAt y u (highestIn u (y .run .size)) (larger (y .run .size) (highestIn u (y .run .size) + deepOf (y .opens .depth)))))
+        (unrooted (y .run .size) u))
+    go true i true j = none
+    go true i false j = some (can-says y u i) (ltb-false _ _ j)
+    go false i b j = none
+
+root-length : (y : ReadReached) (u : List NodeRecord) → length (rootIn y u .table) ≡ length u
+root-length y u = root-ways (λ (x : RootTo). length (x .table) ≡ length u) y u refl
+    (λ can fits. spine-length (larger (y .run .size) (highestIn u (y .run .size) + deepOf (y .opens .depth))) (openList (y .opens)) u
+    (highestIn u (y .run .size) + 1) (lastIn (y .run)))
+
+-- ---- Tables that have the same nodes
+
+module _ (t u : List Node) (same : (k : ℕ) → node t k ≡ node u k) where
+  bars-alike : (r : Ref) → bars t r ≡ bars u r
+  bars-alike terminal = refl
+  bars-alike (entry k g) = ap (λ (x : Node). not (eqb (x .stamp) g)) (same k)
+  bars-alike temporary = refl
+
+  stays-alike : (o : List T.Open) → firstsStay t o ≡ firstsStay u o
+  stays-alike [] = refl
+  stays-alike (T.inFirst ∷ o) = stays-alike o
+  stays-alike (T.inSecond r b ∷ o) = ap₂ (λ (b c : Bool). not b && c) (bars-alike r) (stays-alike o)
+
+  deep-alike : (o : List T.Open) → FirstsDeep t o → FirstsDeep u o
+  deep-alike [] h = tt
+  deep-alike (T.inFirst ∷ o) h = deep-alike o h
+  deep-alike (T.inSecond r b ∷ o) h =
+      ((λ p. omega (arith, h .0 p, ap (λ (x : Node). x .level) (same (child r)))), deep-alike o (h .1))
+
+-- ---- The stream at one number
 
 -- y, u: what the loop reaches at the end of the stream, and the table after it
-module _ (n : ℕ) (bytes : List ℕ) (y : ReadReached) (u : List NodeRecord) (h : Reads n bytes y u) (w : Whole y u) where
+module _ (n : ℕ) (bytes : List ℕ) (y : ReadReached) (u : List NodeRecord) (read : Reads n bytes y u) (stands : Stands n bytes (y .run) (y .opens) u)
+    (can : CanRoot y u) (fits : highestIn u (y .run .size) + deepOf (y .opens .depth) ≤ tableLimit) where
   abbrev s : State
   s = stateAt (y .run) (y .opens) u
 
+  abbrev size : ℕ
+  size = y .run .size
+
+  abbrev o : List T.Open
+  o = openList (y .opens)
+
+  abbrev h : ℕ
+  h = highestIn u size
+
   state-same : reading n bytes .state ≡ s
-  state-same = ap (λ (r : Reading). r .state) (h .same)
+  state-same = ap (λ (r : Reading). r .state) (read .same)
 
-  opens-none : openList (y .opens) ≡ []
-  opens-none = ap (λ (d : ℕ). openList (record { nodes = y .opens .nodes; depth = d })) (w .alone) ∙ open-none (y .opens .nodes)
+  table-same : (k : ℕ) → node (s .table) k ≡ node (tableOf u size) k
+  table-same = go (isStart (contextOf (y .run .context))) refl
+    where
+      go : (b : Bool) → isStart (contextOf (y .run .context)) ≡ b → (k : ℕ) → node (cond b [] (tableOf u size)) k ≡ node (tableOf u size) k
+      go true e k = sym (ap (λ (z : ℕ). node (tableOf u z) k) (stands .kept .begin e) ∙ none-node u k)
+      go false e k = refl
 
-  table-same : s .table ≡ tableOf u (y .run .size)
-  table-same = ap (λ (b : Bool). cond b [] (tableOf u (y .run .size))) (ended-later (contextOf (y .run .context)) (w .done))
+  stays : Stays s
+  stays = record {
+    firsts = stays-alike (s .table) (tableOf u size) table-same o ∙ can .firsts;
+    last = λ e. bars-alike (s .table) (tableOf u size) table-same (refOf (y .run .last)) ∙ bars-record u size (y .run .last) ∙ ap not (can .last e);
+  }
 
-  rooted : Rooted (reading n bytes .state)
-  rooted = subst Rooted (sym state-same) (record {
-    alone = opens-none;
-    done = w .done;
-    stays = ap (λ (t : List Node). bars t (refOf (y .run .last))) table-same ∙ bars-record u (y .run .size) (y .run .last) ∙ ap not (w .stays);
-  })
+  stays-there : Stays (reading n bytes .state)
+  stays-there = subst Stays (sym state-same) stays
 
-  complement-same : y .run .complement ≡ differ (parity (openList (y .opens))) (y .run .complement)
-  unfolding parity
-  complement-same = ap (λ (o : List T.Open). differ (parity o) (y .run .complement)) (sym opens-none)
+  begun-same : begunNumber s ≡ lastIn (y .run)
+  begun-same = ap (λ (k : ℕ). cond (ended (contextOf (y .run .context))) k 0) (sym (child-of (y .run .last)))
 
-  whole-decides : (i : ℕ) → decision n bytes i
-      ≡ complemented (differ (parity (openList (y .opens))) (y .run .complement))
-      (tableWalk (tableOf u (y .run .size)) 1 (y .run .last .number) (options n i))
-  whole-decides i =
-      rooted-decides n bytes rooted i
-      ∙ ap (λ (s : State). complemented (s .complement) (tableWalk (s .table) 1 (child (s .place .last)) (options n i))) state-same
-      ∙ ap₂ (λ (b : Bool) (t : List Node). complemented b (tableWalk t 1 (child (refOf (y .run .last))) (options n i))) complement-same table-same
-      ∙ ap (λ (k : ℕ). complemented (differ (parity (openList (y .opens))) (y .run .complement))
-      (tableWalk (tableOf u (y .run .size)) 1 k (options n i))) (sym (child-of (y .run .last)))
+  count-same : length o ≡ deepOf (y .opens .depth)
+  count-same = open-length (y .opens .nodes) (deepOf (y .opens .depth))
 
-  whole-deep : 0 < y .run .last .number → 1 ≤ node (tableOf u (y .run .size)) (y .run .last .number) .level
-  whole-deep =
-      subst (λ (t : List Node). 0 < y .run .last .number → 1 ≤ node t (y .run .last .number) .level) table-same
-      (subst (λ (k : ℕ). 0 < k → 1 ≤ node (s .table) k .level) (sym (child-of (y .run .last)))
-      (subst (λ (s : State). 0 < child (s .place .last) → 1 ≤ node (s .table) (child (s .place .last)) .level) state-same
-      (rooted-deep n bytes rooted)))
+  begun : 0 < lastIn (y .run) → length o + 1 ≤ node (tableOf u size) (lastIn (y .run)) .level
+  begun = subst (λ (e : ℕ). 0 < e → length o + 1 ≤ node (tableOf u size) e .level) begun-same
+      (λ p. omega (
+        arith,
+        subst (λ (s : State). 0 < begunNumber s → length (s .place .opens) + 1 ≤ node (s .table) (begunNumber s) .level) state-same
+            (begun-deep n bytes stays-there) p,
+        ap (λ (x : Node). x .level) (table-same (begunNumber s)),
+      ))
+
+  firsts : FirstsDeep (tableOf u size) o
+  firsts = deep-alike (s .table) (tableOf u size) table-same o
+      (subst (λ (s : State). FirstsDeep (s .table) (s .place .opens)) state-same (reading-firsts n bytes stays-there))
+
+  ordered : Ordered (tableOf u size)
+  ordered = stands-ordered n bytes (y .run) (y .opens) u stands
+
+  enough : h + length o ≤ tableLimit
+  enough = omega (arith, fits, count-same)
+
+  abbrev x : RootTo
+  x = rootedAt y u h (larger size (h + length o))
+
+  rooted-ordered : Ordered (tableOf (x .table) (x .size))
+  rooted-ordered = spine-ordered u size (stands .kept .room) (stands .kept .small) (stands .kept .held) ordered o (lastIn (y .run)) begun firsts enough
+
+  rooted-worded : Worded (x .table) (x .size)
+  rooted-worded = spine-worded u size (stands .kept .room) (stands .kept .small) (stands .kept .held) ordered o (lastIn (y .run)) begun firsts enough
+
+  rooted-deep : 0 < x .number → 1 ≤ node (tableOf (x .table) (x .size)) (x .number) .level
+  rooted-deep = spine-deep u size (stands .kept .room) (stands .kept .small) (stands .kept .held) ordered o (lastIn (y .run)) begun firsts enough
+
+  rooted-extends : Extends (s .table) (tableOf (x .table) (x .size))
+  rooted-extends k p =
+      spine-extends u size (stands .kept .room) (stands .kept .small) (stands .kept .held) ordered o (lastIn (y .run)) begun firsts enough k
+      (subst (λ (x : Node). 0 < x .level) (table-same k) p) ∙ sym (table-same k)
+
+  rooted-has : SpineIn (tableOf (x .table) (x .size)) o (h + 1) (lastIn (y .run))
+  rooted-has = spine-has u size (stands .kept .room) (stands .kept .small) (stands .kept .held) ordered o (lastIn (y .run)) begun firsts enough
+
+  rooted-shows : (w : ℕ) → Shows (decision n bytes w)
+      (complemented (y .run .complement) (tableWalk (tableOf (x .table) (x .size)) 1 (x .number) (options n w)))
+  rooted-shows w =
+      let v = tableOf (x .table) (x .size) in
+      subst (λ (e : ℕ). SpineIn v o (h + 1) e
+      → Shows (decision n bytes w) (complemented (y .run .complement) (tableWalk v 1 (spineNumber o (h + 1) e) (options n w)))) begun-same
+      (λ rows. subst (λ (s : State). Extends (s .table) v → SpineIn v (s .place .opens) (h + 1) (begunNumber s)
+      → Shows (decision n bytes w) (complemented (s .complement) (tableWalk v 1 (spineNumber (s .place .opens) (h + 1) (begunNumber s)) (options n w))))
+      state-same (λ more rows. spine-decides n bytes stays-there v (h + 1) (omega arith) more rows w) rooted-extends rows) rooted-has
+
+  -- with the count of open nodes as code has it
+  by-count : (P : RootTo → Type 0) → P x → P (rootedAt y u h (larger size (h + deepOf (y .opens .depth))))
+  by-count P = subst (λ (d : ℕ). P (rootedAt y u h (larger size (h + d)))) count-same
 
 -- ---- Loading ---------------------------------------------------------------------------------
 
@@ -142,57 +237,57 @@ module _ (n : ℕ) (bytes : List ℕ) (t : List NodeRecord) where
   -- The table is as long as it was.
   pub load-length : length (load n bytes t .table) ≡ length t
   load-length = load-ways (λ (x : LoadTo). length (x .table) ≡ length t) (λ h. refl) (λ few h. refl)
-      (λ few room. read-length (suc (length bytes)) n bytes wordLimit firstRun firstOpens 0 0 t)
+      (λ few room. root-length (z .reached) (z .table) ∙ read-length (suc (length bytes)) n bytes wordLimit firstRun firstOpens 0 0 t)
 
   -- It is ordered, whole or not.
   pub load-ordered : (x : LoadTo) → x ≡ load n bytes t → Ordered (tableOf (x .table) (x .size))
   load-ordered x called = subst (λ (x : LoadTo). Ordered (tableOf (x .table) (x .size))) (sym called)
       (load-ways (λ (x : LoadTo). Ordered (tableOf (x .table) (x .size))) (λ h. none-ordered t) (λ few h. none-ordered t)
-      (λ few room. stands-ordered n bytes (z .reached .run) (z .reached .opens) (z .table) (reaches few room .stands)))
+      (λ few room. let r = reaches few room .stands in
+      root-ways (λ (x : RootTo). Ordered (tableOf (x .table) (x .size))) (z .reached) (z .table)
+      (stands-ordered n bytes (z .reached .run) (z .reached .opens) (z .table) r)
+      (λ can fits. by-count n bytes (z .reached) (z .table) (reads few room) r can fits (λ (x : RootTo). Ordered (tableOf (x .table) (x .size)))
+      (rooted-ordered n bytes (z .reached) (z .table) (reads few room) r can fits))))
 
 -- x: what a call comes to, which is whole
 module _ (n : ℕ) (bytes : List ℕ) (t : List NodeRecord) (x : LoadTo) (called : x ≡ load n bytes t) (whole : x .whole ≡ true) where
-  -- what holds of what was read
-  abbrev Holds : (LoadTo → Type 0) → Type 0
-  Holds P = n ≤ optionLimit → Reads n bytes (z n bytes t .reached) (z n bytes t .table) → Whole (z n bytes t .reached) (z n bytes t .table)
-      → P (loadOf (z n bytes t))
+  abbrev y : ReadReached
+  y = z n bytes t .reached
 
-  by-whole : (P : LoadTo → Type 0) → Holds P → P x
+  abbrev u : List NodeRecord
+  u = z n bytes t .table
+
+  -- what holds of what was read, where the table has it
+  by-whole : (P : LoadTo → Type 0)
+      → (Reads n bytes y u → Stands n bytes (y .run) (y .opens) u → CanRoot y u
+      → highestIn u (y .run .size) + deepOf (y .opens .depth) ≤ tableLimit
+      → P (loadedAs y (rootedAt y u (highestIn u (y .run .size)) (larger (y .run .size) (highestIn u (y .run .size) + deepOf (y .opens .depth))))))
+      → P x
   by-whole P k = subst P (sym called) (load-ways n bytes t (λ (x : LoadTo). x .whole ≡ true → P x)
       (λ h e. absurd (false≢true e)) (λ few h e. absurd (false≢true e))
-      (λ few room e. k few (reads n bytes t few room) (whole-says _ _ e))
+      (λ few room. root-ways (λ (x : RootTo). x .whole ≡ true → P (loadedAs y x)) y u (λ e. absurd (false≢true e))
+      (λ can fits e. k (reads n bytes t few room) (reaches n bytes t few room .stands) can fits))
       (ap (λ (x : LoadTo). x .whole) (sym called) ∙ whole))
 
-  -- THE NUMBER DECIDES EVERY WORD, by the table as it is left.
-  pub load-decides : (w : ℕ) → decision n bytes w ≡ complemented (x .complement)
-      (tableWalk (tableOf (x .table) (x .size)) 1 (x .number) (options n w))
-  load-decides w = by-whole (λ (x : LoadTo). decision n bytes w ≡ complemented (x .complement)
-      (tableWalk (tableOf (x .table) (x .size)) 1 (x .number) (options n w)))
-      (λ few h k. whole-decides n bytes _ _ h k w)
+  -- THE NUMBER SHOWS WHAT THE STREAM DECIDES: by the table as it is left it decides every word, and those that the stream decides as the stream does.
+  pub load-shows : (w : ℕ) → w < 2 ^ n → (d : Bool)
+      × ((complemented (x .complement) (tableWalk (tableOf (x .table) (x .size)) 1 (x .number) (options n w)) ≡ decided d)
+      × ((e : Bool) → decision n bytes w ≡ decided e → e ≡ d))
+  load-shows w l = by-whole (λ (x : LoadTo). Shows (decision n bytes w)
+      (complemented (x .complement) (tableWalk (tableOf (x .table) (x .size)) 1 (x .number) (options n w))))
+      (λ read stands can fits. by-count n bytes y u read stands can fits
+      (λ (x : RootTo). Shows (decision n bytes w) (complemented (y .run .complement) (tableWalk (tableOf (x .table) (x .size)) 1 (x .number) (options n w))))
+      (rooted-shows n bytes y u read stands can fits w))
 
-  -- The records are those that reading keeps: each says of the words below its node what they are.
-  pub load-held : Held (x .table) (x .size)
-  load-held = subst (λ (x : LoadTo). Held (x .table) (x .size)) (sym called)
-      (load-ways n bytes t (λ (x : LoadTo). x .whole ≡ true → Held (x .table) (x .size))
-      (λ h e. absurd (false≢true e)) (λ few h e. absurd (false≢true e)) (λ few room e. reaches n bytes t few room .stands .kept .held)
-      (ap (λ (x : LoadTo). x .whole) (sym called) ∙ whole))
+  -- Each record says of the words below its node what they are.
+  pub load-held : Worded (x .table) (x .size)
+  load-held = by-whole (λ (x : LoadTo). Worded (x .table) (x .size))
+      (λ read stands can fits. by-count n bytes y u read stands can fits (λ (x : RootTo). Worded (x .table) (x .size))
+      (rooted-worded n bytes y u read stands can fits))
 
   -- The number has a level, unless it is the terminal's.
   pub load-deep : 0 < x .number → 1 ≤ node (tableOf (x .table) (x .size)) (x .number) .level
   load-deep = by-whole (λ (x : LoadTo). 0 < x .number → 1 ≤ node (tableOf (x .table) (x .size)) (x .number) .level)
-      (λ few h k. whole-deep n bytes _ _ h k)
-
-  -- All words are covered.
-  pub load-covers : covered n bytes ≡ 2 ^ n
-  load-covers = by-whole (λ _. covered n bytes ≡ 2 ^ n) (λ few h k. rooted-covers n bytes (rooted n bytes _ _ h k))
-
-  -- WHAT THE EDGE SHOWS: of every word a value, and the stream decides no other.
-  pub load-shows : (w : ℕ) → w < 2 ^ n → (d : Bool)
-      × ((complemented (x .complement) (tableWalk (tableOf (x .table) (x .size)) 1 (x .number) (options n w)) ≡ decided d)
-      × ((e : Bool) → decision n bytes w ≡ decided e → e ≡ d))
-  load-shows w l =
-      let h = covered-decided n bytes w l (omega (arith, l, load-covers)) in
-      (_, (sym (load-decides w) ∙ h, λ e k. one e _ (sym k ∙ h)))
-    where
-      one : (a b : Bool) → decided a ≡ decided b → a ≡ b
-      one a b e = cc
+      (λ read stands can fits. by-count n bytes y u read stands can fits
+      (λ (x : RootTo). 0 < x .number → 1 ≤ node (tableOf (x .table) (x .size)) (x .number) .level)
+      (rooted-deep n bytes y u read stands can fits))

@@ -1,18 +1,23 @@
 // Reading a stream block by block, or whole into its table.
 ghost use mathlib.Core.Path.{_≡_};
-ghost use mathlib.Core.List.{List, []};
-ghost use Prim.Native.Nat.{ℕ, _-_};
+ghost use mathlib.Core.List.{List};
+ghost use Prim.Native.Nat.{_+_, _-_, _≤_};
 ghost use Rattle.theory_reading.specs.Covered.{parity};
 ghost use Rattle.theory_reading.specs.Deciding.{ended};
-ghost use Rattle.elements.specs.Abstraction.{openList, contextOf, causeOf};
+ghost use Rattle.theory_reading.specs.Limits.{openLimit, tableLimit};
+ghost use Rattle.theory_reading.specs.Spine.{firstStays, firstsStay, spineNumber};
+ghost use Rattle.elements.specs.Abstraction.{openOf, opensOf, deepOf, openList, contextOf, causeOf};
 ghost use Rattle.node_records.specs.declared.NodeRecord.{NodeRecord};
-ghost use Rattle.reader.specs.OpenCells.{opensIn, reachedIn, cursorIn};
+ghost use Rattle.work_table.specs.TableLaws.{tableOf};
+ghost use Rattle.reader.specs.OpenCells.{openIn, nodesIn, opensIn, reachedIn, cursorIn};
 ghost use Rattle.blocks.specs.Blocks.{edgeAt, blockIn, blockOf, nextBlock};
-ghost use Rattle.blocks.specs.Load.{loadIn, refusedLoad, wholeBy, loadOf, load};
+ghost use Rattle.blocks.specs.Spine.{staysIn, highestIn, spineRecord, wordedAt, spineAt};
+ghost use Rattle.blocks.specs.Load.{rootingIn, unrooted, canRoot, lastIn, larger, rootIn, loadIn, refusedLoad, loadOf, load};
 use answers::Checking;
 use answers::early;
 use checker::checked_at;
 use cursors::Cursor;
+use cursors::Run;
 use cursors::first_cursor;
 use elements::Cause;
 use elements::Context;
@@ -23,9 +28,13 @@ use node_records::NodeRecord;
 use node_records::OPTION_LIMIT;
 use node_records::TABLE_LIMIT;
 use node_records::WORD_LIMIT;
+use node_records::bit;
 use node_records::differs;
+use node_records::with_words;
 use reader::Reached;
 use reader::read_on;
+use record_tables::get_record;
+use record_tables::put_record;
 use work_table::get;
 
 // ---- What was passed last
@@ -121,14 +130,124 @@ pub fn next_block(
     block_of(r, o)
 }
 
+// ---- The nodes that are open at the end
+
+// What is open at the end of a stream that was cut: the open nodes, each with its first child if its second has begun, and what ended last. If the table has
+// these, a record for each open node makes it complete: what was not read counts as the terminal.
+
+// The number k, with the stamp g, is the terminal or was not given out again. z: how many numbers there are
+fn stays(t: &[NodeRecord], z: u32, k: u32, g: u32) -> bool
+    ensures { λ x. ⌜ x ≡ staysIn (now (t .entry)) z (record { number = k; stamp = g }) ⌝ }
+{
+    let x = get(t, z, k);
+    x.stamp == g
+}
+
+// The same of the first child of the open node of the cells a, if its second child has begun.
+fn first_stays(t: &[NodeRecord], z: u32, a: [u32; 4]) -> bool
+    ensures { λ x. ⌜ x ≡ firstStays (tableOf (now (t .entry)) z) (openOf (openIn a)) ⌝ }
+{
+    if a[2] == 0 {
+        return true;
+    }
+    stays(t, z, a[0], a[1])
+}
+
+// The same of all of d open nodes.
+fn firsts_stay(t: &[NodeRecord], z: u32, o: &[[u32; 4]; OPEN_LIMIT], d: usize) -> bool
+    requires { ⌜ d ≤ openLimit ⌝ }
+    ensures { λ x. ⌜ x ≡ firstsStay (tableOf (now (t .entry)) z) (opensOf (nodesIn (now (o .entry))) d) ⌝ }
+{
+    if d == 0 {
+        return true;
+    }
+    let a = o[d - 1];
+    if !first_stays(t, z, a) {
+        return false;
+    }
+    firsts_stay(t, z, o, d - 1)
+}
+
+// The highest number up to z that has a node, 0 if none has.
+fn highest(t: &[NodeRecord], z: u32) -> u32
+    ensures { λ x. ⌜ x ≡ highestIn (now (t .entry)) z ⌝ }
+{
+    let mut k = z;
+    while k != 0 {
+        let x = get_record(t, k);
+        if x.level != 0 {
+            return k;
+        }
+        k -= 1;
+    }
+    0
+}
+
+// The record of the open node of level i that has the cells a. e: the number of its child that is being read, or is to be read
+fn spine_record(a: [u32; 4], i: u32, e: u32) -> NodeRecord
+    ensures { λ x. ⌜ x ≡ spineRecord (openOf (openIn a)) i e ⌝ }
+{
+    if a[2] == 0 {
+        return NodeRecord {
+            level: i,
+            first: e,
+            second: 0,
+            complement: 0,
+            stamp: 1,
+            parents: 0,
+            admits: 0,
+            refuses: 0,
+        };
+    }
+    let f = a[0];
+    NodeRecord {
+        level: i,
+        first: f,
+        second: e,
+        complement: bit(a[3] != 0),
+        stamp: 1,
+        parents: 0,
+        admits: 0,
+        refuses: 0,
+    }
+}
+
+// The record x, with what its children say of the words below, is put under the number k.
+fn put_worded(t: &mut [NodeRecord], z: u32, k: u32, x: NodeRecord)
+    ensures { λ _. ⌜ now (t .exit) ≡ wordedAt (now (t .entry)) z k x ⌝ }
+{
+    let y = with_words(x, get(t, z, x.first), get(t, z, x.second));
+    put_record(t, k, y);
+}
+
+// The records of d open nodes are put under the numbers from k on, the innermost first: the number of the outermost. e: what the innermost has begun with
+fn put_spine(
+    t: &mut [NodeRecord],
+    z: u32,
+    o: &[[u32; 4]; OPEN_LIMIT],
+    d: usize,
+    k: u32,
+    e: u32,
+) -> u32
+    requires { ⌜ (d ≤ openLimit) × (k + d ≤ tableLimit + 1) ⌝ }
+    ensures { λ x. ⌜ (now (t .exit) ≡ spineAt (now (t .entry)) z (opensOf (nodesIn (now (o .entry))) d) k e)
+        × (x ≡ spineNumber (opensOf (nodesIn (now (o .entry))) d) k e) ⌝ }
+{
+    if d == 0 {
+        return e;
+    }
+    let a = o[d - 1];
+    put_worded(t, z, k, spine_record(a, d as u32, e));
+    put_spine(t, z, o, d - 1, k + 1, k)
+}
+
 // ---- A whole stream
 
-// A stream that was read to its end: what checking answers, and the block of what ended last. Whole: no fault was met, and that is the outermost
-// node, which the table has.
-pub struct Loaded {
-    pub checking: Checking,
-    pub block: Block,
-    pub whole: bool,
+// One number that stands for all that was read, and the size of its table; not whole: there is none.
+struct Rooting {
+    size: u32,
+    number: u32,
+    whole: bool,
 }
 
 // A node has just ended.
@@ -138,25 +257,121 @@ fn has_ended(m: Context) -> bool
     context_number(Context::AfterDigit) <= context_number(m)
 }
 
-// What ended last is the outermost node, and is the terminal or a number that was not given out again.
-fn is_whole(t: &[NodeRecord], r: Reached) -> bool
-    ensures { λ x. ⌜ x ≡ wholeBy (reachedIn r []) (now (t .entry)) ⌝ }
+// How many open nodes count.
+fn deep_of(d: usize) -> usize
+    ensures { λ x. ⌜ x ≡ deepOf d ⌝ }
+{
+    if OPEN_LIMIT < d { OPEN_LIMIT } else { d }
+}
+
+// The larger of two numbers
+fn larger(z: u32, m: u32) -> u32
+    ensures { λ x. ⌜ x ≡ larger z m ⌝ }
+{
+    if z < m { m } else { z }
+}
+
+fn not_rooted(z: u32) -> Rooting
+    ensures { λ x. ⌜ ((t : List NodeRecord) → rootingIn x t ≡ unrooted z t) ⌝ }
+{
+    Rooting {
+        size: z,
+        number: 0,
+        whole: false,
+    }
+}
+
+// No fault was met, and the table has what ended last, if a node has just ended, and the first children of all open nodes.
+fn can_root(t: &[NodeRecord], o: &[[u32; 4]; OPEN_LIMIT], r: Reached) -> bool
+    ensures { λ x. ⌜ x ≡ canRoot (reachedIn r (now (o .entry))) (now (t .entry)) ⌝ }
 {
     let f = r.faulty;
     if f {
         return false;
     }
-    if r.depth != 0 {
-        return false;
-    }
     let q = r.run;
-    let m = q.context;
-    if !has_ended(m) {
-        return false;
-    }
+    let z = q.size;
     let l = q.last;
-    let x = get(t, q.size, l.number);
-    x.stamp == l.stamp
+    let m = q.context;
+    if has_ended(m) {
+        if !stays(t, z, l.number, l.stamp) {
+            return false;
+        }
+    }
+    firsts_stay(t, z, o, deep_of(r.depth))
+}
+
+// The number of what ended last, if a node has just ended.
+fn last_number(r: Reached) -> u32
+    ensures { λ x. ⌜ x ≡ lastIn (r .run) ⌝ }
+{
+    let q = r.run;
+    let l = q.last;
+    let m = q.context;
+    if has_ended(m) { l.number } else { 0 }
+}
+
+// The open nodes get records, above all numbers that have a node, if there is room.
+fn root(t: &mut [NodeRecord], o: &[[u32; 4]; OPEN_LIMIT], r: Reached) -> Rooting
+    ensures { λ x. ⌜ rootingIn x (now (t .exit)) ≡ rootIn (reachedIn r (now (o .entry))) (now (t .entry)) ⌝ }
+{
+    let q = r.run;
+    let z = q.size;
+    if !can_root(t, o, r) {
+        return not_rooted(z);
+    }
+    let d = deep_of(r.depth);
+    let h = highest(t, z);
+    if TABLE_LIMIT < h as usize + d {
+        return not_rooted(z);
+    }
+    let y = larger(z, h + d as u32);
+    let e = put_spine(t, y, o, d, h + 1, last_number(r));
+    Rooting {
+        size: y,
+        number: e,
+        whole: true,
+    }
+}
+
+// A stream that was read to its end: what checking answers, and a block. Whole: no fault was met, and in the table, of the size of the block's cursor, the
+// block's number stands for the outermost node, as far as it was read; what was not read counts as the terminal.
+pub struct Loaded {
+    pub checking: Checking,
+    pub block: Block,
+    pub whole: bool,
+}
+
+// What the loop reached, with the number that stands for it.
+fn rooted_block(r: Reached, x: Rooting) -> Block
+    ensures { λ b. ⌜ (b .cursor .run .size ≡ x .size) × ((b .number ≡ x .number) × (b .complement ≡ r .run .complement)) ⌝ }
+{
+    let q = r.run;
+    let l = q.last;
+    let p = q.pair;
+    let m = q.context;
+    let halted = r.halted;
+    let run = Run {
+        at: q.at,
+        context: m,
+        last: l,
+        size: x.size,
+        covered: q.covered,
+        complement: q.complement,
+        pair: p,
+    };
+    let c = Cursor {
+        run: run,
+        depth: r.depth,
+    };
+    Block {
+        cursor: c,
+        from: r.from,
+        deep: r.deep,
+        number: x.number,
+        complement: q.complement,
+        halted: halted,
+    }
 }
 
 // Turned down before anything is read.
@@ -182,16 +397,16 @@ fn not_loaded(c: Cause) -> Loaded
 pub fn loaded_at(t: &mut [NodeRecord], o: &[[u32; 4]; OPEN_LIMIT], r: Reached) -> Loaded
     ensures { λ x. ⌜ loadIn x (now (t .exit)) ≡ loadOf (record { reached = reachedIn r (now (o .entry)); table = now (t .entry) }) ⌝ }
 {
-    let w = is_whole(t, r);
-    let b = block_of(r, o);
+    let x = root(t, o, r);
     Loaded {
         checking: checked_at(r),
-        block: b,
-        whole: w,
+        block: rooted_block(r, x),
+        whole: x.whole,
     }
 }
 
-// READING A WHOLE STREAM into its table, which is left as it is then: the answer of `check`, and the outermost node if the table has it.
+// READING A STREAM TO ITS END into its table, which is left as it is then, with records for the nodes that are open: the answer of `check`, and the number
+// of the outermost node if the table has it.
 pub fn load(n: u32, s: &[u8], t: &mut [NodeRecord]) -> Loaded
     ensures { λ r. ⌜ loadIn r (now (t .exit)) ≡ load n (now (s .entry)) (now (t .entry)) ⌝ }
 {

@@ -1,5 +1,5 @@
 -- Generated: what callers cite of the lifted functions.
--- From 4c6c92dac9b25b75, as e27836c96ad268d8.
+-- From 2e0a1ba9a7875d0e, as e27836c96ad268d8.
 pub mod some_word
 pub mod least_word
 pub mod start_word

@@ -20,7 +20,7 @@ use Rattle.node_records.specs.Records.{noRecord}
 use Rattle.node_records.specs.declared.Edge.{Edge}
 use Rattle.node_records.specs.declared.NodeRecord.{NodeRecord}
 use Rattle.work_table.specs.Table.{getIn, get-above}
-use Rattle.work_table.specs.TableLaws.{bit-back, recordNode, tableOf, table-node, RightAt, Held}
+use Rattle.work_table.specs.TableLaws.{bit-back, recordNode, tableOf, table-node, RightAt, Worded}
 use Rattle.work_table.specs.WalkLaws.{edgeWalk, walk-terminal, walk-over, walk-first, walk-second}
 use Rattle.finder.specs.LeastDecided.{isValue}
 use Rattle.finder.specs.SearchSteps.{least-below}
@@ -66,7 +66,7 @@ module _ (x : NodeRecord) (i : ℕ) (e : Edge) where
 -- ---- The search ------------------------------------------------------------------------------
 
 -- t: a lent table of z numbers, as reading keeps it
-module _ (t : List NodeRecord) (z : ℕ) (held : Held t z) (ordered : Ordered (tableOf t z)) where
+module _ (t : List NodeRecord) (z : ℕ) (held : Worded t z) (ordered : Ordered (tableOf t z)) where
   -- the word v of the node of level i, m options below it, that e stands for, is yes
   abbrev pub yes : ℕ → Edge → ℕ → ℕ → Bool
   yes i e m v = isAdmitted (verdictOf (edgeWalk (tableOf t z) i e (options m v)))
@@ -130,7 +130,7 @@ module _ (t : List NodeRecord) (z : ℕ) (held : Held t z) (ordered : Ordered (t
       small = ⊎-elim (λ (h : k ≤ z). h) (λ (h : z < k). absurd (omega (arith, l, ap (λ (y : NodeRecord). y .level) (get-above t z k h)))) (decide-le k z)
 
       right : RightAt (getIn t z) k
-      right = held .words k n small (λ h. omega (arith, l, h))
+      right = held k n small (λ h. omega (arith, l, h))
 
       go : (c : Bool) → let x = getIn t z k in
           cond c (not (eqb (x .refuses) 0)) (not (eqb (x .admits) 0)) ≡ someBelow x (getIn t z (x .first)) (getIn t z (x .second)) c

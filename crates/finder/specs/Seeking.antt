@@ -18,7 +18,7 @@ use Rattle.node_records.specs.Words.{someYes}
 use Rattle.node_records.specs.declared.Edge.{Edge}
 use Rattle.node_records.specs.declared.NodeRecord.{NodeRecord}
 use Rattle.work_table.specs.Table.{getIn}
-use Rattle.work_table.specs.TableLaws.{tableOf, table-node, Held}
+use Rattle.work_table.specs.TableLaws.{tableOf, table-node, Worded}
 use Rattle.work_table.specs.WalkLaws.{edgeWalk}
 use Rattle.cursors.specs.Cursors.{startCursor}
 use Rattle.cursors.specs.declared.Cursor.{Cursor}
@@ -77,8 +77,8 @@ module _ (n : ℕ) (bytes : List ℕ) (few : n ≤ optionLimit) (a : Bool) (v : 
     ),
   )
 
-  held : Held u (x .run .size)
-  held = reached .stands .kept .held
+  held : Worded u (x .run .size)
+  held = reached .stands .kept .held .words
 
   -- what the words stand for, turned about if they are to be no
   abbrev edge : Edge

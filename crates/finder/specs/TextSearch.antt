@@ -19,7 +19,7 @@ use Rattle.node_records.specs.Records.{noRecord}
 use Rattle.node_records.specs.declared.Edge.{Edge}
 use Rattle.node_records.specs.declared.NodeRecord.{NodeRecord}
 use Rattle.record_tables.specs.Entries.{clearTo}
-use Rattle.work_table.specs.TableLaws.{tableOf, table-node, Held}
+use Rattle.work_table.specs.TableLaws.{tableOf, table-node, Worded}
 use Rattle.reader.specs.OpenCells.{ReadReached}
 use Rattle.reader.specs.Loop.{Ends}
 use Rattle.checker.specs.CheckCorrect.{halted-reads}
@@ -172,7 +172,7 @@ module _ (n : ℕ) (bytes : List ℕ) (t : List NodeRecord) (x : LoadTo) (called
   abbrev edge : Edge
   edge = outerEdge x
 
-  held : Held (x .table) (x .size)
+  held : Worded (x .table) (x .size)
   held = load-held n bytes t x called whole
 
   ordered : Ordered (tableOf (x .table) (x .size))

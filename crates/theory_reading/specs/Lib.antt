@@ -30,3 +30,4 @@ pub mod Reaching
 pub mod Aligned
 pub mod Lasting
 pub mod Rooted
+pub mod Spine

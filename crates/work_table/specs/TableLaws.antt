@@ -65,7 +65,7 @@ get-same t u z k h = ⊎-elim (λ e. rw e refl) (λ n. ap (λ (a : NodeRecord). 
 put-set : (t : List NodeRecord) (k : ℕ) (x : NodeRecord) → (k ≡ 0 → ⊥) → putEntry t k x ≡ set t (k - 1) x
 put-set t k x h = sym (entry-put-here t k x h)
 
-length-put : (t : List NodeRecord) (k : ℕ) (x : NodeRecord) → length (putEntry t k x) ≡ length t
+pub length-put : (t : List NodeRecord) (k : ℕ) (x : NodeRecord) → length (putEntry t k x) ≡ length t
 length-put t k x = ⊎-elim (λ e. ap length (sym (entry-put-none t k x e))) (λ n. ap length (put-set t k x n) ∙ length-set t (k - 1) x)
     (decide-eq k 0)
 
@@ -75,7 +75,7 @@ pred-same (suc k) zero n m e = absurd (m refl)
 pred-same (suc k) (suc j) n m e = omega (arith, e)
 
 -- the other numbers keep their records
-get-other : (t : List NodeRecord) (z k j : ℕ) (x : NodeRecord) → (k ≡ j → ⊥) → getIn (putEntry t k x) z j ≡ getIn t z j
+pub get-other : (t : List NodeRecord) (z k j : ℕ) (x : NodeRecord) → (k ≡ j → ⊥) → getIn (putEntry t k x) z j ≡ getIn t z j
 get-other t z k j x d = ⊎-elim none some (decide-eq k 0)
   where
     none : k ≡ 0 → getIn (putEntry t k x) z j ≡ getIn t z j
@@ -86,7 +86,7 @@ get-other t z k j x d = ⊎-elim none some (decide-eq k 0)
         ∙ getD-set-other t (k - 1) (j - 1) x noRecord (λ e. d (pred-same k j n m e)))
 
 -- the number has the record that was put
-get-put : (t : List NodeRecord) (z k : ℕ) (x : NodeRecord) → z ≤ length t → (k ≡ 0 → ⊥) → k ≤ z → getIn (putEntry t k x) z k ≡ x
+pub get-put : (t : List NodeRecord) (z k : ℕ) (x : NodeRecord) → z ≤ length t → (k ≡ 0 → ⊥) → k ≤ z → getIn (putEntry t k x) z k ≡ x
 get-put t z k x r n h =
     let i : k - 1 < length t = omega (arith, r, n, h) in
     sym (get-here (putEntry t k x) z k n h)
@@ -254,12 +254,16 @@ right-put t z k x r n h p q alone j old = ⊎-elim here other (decide-eq k j)
 
 -- ---- Storing ---------------------------------------------------------------------------------
 
+-- A node's record says of the words below it what its children's say: what a search in the table needs.
+abbrev pub Worded : List NodeRecord → ℕ → Type 0
+Worded t z = (k : ℕ) → (k ≡ 0 → ⊥) → k ≤ z → (getIn t z k .level ≡ 0 → ⊥) → RightAt (getIn t z) k
+
 -- What code keeps true of the lent table: there is a record for each number, its count of parents is right, and a node's record says of the words below it
 -- what its children's say.
 pub record Held (t : List NodeRecord) (z : ℕ) : Type 0 where
   pub room : z ≤ length t
   pub counts : (k : ℕ) → (k ≡ 0 → ⊥) → k ≤ z → getIn t z k .parents ≡ parents (tableOf t z) k
-  pub words : (k : ℕ) → (k ≡ 0 → ⊥) → k ≤ z → (getIn t z k .level ≡ 0 → ⊥) → RightAt (getIn t z) k
+  pub words : Worded t z
 
 -- A storing keeps the length.
 pub length-store : (t : List NodeRecord) (z k : ℕ) (x : NodeRecord) → length (storeAt t z k x) ≡ length t

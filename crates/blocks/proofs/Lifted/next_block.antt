@@ -1,5 +1,5 @@
 -- Generated: what callers cite of next_block.
--- From 9d7fbd44082f02c4, as 15b7e094f4d25a97.
+-- From eec01787ca9aefac, as 15b7e094f4d25a97.
 use Rattle.blocks.proofs.Block
 use Rattle.blocks.proofs.Block.Laws
 use Rattle.cursors.proofs.Cursor

@@ -1,5 +1,5 @@
 -- Generated: what callers cite of fill_words.
--- From 12921ecf0188929d, as 30d434372ffe0b6d.
+-- From 744cf17257d49f13, as 30d434372ffe0b6d.
 use Rattle.node_records.proofs.Tables.NodeRecord as NodeRecordT
 use borrow.Fn.Kinds
 use borrow.Kind.MutSlice

@@ -1,5 +1,5 @@
 -- Generated: what callers cite of load_from.
--- From 4c6c92dac9b25b75, as ce737f5209387fb1.
+-- From 2e0a1ba9a7875d0e, as ce737f5209387fb1.
 use Rattle.finder.proofs.LoadedFrom
 use Rattle.finder.proofs.LoadedFrom.Laws
 use Rattle.node_records.proofs.Tables.NodeRecord as NodeRecordT

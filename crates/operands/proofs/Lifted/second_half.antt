@@ -1,5 +1,5 @@
 -- Generated: what callers cite of second_half.
--- From f6d4b45c7368632f, as dac52746f973722a.
+-- From 6b20300339bc3965, as dac52746f973722a.
 use Rattle.blocks.proofs.Block
 use Rattle.blocks.proofs.Block.Laws
 use Rattle.node_records.proofs.Tables.NodeRecord as NodeRecordT

@@ -1,5 +1,5 @@
 -- Generated: what callers cite of second_operand.
--- From f6d4b45c7368632f, as 4c8ac3d5a9a46877.
+-- From 6b20300339bc3965, as 4c8ac3d5a9a46877.
 use Rattle.blocks.proofs.Block
 use Rattle.blocks.proofs.Block.Laws
 use Rattle.node_records.proofs.Tables.NodeRecord as NodeRecordT

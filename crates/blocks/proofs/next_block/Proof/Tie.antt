@@ -1,5 +1,5 @@
 -- Generated: the needs of next_block at its contract, and how its theorem closes.
--- From 9d7fbd44082f02c4, as 0ac61af526c668b2.
+-- From eec01787ca9aefac, as 0ac61af526c668b2.
 use borrow.Fn.Run
 use borrow.Fn.Written
 use contract.Running.{givenOf, tablesOf}

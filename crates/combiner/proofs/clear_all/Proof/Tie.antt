@@ -1,5 +1,5 @@
 -- Generated: the needs of clear_all at its contract, and how its theorem closes.
--- From 16db91cec44d69fc, as 1fcb7f39b74a879b.
+-- From d3cb2f4840a250e8, as 1fcb7f39b74a879b.
 use borrow.Fn.Run
 use borrow.Fn.Written
 use contract.Running.{givenOf, tablesOf}

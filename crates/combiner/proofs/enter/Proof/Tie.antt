@@ -1,5 +1,5 @@
 -- Generated: the needs of enter at its contract, and how its theorem closes.
--- From 16db91cec44d69fc, as ee489e9bb4de354d.
+-- From d3cb2f4840a250e8, as ee489e9bb4de354d.
 use borrow.Fn.Run
 use borrow.Fn.Written
 use contract.Running.{givenOf, tablesOf}

@@ -1,5 +1,5 @@
 -- Generated: the derivation of a body.
--- From 318fe9cadeab99f2, as 2d0f566a98f30ca1.
+-- From 8227b92c5991b942, as 2d0f566a98f30ca1.
 use Prim.Native.Nat
 use Rattle.blocks.proofs.Loaded
 use Rattle.blocks.proofs.Loaded.Laws

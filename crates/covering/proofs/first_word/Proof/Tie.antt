@@ -1,5 +1,5 @@
 -- Generated: the needs of first_word at its contract, and how its theorem closes.
--- From 318fe9cadeab99f2, as 0529864cf0d42c69.
+-- From 8227b92c5991b942, as 0529864cf0d42c69.
 use borrow.Fn.Run
 use borrow.Fn.Written
 use contract.Running.{givenOf, tablesOf}

@@ -1,5 +1,5 @@
 -- Generated: the needs of load_beside at its contract, and how its theorem closes.
--- From 318fe9cadeab99f2, as 61c15cc65e959427.
+-- From 8227b92c5991b942, as 61c15cc65e959427.
 use borrow.Fn.Run
 use borrow.Fn.Written
 use contract.Running.{givenOf, tablesOf}

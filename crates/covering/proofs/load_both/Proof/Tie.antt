@@ -1,5 +1,5 @@
 -- Generated: the needs of load_both at its contract, and how its theorem closes.
--- From 318fe9cadeab99f2, as 2fc41dbc7489ac75.
+-- From 8227b92c5991b942, as 2fc41dbc7489ac75.
 use borrow.Fn.Run
 use borrow.Fn.Written
 use contract.Running.{givenOf, tablesOf}

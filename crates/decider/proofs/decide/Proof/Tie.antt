@@ -1,5 +1,5 @@
 -- Generated: the needs of decide at its contract, and how its theorem closes.
--- From f89873f381dc12be, as 5cf818b73cd0b1e1.
+-- From fc2f5aa0bad04c21, as 5cf818b73cd0b1e1.
 use borrow.Fn.Run
 use borrow.Fn.Written
 use contract.Running.{givenOf, tablesOf}

@@ -1,5 +1,5 @@
 -- Generated: the derivation of a body.
--- From 12921ecf0188929d, as 8e9d07037500748b.
+-- From 744cf17257d49f13, as 8e9d07037500748b.
 use Prim.Native.Nat
 use Rattle.node_records.proofs.Edge
 use Rattle.node_records.proofs.Edge.Laws

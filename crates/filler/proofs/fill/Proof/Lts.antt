@@ -1,5 +1,5 @@
 -- Generated: the derivation of a body.
--- From 12921ecf0188929d, as fdff0890a4f18596.
+-- From 744cf17257d49f13, as fdff0890a4f18596.
 use Prim.Native.Nat
 use Rattle.answers.proofs.Filling
 use Rattle.answers.proofs.Filling.Laws

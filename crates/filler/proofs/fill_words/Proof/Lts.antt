@@ -1,5 +1,5 @@
 -- Generated: the derivation of a body.
--- From 12921ecf0188929d, as e08123d553e36301.
+-- From 744cf17257d49f13, as e08123d553e36301.
 use Prim.Native.Nat
 use Rattle.cursors.proofs.Cursor
 use Rattle.cursors.proofs.Cursor.Laws

@@ -1,5 +1,5 @@
 -- Generated: the derivation of a body.
--- From 4c6c92dac9b25b75, as c2014d183cea6ef6.
+-- From 2e0a1ba9a7875d0e, as c2014d183cea6ef6.
 use Prim.Native.Nat
 use Rattle.answers.proofs.Checked
 use Rattle.answers.proofs.Checked.Laws

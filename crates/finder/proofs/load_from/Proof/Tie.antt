@@ -1,5 +1,5 @@
 -- Generated: the needs of load_from at its contract, and how its theorem closes.
--- From 4c6c92dac9b25b75, as a9650eb89d0d66ae.
+-- From 2e0a1ba9a7875d0e, as a9650eb89d0d66ae.
 use borrow.Fn.Run
 use borrow.Fn.Written
 use contract.Running.{givenOf, tablesOf}

@@ -1,5 +1,5 @@
 -- Generated: the derivation of a body.
--- From 4c6c92dac9b25b75, as 391080dfd1c96693.
+-- From 2e0a1ba9a7875d0e, as 391080dfd1c96693.
 use Prim.Native.Nat
 use Rattle.cursors.proofs.Cursor
 use Rattle.cursors.proofs.Cursor.Laws

@@ -1,5 +1,5 @@
 -- Generated: the needs of some_word at its contract, and how its theorem closes.
--- From 4c6c92dac9b25b75, as 03cee1f2b83e6bcf.
+-- From 2e0a1ba9a7875d0e, as 03cee1f2b83e6bcf.
 use borrow.Fn.Run
 use borrow.Fn.Written
 use contract.Running.{givenOf, tablesOf}

@@ -1,5 +1,5 @@
 -- Generated: the needs of start_word at its contract, and how its theorem closes.
--- From 4c6c92dac9b25b75, as 1238720a30f83012.
+-- From 2e0a1ba9a7875d0e, as 1238720a30f83012.
 use borrow.Fn.Run
 use borrow.Fn.Written
 use contract.Running.{givenOf, tablesOf}

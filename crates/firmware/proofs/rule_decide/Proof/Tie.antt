@@ -1,5 +1,5 @@
 -- Generated: the needs of rule_decide at its contract, and how its theorem closes.
--- From f3654dd10a004eea, as aaac4e06dcfeaf41.
+-- From cb3679ff6445d1bd, as aaac4e06dcfeaf41.
 use borrow.Fn.Run
 use borrow.Fn.Written
 use contract.Running.{givenOf, tablesOf}

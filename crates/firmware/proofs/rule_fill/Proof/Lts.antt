@@ -1,5 +1,5 @@
 -- Generated: the derivation of a body.
--- From f3654dd10a004eea, as 90891f7d7c993af9.
+-- From cb3679ff6445d1bd, as 90891f7d7c993af9.
 use Prim.Native.Nat
 use Rattle.answers.proofs.Filling
 use Rattle.answers.proofs.Filling.Laws

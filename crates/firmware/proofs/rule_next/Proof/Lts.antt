@@ -1,5 +1,5 @@
 -- Generated: the derivation of a body.
--- From f3654dd10a004eea, as b3e894c570143545.
+-- From cb3679ff6445d1bd, as b3e894c570143545.
 use Prim.Native.Nat
 use Rattle.answers.proofs.Finding
 use Rattle.answers.proofs.Finding.Laws

@@ -1,5 +1,5 @@
 -- Generated: the derivation of a body.
--- From f6d4b45c7368632f, as ed9e844c2564d8d8.
+-- From 6b20300339bc3965, as ed9e844c2564d8d8.
 use Prim.Native.Nat
 use Rattle.blocks.proofs.Block
 use Rattle.blocks.proofs.Block.Laws

@@ -1,5 +1,5 @@
 -- Generated: the needs of begin at its contract, and how its theorem closes.
--- From f6d4b45c7368632f, as 8d2e4e2671df3641.
+-- From 6b20300339bc3965, as 8d2e4e2671df3641.
 use borrow.Fn.Run
 use borrow.Fn.Written
 use contract.Running.{givenOf, tablesOf}

@@ -1,5 +1,5 @@
 -- Generated: the derivation of a body.
--- From f6d4b45c7368632f, as 8df5db362f1dc2f9.
+-- From 6b20300339bc3965, as 8df5db362f1dc2f9.
 use Prim.Native.Nat
 use Rattle.blocks.proofs.Block
 use Rattle.blocks.proofs.Block.Laws

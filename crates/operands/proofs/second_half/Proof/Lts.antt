@@ -1,5 +1,5 @@
 -- Generated: the derivation of a body.
--- From f6d4b45c7368632f, as 7ee13eb3b9b97cdf.
+-- From 6b20300339bc3965, as 7ee13eb3b9b97cdf.
 use Prim.Native.Nat
 use Rattle.blocks.proofs.Block
 use Rattle.blocks.proofs.Block.Laws

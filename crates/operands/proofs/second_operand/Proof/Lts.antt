@@ -1,5 +1,5 @@
 -- Generated: the derivation of a body.
--- From f6d4b45c7368632f, as f1dc5afb657e8ce7.
+-- From 6b20300339bc3965, as f1dc5afb657e8ce7.
 use Prim.Native.Nat
 use Rattle.blocks.proofs.Block
 use Rattle.blocks.proofs.Block.Laws

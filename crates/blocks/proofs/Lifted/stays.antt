@@ -1,18 +1,10 @@
--- Generated: what callers cite of is_whole.
--- From 9d7fbd44082f02c4, as e051fe97bc5c6c08.
+-- Generated: what callers cite of stays.
+-- From eec01787ca9aefac, as c3fece9717e2af4c.
 use Rattle.node_records.proofs.Tables.NodeRecord as NodeRecordT
-use Rattle.reader.proofs.Reached
-use Rattle.reader.proofs.Reached.Laws
 use borrow.Fn.Kinds
 use borrow.Kind.ShrSlice
-use borrow.Kind.Value
-use borrow.Rule.Local
-use borrow.Table.Rows
-use denote.Exit
-use denote.Struct.Declared
-use denote.Struct.Laws as Laws'
 use mathlib.Core.List
-use mathlib.Core.Path as Path'
+use mir.Syntax
 use base.Logic
 use borrow.Fn.Learn
 use borrow.Fn.Picked
@@ -22,10 +14,11 @@ use borrow.Fn.Written
 use contract.Lifetimes
 use contract.Monad
 use denote.Triple.Clauses
-use Rattle.blocks.proofs.is_whole as own
+use Rattle.blocks.proofs.stays as own
+use mathlib.Core.Path as Path'
 
 abbrev pub ps : List.List (Kinds.PK 1)
-ps = List._∷_ (ShrSlice.pShrS NodeRecordT.row 0 tt) (List._∷_ (Value.pVal record { ty = Declared.row Reached.the-type; one = Path'.refl; val = Laws'.val Reached.the-type Laws.the-laws; tells = Laws'.tells Reached.the-type Laws.the-laws; still = Laws'.still Reached.the-type Laws.the-copy Exit.yes; row = Rows.whole (Declared.row Reached.the-type); rd = λ x. x; mk = λ x. x } λ M 𝓤 H A W. record { copies = Laws'.copy Reached.the-type Laws.the-copy 𝓤 H A W; lawful = Laws'.lawful Reached.the-type Laws.the-laws 𝓤 H A W; makes = Laws'.makes Reached.the-type Laws.the-plain 𝓤 H A; in-mem = Local.mem-whole 𝓤 H A W (Declared.row Reached.the-type); of-mem = Local.whole-mem 𝓤 H A W (Declared.row Reached.the-type) }) List.[])
+ps = List._∷_ (ShrSlice.pShrS NodeRecordT.row 0 tt) (List._∷_ (Kinds.pNum Syntax.w32) (List._∷_ (Kinds.pNum Syntax.w32) (List._∷_ (Kinds.pNum Syntax.w32) List.[])))
 abbrev pub r : Kinds.RK 1
 r = Kinds.rBool
 abbrev pub Ghost : Type 0

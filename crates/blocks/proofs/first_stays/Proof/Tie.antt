@@ -1,0 +1,45 @@
+-- Generated: the needs of first_stays at its contract, and how its theorem closes.
+-- From eec01787ca9aefac, as 0eab8acbade019d1.
+use borrow.Fn.Run
+use borrow.Fn.Written
+use contract.Running.{givenOf, tablesOf}
+use Rattle.blocks.proofs.Lifted.stays as stays-reads
+use Rattle.blocks.proofs.stays.Met as stays-met
+use Rattle.blocks.proofs.stays.Symbol as stays-symbol
+use Rattle.blocks.proofs.first_stays.Key
+use Rattle.blocks.proofs.first_stays.Code as code
+use Rattle.blocks.proofs.first_stays.Statement.{statement}
+use Rattle.blocks.proofs.first_stays.Proof.Lts as lts
+use Rattle.blocks.proofs.Lifted.first_stays as self
+
+abbrev callees : lts.Claims
+callees = (stays-reads.Asked, stays-reads.Learnt)
+
+abbrev pub Need-array-read-if1 : Type 0
+Need-array-read-if1 = lts.Need-array-read-if1 callees self.Pre self.Post
+
+abbrev pub Need-returns : Type 0
+Need-returns = lts.Need-returns callees self.Pre self.Post
+
+abbrev pub Need-array-read-stays : Type 0
+Need-array-read-stays = lts.Need-array-read-stays callees self.Pre self.Post
+
+abbrev pub Need-array-read-stays-2 : Type 0
+Need-array-read-stays-2 = lts.Need-array-read-stays-2 callees self.Pre self.Post
+
+abbrev pub Need-stays-requires : Type 0
+Need-stays-requires = lts.Need-stays-requires callees self.Pre self.Post
+
+abbrev pub Need-returns-2 : Type 0
+Need-returns-2 = lts.Need-returns-2 callees self.Pre self.Post
+
+module _ {M : Type 1} where
+  pub spec : Need-array-read-if1 → Need-returns → Need-array-read-stays → Need-array-read-stays-2 → Need-stays-requires → Need-returns-2 → lts.Closed callees self.Pre self.Post M
+  spec n0 n1 n2 n3 n4 n5 = lts.spec callees self.Pre self.Post n0 n1 n2 n3 n4 n5
+
+  pub close : lts.Closed callees self.Pre self.Post M → statement M
+  unfolding code.routine tablesOf
+  close closed 𝓤 H 𝓜 𝓖 𝓡 =
+      Written.close 1 self.ps self.r self.Ghost self.requires self.ensures self.pre-read self.Pinned self.Owned self.post-read record { M = M; 𝓤 = 𝓤; H = H; 𝓜 = 𝓜; 𝓖 = 𝓖; 𝓡 = 𝓡 } code.env Key.name code.function (code.unfolded 𝓤 H 𝓜 𝓡)
+      (λ κs a g. tt) (λ κs. self.owns κs record { M = M; 𝓤 = 𝓤; H = H; 𝓜 = 𝓜; 𝓖 = 𝓖; 𝓡 = 𝓡 }) (self.passes record { M = M; 𝓤 = 𝓤; H = H; 𝓜 = 𝓜; 𝓖 = 𝓖; 𝓡 = 𝓡 }) λ g. closed 𝓤 H (𝓖 .A) (givenOf 𝓤 H 𝓜 𝓖) (Run.Over 𝓤 H 𝓜 𝓖 𝓡 code.env)
+      (stays-reads.known record { M = M; 𝓤 = 𝓤; H = H; 𝓜 = 𝓜; 𝓖 = 𝓖; 𝓡 = 𝓡 } code.env stays-symbol.name stays-symbol.routine code.calls-blocks·stays (stays-met.met 𝓤 H 𝓜 𝓖 𝓡))
