@@ -1,5 +1,5 @@
 -- Generated: what callers cite of the lifted functions.
--- From eec01787ca9aefac, as b03bfff2a35c9d10.
+-- From d3d4f4b232ba5a7b, as 25475254cc72d855.
 pub mod next_block
 pub mod stays
 pub mod first_stays
@@ -7,7 +7,9 @@ pub mod firsts_stay
 pub mod highest
 pub mod put_worded
 pub mod put_spine
+pub mod last_stays
 pub mod can_root
+pub mod put_rows
 pub mod root
 pub mod loaded_at
 pub mod load

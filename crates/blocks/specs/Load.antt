@@ -3,7 +3,7 @@
 use mathlib.Core.Path.{_≡_, refl, sym, ap, ap₂, _∙_}
 use mathlib.Core.Logic.{_⊎_, ⊎-elim}
 use mathlib.Core.Bool.{Bool, true, false, cond, not, _&&_, _||_}
-use mathlib.Core.List.{List}
+use mathlib.Core.List.{List, _∷_}
 use Prim.Native.Nat.{ℕ, _+_, _<_, _≤_}
 use native.Mathlib.Omega.{arith}
 use lib.Dec.{ltb}
@@ -12,9 +12,12 @@ use borrow.Author.Tests.{lt-ltb, le-ltb}
 use Rattle.theory_reading.specs.Limits.{optionLimit, openLimit, tableLimit, wordLimit}
 use Rattle.theory_reading.specs.Causes as C
 use Rattle.theory_reading.specs.Calls as R
+use Rattle.theory_reading.specs.Element as T
+use Rattle.theory_reading.specs.Reading.{isTwo}
 use Rattle.theory_reading.specs.Deciding.{ended}
 use Rattle.theory_reading.specs.Spine.{firstsStay, spineNumber}
-use Rattle.elements.specs.Abstraction.{contextOf, opensOf, deepOf, openList}
+use Rattle.elements.specs.Abstraction.{refOf, contextOf, opensOf, deepOf, openList}
+use Rattle.elements.specs.OpenLaws.{deep-most, open-length}
 use Rattle.work_table.specs.TableLaws.{tableOf}
 use Rattle.reader.specs.OpenCells.{ReadReached, cursorIn}
 use Rattle.cursors.specs.Cursors.{firstRun}
@@ -24,10 +27,11 @@ use Rattle.checker.specs.CheckCorrect.{checkedBy}
 use Rattle.cursors.specs.Cursors.{startCursor}
 use Rattle.reader.specs.Legs.{bare}
 use Rattle.reader.specs.ReadOn.{ReadTo, readOn, readAll, firstCursor, readFrom, read-within}
-use Rattle.blocks.specs.Spine.{staysIn, highestIn, spineAt}
+use Rattle.blocks.specs.Spine.{staysIn, highestIn, spineRecord, wordedAt, spineAt}
 use Rattle.blocks.specs.declared.Loaded.{Loaded}
 use Rattle.blocks.specs.declared.Rooting.{Rooting}
 use Rattle.cursors.specs.declared.Cursor.{Cursor}
+use Rattle.cursors.specs.declared.Pair.{Pair}
 use Rattle.cursors.specs.declared.Run.{Run}
 use Rattle.node_records.specs.declared.NodeRecord.{NodeRecord}
 
@@ -74,23 +78,42 @@ rootingIn x u = record { whole = x .whole; size = x .size; number = x .number; t
 abbrev pub unrooted : ℕ → List NodeRecord → RootTo
 unrooted z t = record { whole = false; size = z; number = 0; table = t }
 
+-- ---- The open nodes, with a two-child node that has just ended
+
+-- such a node has no number yet, and counts as open, with its second child read
+abbrev pub pairOpen : Pair → T.Open
+pairOpen p = T.inSecond (refOf (p .first)) (p .complement)
+
+-- the open nodes
+abbrev pub rowsIn : ReadReached → List T.Open
+rowsIn y = cond (isTwo (contextOf (y .run .context))) (pairOpen (y .run .pair) ∷ openList (y .opens)) (openList (y .opens))
+
+-- how many; d: the depth, m: the context
+abbrev pub rowCount : ℕ → T.Context → ℕ
+rowCount d m = cond (isTwo m) (deepOf d + 1) (deepOf d)
+
+-- the number of what ended last, if a node has just ended, below these
+abbrev pub lastIn : Run → ℕ
+lastIn r = cond (ended (contextOf (r .context))) (cond (isTwo (contextOf (r .context))) (r .pair .second .number) (r .last .number)) 0
+
+-- what ended last is the terminal or was not given out again; of a two-child node: both its children
+abbrev pub lastStays : List NodeRecord → Run → Bool
+lastStays t r =
+    cond (isTwo (contextOf (r .context))) (staysIn t (r .size) (r .pair .first) && staysIn t (r .size) (r .pair .second)) (staysIn t (r .size) (r .last))
+
 -- no fault was met, and the table has what ended last, if a node has just ended, and the first children of all open nodes
 abbrev pub canRoot : ReadReached → List NodeRecord → Bool
 canRoot y t =
-    not (y .faulty) && ((not (ended (contextOf (y .run .context))) || staysIn t (y .run .size) (y .run .last))
+    not (y .faulty) && ((not (ended (contextOf (y .run .context))) || lastStays t (y .run))
     && firstsStay (tableOf t (y .run .size)) (openList (y .opens)))
-
--- the number of what ended last, if a node has just ended
-abbrev pub lastIn : Run → ℕ
-lastIn r = cond (ended (contextOf (r .context))) (r .last .number) 0
 
 -- the open nodes get the numbers above h, in a table of z numbers
 abbrev pub rootedAt : ReadReached → List NodeRecord → ℕ → ℕ → RootTo
 rootedAt y t h z = record {
   whole = true;
   size = z;
-  number = spineNumber (openList (y .opens)) (h + 1) (lastIn (y .run));
-  table = spineAt t z (openList (y .opens)) (h + 1) (lastIn (y .run));
+  number = spineNumber (rowsIn y) (h + 1) (lastIn (y .run));
+  table = spineAt t z (rowsIn y) (h + 1) (lastIn (y .run));
 }
 
 -- the larger number
@@ -100,8 +123,8 @@ larger z m = cond (ltb z m) m z
 -- h: the highest number that has a node
 abbrev pub rootAbove : ReadReached → List NodeRecord → ℕ → RootTo
 rootAbove y t h =
-    cond (ltb tableLimit (h + deepOf (y .opens .depth))) (unrooted (y .run .size) t)
-    (rootedAt y t h (larger (y .run .size) (h + deepOf (y .opens .depth))))
+    let d = rowCount (y .opens .depth) (contextOf (y .run .context)) in
+    cond (ltb tableLimit (h + d)) (unrooted (y .run .size) t) (rootedAt y t h (larger (y .run .size) (h + d)))
 
 -- The open nodes get records, above all numbers that have a node, if there is room.
 unfoldable pub rootIn : ReadReached → List NodeRecord → RootTo
@@ -130,30 +153,50 @@ load n bytes t =
 
 -- ---- The ways through code -------------------------------------------------------------------
 
+pub count-two : (d : ℕ) (m : T.Context) → isTwo m ≡ true → rowCount d m ≡ deepOf d + 1
+count-two d m e = rw e refl
+
+pub count-one : (d : ℕ) (m : T.Context) → isTwo m ≡ false → rowCount d m ≡ deepOf d
+count-one d m e = rw e refl
+
+pub count-most : (d : ℕ) (m : T.Context) → rowCount d m ≤ openLimit + 1
+count-most d m = go (isTwo m)
+  where
+    go : (b : Bool) → cond b (deepOf d + 1) (deepOf d) ≤ openLimit + 1
+    go true = omega (arith, deep-most d)
+    go false = omega (arith, deep-most d)
+
+-- what ended last stays in the table
+module _ (t : List NodeRecord) (r : Run) where
+  pub last-one : isTwo (contextOf (r .context)) ≡ false → (b : Bool) → b ≡ staysIn t (r .size) (r .last) → b ≡ lastStays t r
+  last-one e b h = rw e h
+
+  -- a, b: whether the children do
+  pub last-two : isTwo (contextOf (r .context)) ≡ true → (a b : Bool) → a ≡ staysIn t (r .size) (r .pair .first)
+      → b ≡ staysIn t (r .size) (r .pair .second) → (a && b) ≡ lastStays t r
+  last-two e a b h k = rw e (ap₂ _&&_ h k)
+
 -- y: what the loop reaches
 module _ (y : ReadReached) (t : List NodeRecord) where
   abbrev hasEnded : Bool
   hasEnded = ended (contextOf (y .run .context))
 
-  abbrev lastStays : Bool
-  lastStays = staysIn t (y .run .size) (y .run .last)
-
   pub can-faulty : y .faulty ≡ true → false ≡ canRoot y t
   can-faulty e = rw e refl
 
-  pub can-stale : y .faulty ≡ false → hasEnded ≡ true → lastStays ≡ false → false ≡ canRoot y t
+  pub can-stale : y .faulty ≡ false → hasEnded ≡ true → lastStays t (y .run) ≡ false → false ≡ canRoot y t
   can-stale f e s = rw (f, e, s) refl
 
   -- b: whether all first children stay
-  pub can-rest : y .faulty ≡ false → (hasEnded ≡ false) ⊎ (lastStays ≡ true) → (b : Bool)
+  pub can-rest : y .faulty ≡ false → (hasEnded ≡ false) ⊎ (lastStays t (y .run) ≡ true) → (b : Bool)
       → b ≡ firstsStay (tableOf t (y .run .size)) (openList (y .opens)) → b ≡ canRoot y t
   can-rest f s b e = ⊎-elim
       (λ (h : hasEnded ≡ false). rw (f, h) e)
-      (λ (h : lastStays ≡ true). go hasEnded h)
+      (λ (h : lastStays t (y .run) ≡ true). go hasEnded h)
       s
     where
-      go : (c : Bool) → lastStays ≡ true
-          → b ≡ (not (y .faulty) && ((not c || lastStays) && firstsStay (tableOf t (y .run .size)) (openList (y .opens))))
+      go : (c : Bool) → lastStays t (y .run) ≡ true
+          → b ≡ (not (y .faulty) && ((not c || lastStays t (y .run)) && firstsStay (tableOf t (y .run .size)) (openList (y .opens))))
       go true h = rw (f, h) e
       go false h = rw f e
 
@@ -162,38 +205,55 @@ module _ (y : ReadReached) (t : List NodeRecord) where
   root-cannot x c e = rw (sym c) e
 
   -- h, d: the highest number that has a node, and the count of open nodes
-  module _ (h d : ℕ) (he : h ≡ highestIn t (y .run .size)) (de : d ≡ deepOf (y .opens .depth)) (can : true ≡ canRoot y t) where
+  module _ (h d : ℕ) (he : h ≡ highestIn t (y .run .size)) (de : d ≡ rowCount (y .opens .depth) (contextOf (y .run .context)))
+      (can : true ≡ canRoot y t) where
     pub root-full : (x : RootTo) → tableLimit < h + d → x ≡ unrooted (y .run .size) t → x ≡ rootIn y t
     unfolding rootIn
     root-full x l e =
-        let q : ltb tableLimit (highestIn t (y .run .size) + deepOf (y .opens .depth)) ≡ true
-        = lt-ltb tableLimit (highestIn t (y .run .size) + deepOf (y .opens .depth)) (omega (arith, l, he, de)) in
+        let q : ltb tableLimit (highestIn t (y .run .size) + rowCount (y .opens .depth) (contextOf (y .run .context))) ≡ true
+        = lt-ltb tableLimit (highestIn t (y .run .size) + rowCount (y .opens .depth) (contextOf (y .run .context))) (omega (arith, l, he, de)) in
         rw (sym can, q) e
 
-    -- z: the size; e: what ended last; m, u: the number of the outermost node, and the table
-    pub root-done : h + d ≤ tableLimit → (z e : ℕ) → z ≡ larger (y .run .size) (h + d) → e ≡ lastIn (y .run) → (m : ℕ) (u : List NodeRecord)
-        → (u ≡ spineAt t z (opensOf (y .opens .nodes) d) (h + 1) e) × (m ≡ spineNumber (opensOf (y .opens .nodes) d) (h + 1) e)
+    -- z: the size; m, u: the number of the outermost node, and the table
+    pub root-done : h + d ≤ tableLimit → (z : ℕ) → z ≡ larger (y .run .size) (h + d) → (m : ℕ) (u : List NodeRecord)
+        → (u ≡ spineAt t z (rowsIn y) (h + 1) (lastIn (y .run))) × (m ≡ spineNumber (rowsIn y) (h + 1) (lastIn (y .run)))
         → record { whole = true; size = z; number = m; table = u } ≡ rootIn y t
     unfolding rootIn
-    root-done l z e ze ee m u p =
-        let q : ltb tableLimit (highestIn t (y .run .size) + deepOf (y .opens .depth)) ≡ false
-        = le-ltb tableLimit (highestIn t (y .run .size) + deepOf (y .opens .depth)) (omega (arith, l, he, de)) in
-        let s : z ≡ larger (y .run .size) (highestIn t (y .run .size) + deepOf (y .opens .depth)) = ze
+    root-done l z ze m u p =
+        let q : ltb tableLimit (highestIn t (y .run .size) + rowCount (y .opens .depth) (contextOf (y .run .context))) ≡ false
+        = le-ltb tableLimit (highestIn t (y .run .size) + rowCount (y .opens .depth) (contextOf (y .run .context))) (omega (arith, l, he, de)) in
+        let s : z ≡ larger (y .run .size) (highestIn t (y .run .size) + rowCount (y .opens .depth) (contextOf (y .run .context))) = ze
         ∙ ap₂ (λ (h d : ℕ). larger (y .run .size) (h + d)) he de in
         rw (sym can, q) (ap₂ (λ (u : List NodeRecord) (m : ℕ). record { whole = true; size = z; number = m; table = u }) (p .0) (p .1)
-        ∙ ap (λ (d : ℕ). record {
-          whole = true;
-          size = z;
-          number = spineNumber (opensOf (y .opens .nodes) d) (h + 1) e;
-          table = spineAt t z (opensOf (y .opens .nodes) d) (h + 1) e;
-        }) de
-        ∙ ap₂ (λ (h e : ℕ). record {
-          whole = true;
-          size = z;
-          number = spineNumber (openList (y .opens)) (h + 1) e;
-          table = spineAt t z (openList (y .opens)) (h + 1) e;
-        }) he ee
+        ∙ ap (λ (h : ℕ). rootedAt y t h z) he
         ∙ ap (rootedAt y t (highestIn t (y .run .size))) s)
+
+  -- ---- The records
+
+  -- d: the depth; e: what ended last
+  module _ (z k d e : ℕ) (de : d ≡ deepOf (y .opens .depth)) (ee : e ≡ lastIn (y .run)) (v : List NodeRecord) (m : ℕ) where
+    rows-alike : (l : List T.Open) → l ≡ rowsIn y → (v ≡ spineAt t z l k e) × (m ≡ spineNumber l k e)
+        → (v ≡ spineAt t z (rowsIn y) k (lastIn (y .run))) × (m ≡ spineNumber (rowsIn y) k (lastIn (y .run)))
+    rows-alike l le p = (p .0 ∙ ap₂ (λ (l : List T.Open) (e : ℕ). spineAt t z l k e) le ee, p .1 ∙ ap₂ (λ (l : List T.Open) (e : ℕ). spineNumber l k e) le ee)
+
+    pub rows-one : isTwo (contextOf (y .run .context)) ≡ false
+        → (v ≡ spineAt t z (opensOf (y .opens .nodes) d) k e) × (m ≡ spineNumber (opensOf (y .opens .nodes) d) k e)
+        → (v ≡ spineAt t z (rowsIn y) k (lastIn (y .run))) × (m ≡ spineNumber (rowsIn y) k (lastIn (y .run)))
+    rows-one two p = rows-alike (opensOf (y .opens .nodes) d) (ap (opensOf (y .opens .nodes)) de ∙ rw two refl) p
+
+    -- x, u: the record of the two-child node, and the table with it
+    pub rows-two : isTwo (contextOf (y .run .context)) ≡ true → (x : NodeRecord) → x ≡ spineRecord (pairOpen (y .run .pair)) (d + 1) e
+        → (u : List NodeRecord) → u ≡ wordedAt t z k x
+        → (v ≡ spineAt u z (opensOf (y .opens .nodes) d) (k + 1) k) × (m ≡ spineNumber (opensOf (y .opens .nodes) d) (k + 1) k)
+        → (v ≡ spineAt t z (rowsIn y) k (lastIn (y .run))) × (m ≡ spineNumber (rowsIn y) k (lastIn (y .run)))
+    rows-two two x xe u ue p =
+        let l : d ≡ length (opensOf (y .opens .nodes) d) = sym (open-length (y .opens .nodes) d) in
+        rows-alike (pairOpen (y .run .pair) ∷ opensOf (y .opens .nodes) d)
+        (ap (λ (d : ℕ). pairOpen (y .run .pair) ∷ opensOf (y .opens .nodes) d) de ∙ rw two refl) (
+          p .0 ∙ ap (λ (u : List NodeRecord). spineAt u z (opensOf (y .opens .nodes) d) (k + 1) k)
+              (ue ∙ ap (wordedAt t z k) (xe ∙ ap (λ (i : ℕ). spineRecord (pairOpen (y .run .pair)) (i + 1) e) l)),
+          p .1,
+        )
 
 module _ (n : ℕ) (bytes : List ℕ) (t : List NodeRecord) where
   pub load-options : (x : LoadTo) → optionLimit < n → x ≡ refusedLoad C.optionCount t → x ≡ load n bytes t

@@ -15,12 +15,13 @@ use Rattle.theory_reading.specs.Limits.{optionLimit, tableLimit, wordLimit}
 use Rattle.theory_reading.specs.Nodes.{Ref, terminal, entry, temporary, child, Node, node, bars}
 use Rattle.theory_reading.specs.Causes as C
 use Rattle.theory_reading.specs.Element as T
-use Rattle.theory_reading.specs.Reading.{State, Reading, isStart, reading}
+use Rattle.theory_reading.specs.Reading.{State, Reading, isStart, isTwo, reading}
 use Rattle.theory_reading.specs.Deciding.{decided, complemented, options, ended, decision}
 use Rattle.theory_reading.specs.Calls as R
 use Rattle.theory_reading.specs.TableWalk.{tableWalk}
 use Rattle.theory_reading.specs.Lasting.{Ordered}
-use Rattle.theory_reading.specs.Spine.{firstsStay, spineNumber, SpineIn, Shows, Extends, FirstsDeep, Stays, begunNumber, spine-decides, begun-deep, reading-firsts}
+use Rattle.theory_reading.specs.Spine.{firstsStay, spineNumber, SpineIn, Shows, Extends, FirstsDeep, Stays, begunNumber}
+use Rattle.theory_reading.specs.Spine.{spineOpens, spineLast, spine-decides, begun-deep, reading-firsts}
 use Rattle.elements.specs.Abstraction.{contextOf, refOf, deepOf, openList}
 use Rattle.elements.specs.OpenLaws.{open-length}
 use Rattle.node_records.specs.Records.{noRecord}
@@ -35,8 +36,9 @@ use Rattle.reader.specs.ReadOn.{ReadTo, readAll, read-length, read-reaches}
 use Rattle.blocks.specs.BlockLaws.{none-node, none-ordered, stands-ordered}
 use Rattle.blocks.specs.Spine.{staysIn, highestIn}
 use Rattle.blocks.specs.SpineLaws.{spine-length, spine-ordered, spine-worded, spine-extends, spine-has, spine-deep}
-use Rattle.blocks.specs.Load.{LoadTo, RootTo, unrooted, canRoot, lastIn, rootedAt, larger, rootIn, refusedLoad, loadedAs, loadOf, load}
+use Rattle.blocks.specs.Load.{LoadTo, RootTo, unrooted, pairOpen, rowsIn, rowCount, canRoot, lastIn, rootedAt, larger, rootIn, refusedLoad, loadedAs, loadOf, load}
 use Rattle.blocks.specs.Load.{load-options, load-table, load-on}
+use Rattle.elements.specs.declared.Ref as K
 use Rattle.node_records.specs.declared.NodeRecord.{NodeRecord}
 
 -- ---- What is made of what the loop reaches ---------------------------------------------------
@@ -51,33 +53,65 @@ ended-later T.afterTwo e = refl
 ended-later T.afterOne e = refl
 ended-later T.over e = refl
 
+-- so it has after two children
+two-ended : (m : T.Context) → isTwo m ≡ true → ended m ≡ true
+two-ended T.start e = absurd (false≢true e)
+two-ended T.lead e = absurd (false≢true e)
+two-ended T.begins e = absurd (false≢true e)
+two-ended T.afterDigit e = refl
+two-ended T.afterTwo e = refl
+two-ended T.afterOne e = refl
+two-ended T.over e = refl
+
+-- how many nodes are open
+abbrev rows : ReadReached → ℕ
+rows y = rowCount (y .opens .depth) (contextOf (y .run .context))
+
 -- what the test says
 record CanRoot (y : ReadReached) (u : List NodeRecord) : Type 0 where
-  last : ended (contextOf (y .run .context)) ≡ true → staysIn u (y .run .size) (y .run .last) ≡ true
-  firsts : firstsStay (tableOf u (y .run .size)) (openList (y .opens)) ≡ true
+  last : ended (contextOf (y .run .context)) ≡ true
+      → bars (tableOf u (y .run .size)) (cond (isTwo (contextOf (y .run .context))) (refOf (y .run .pair .second)) (refOf (y .run .last))) ≡ false
+  firsts : firstsStay (tableOf u (y .run .size)) (rowsIn y) ≡ true
+
+stays-bars : (u : List NodeRecord) (z : ℕ) (x : K.Ref) → staysIn u z x ≡ true → bars (tableOf u z) (refOf x) ≡ false
+stays-bars u z x e = bars-record u z x ∙ ap not e
 
 can-says : (y : ReadReached) (u : List NodeRecord) → canRoot y u ≡ true → CanRoot y u
-can-says y u = go (y .faulty) (ended (contextOf (y .run .context))) (staysIn u (y .run .size) (y .run .last)) refl refl
+can-says y u = go (y .faulty) (ended m) refl (isTwo m) refl (staysIn u z (y .run .pair .first)) refl (staysIn u z (y .run .pair .second)) refl
+    (staysIn u z (y .run .last)) refl
   where
-    go : (a b c : Bool) → ended (contextOf (y .run .context)) ≡ b → staysIn u (y .run .size) (y .run .last) ≡ c
-        → (not a && ((not b || c) && firstsStay (tableOf u (y .run .size)) (openList (y .opens)))) ≡ true → CanRoot y u
-    go true b c i j e = absurd (false≢true e)
-    go false true true i j e = record { last = λ _. j; firsts = e }
-    go false true false i j e = absurd (false≢true e)
-    go false false c i j e = record { last = λ k. absurd (false≢true (sym i ∙ k)); firsts = e }
+    m : T.Context
+    m = contextOf (y .run .context)
+
+    z : ℕ
+    z = y .run .size
+
+    go : (f e : Bool) → ended m ≡ e → (w : Bool) → isTwo m ≡ w → (a : Bool) → staysIn u z (y .run .pair .first) ≡ a
+        → (b : Bool) → staysIn u z (y .run .pair .second) ≡ b → (l : Bool) → staysIn u z (y .run .last) ≡ l
+        → (not f && ((not e || cond w (a && b) l) && firstsStay (tableOf u z) (openList (y .opens)))) ≡ true → CanRoot y u
+    go true e i w j a p b q l r h = absurd (false≢true h)
+    go false true i true j true p true q l r h = record {
+      last = λ _. rw j (stays-bars u z (y .run .pair .second) q);
+      firsts = rw j (ap₂ (λ (b c : Bool). not b && c) (stays-bars u z (y .run .pair .first) p) h);
+    }
+    go false true i true j true p false q l r h = absurd (false≢true h)
+    go false true i true j false p b q l r h = absurd (false≢true h)
+    go false true i false j a p b q true r h = record { last = λ _. rw j (stays-bars u z (y .run .last) r); firsts = rw j h }
+    go false true i false j a p b q false r h = absurd (false≢true h)
+    go false false i true j a p b q l r h = absurd (false≢true (sym i ∙ two-ended m j))
+    go false false i false j a p b q l r h = record { last = λ k. absurd (false≢true (sym i ∙ k)); firsts = rw j h }
 
 -- the ways of rooting
 root-ways : (P : RootTo → Type 0) (y : ReadReached) (u : List NodeRecord) → P (unrooted (y .run .size) u)
-    → (CanRoot y u → highestIn u (y .run .size) + deepOf (y .opens .depth) ≤ tableLimit
-    → P (rootedAt y u (highestIn u (y .run .size)) (larger (y .run .size) (highestIn u (y .run .size) + deepOf (y .opens .depth)))))
+    → (CanRoot y u → highestIn u (y .run .size) + rows y ≤ tableLimit
+    → P (rootedAt y u (highestIn u (y .run .size)) (larger (y .run .size) (highestIn u (y .run .size) + rows y))))
     → P (rootIn y u)
 unfolding rootIn
-root-ways P y u none some = go (canRoot y u) refl
-    (ltb tableLimit (highestIn u (y .run .size) + deepOf (y .opens .depth))) refl
+root-ways P y u none some = go (canRoot y u) refl (ltb tableLimit (highestIn u (y .run .size) + rows y)) refl
   where
-    go : (a : Bool) → canRoot y u ≡ a → (b : Bool) → ltb tableLimit (highestIn u (y .run .size) + deepOf (y .opens .depth)) ≡ b
+    go : (a : Bool) → canRoot y u ≡ a → (b : Bool) → ltb tableLimit (highestIn u (y .run .size) + rows y) ≡ b
         → P (cond a (cond b (unrooted (y .run .size) u)
-        (rootedAt y u (highestIn u (y .run .size)) (larger (y .run .size) (highestIn u (y .run .size) + deepOf (y .opens .depth)))))
+        (rootedAt y u (highestIn u (y .run .size)) (larger (y .run .size) (highestIn u (y .run .size) + rows y))))
         (unrooted (y .run .size) u))
     go true i true j = none
     go true i false j = some (can-says y u i) (ltb-false _ _ j)
@@ -85,8 +119,8 @@ root-ways P y u none some = go (canRoot y u) refl
 
 root-length : (y : ReadReached) (u : List NodeRecord) → length (rootIn y u .table) ≡ length u
 root-length y u = root-ways (λ (x : RootTo). length (x .table) ≡ length u) y u refl
-    (λ can fits. spine-length (larger (y .run .size) (highestIn u (y .run .size) + deepOf (y .opens .depth))) (openList (y .opens)) u
-    (highestIn u (y .run .size) + 1) (lastIn (y .run)))
+    (λ can fits. spine-length (larger (y .run .size) (highestIn u (y .run .size) + rows y)) (rowsIn y) u (highestIn u (y .run .size) + 1)
+    (lastIn (y .run)))
 
 -- ---- Tables that have the same nodes
 
@@ -111,7 +145,7 @@ module _ (t u : List Node) (same : (k : ℕ) → node t k ≡ node u k) where
 
 -- y, u: what the loop reaches at the end of the stream, and the table after it
 module _ (n : ℕ) (bytes : List ℕ) (y : ReadReached) (u : List NodeRecord) (read : Reads n bytes y u) (stands : Stands n bytes (y .run) (y .opens) u)
-    (can : CanRoot y u) (fits : highestIn u (y .run .size) + deepOf (y .opens .depth) ≤ tableLimit) where
+    (can : CanRoot y u) (fits : highestIn u (y .run .size) + rows y ≤ tableLimit) where
   abbrev s : State
   s = stateAt (y .run) (y .opens) u
 
@@ -119,7 +153,7 @@ module _ (n : ℕ) (bytes : List ℕ) (y : ReadReached) (u : List NodeRecord) (r
   size = y .run .size
 
   abbrev o : List T.Open
-  o = openList (y .opens)
+  o = rowsIn y
 
   abbrev h : ℕ
   h = highestIn u size
@@ -137,30 +171,42 @@ module _ (n : ℕ) (bytes : List ℕ) (y : ReadReached) (u : List NodeRecord) (r
   stays : Stays s
   stays = record {
     firsts = stays-alike (s .table) (tableOf u size) table-same o ∙ can .firsts;
-    last = λ e. bars-alike (s .table) (tableOf u size) table-same (refOf (y .run .last)) ∙ bars-record u size (y .run .last) ∙ ap not (can .last e);
+    last = λ e. bars-alike (s .table) (tableOf u size) table-same (spineLast s) ∙ can .last e;
   }
 
   stays-there : Stays (reading n bytes .state)
   stays-there = subst Stays (sym state-same) stays
 
   begun-same : begunNumber s ≡ lastIn (y .run)
-  begun-same = ap (λ (k : ℕ). cond (ended (contextOf (y .run .context))) k 0) (sym (child-of (y .run .last)))
+  begun-same = ap (λ (k : ℕ). cond (ended (contextOf (y .run .context))) k 0) (go (isTwo (contextOf (y .run .context))))
+    where
+      go : (b : Bool) → child (cond b (refOf (y .run .pair .second)) (refOf (y .run .last))) ≡ cond b (y .run .pair .second .number) (y .run .last .number)
+      go true = sym (child-of (y .run .pair .second))
+      go false = sym (child-of (y .run .last))
 
-  count-same : length o ≡ deepOf (y .opens .depth)
-  count-same = open-length (y .opens .nodes) (deepOf (y .opens .depth))
+  count-same : length o ≡ rows y
+  count-same = go (isTwo (contextOf (y .run .context)))
+    where
+      n-open : length (openList (y .opens)) ≡ deepOf (y .opens .depth)
+      n-open = open-length (y .opens .nodes) (deepOf (y .opens .depth))
+
+      go : (b : Bool) → length (cond b (pairOpen (y .run .pair) ∷ openList (y .opens)) (openList (y .opens)))
+          ≡ cond b (deepOf (y .opens .depth) + 1) (deepOf (y .opens .depth))
+      go true = omega (arith, n-open)
+      go false = n-open
 
   begun : 0 < lastIn (y .run) → length o + 1 ≤ node (tableOf u size) (lastIn (y .run)) .level
   begun = subst (λ (e : ℕ). 0 < e → length o + 1 ≤ node (tableOf u size) e .level) begun-same
       (λ p. omega (
         arith,
-        subst (λ (s : State). 0 < begunNumber s → length (s .place .opens) + 1 ≤ node (s .table) (begunNumber s) .level) state-same
+        subst (λ (s : State). 0 < begunNumber s → length (spineOpens s) + 1 ≤ node (s .table) (begunNumber s) .level) state-same
             (begun-deep n bytes stays-there) p,
         ap (λ (x : Node). x .level) (table-same (begunNumber s)),
       ))
 
   firsts : FirstsDeep (tableOf u size) o
   firsts = deep-alike (s .table) (tableOf u size) table-same o
-      (subst (λ (s : State). FirstsDeep (s .table) (s .place .opens)) state-same (reading-firsts n bytes stays-there))
+      (subst (λ (s : State). FirstsDeep (s .table) (spineOpens s)) state-same (reading-firsts n bytes stays-there))
 
   ordered : Ordered (tableOf u size)
   ordered = stands-ordered n bytes (y .run) (y .opens) u stands
@@ -194,12 +240,12 @@ module _ (n : ℕ) (bytes : List ℕ) (y : ReadReached) (u : List NodeRecord) (r
       let v = tableOf (x .table) (x .size) in
       subst (λ (e : ℕ). SpineIn v o (h + 1) e
       → Shows (decision n bytes w) (complemented (y .run .complement) (tableWalk v 1 (spineNumber o (h + 1) e) (options n w)))) begun-same
-      (λ rows. subst (λ (s : State). Extends (s .table) v → SpineIn v (s .place .opens) (h + 1) (begunNumber s)
-      → Shows (decision n bytes w) (complemented (s .complement) (tableWalk v 1 (spineNumber (s .place .opens) (h + 1) (begunNumber s)) (options n w))))
+      (λ rows. subst (λ (s : State). Extends (s .table) v → SpineIn v (spineOpens s) (h + 1) (begunNumber s)
+      → Shows (decision n bytes w) (complemented (s .complement) (tableWalk v 1 (spineNumber (spineOpens s) (h + 1) (begunNumber s)) (options n w))))
       state-same (λ more rows. spine-decides n bytes stays-there v (h + 1) (omega arith) more rows w) rooted-extends rows) rooted-has
 
   -- with the count of open nodes as code has it
-  by-count : (P : RootTo → Type 0) → P x → P (rootedAt y u h (larger size (h + deepOf (y .opens .depth))))
+  by-count : (P : RootTo → Type 0) → P x → P (rootedAt y u h (larger size (h + rows y)))
   by-count P = subst (λ (d : ℕ). P (rootedAt y u h (larger size (h + d)))) count-same
 
 -- ---- Loading ---------------------------------------------------------------------------------
@@ -260,8 +306,8 @@ module _ (n : ℕ) (bytes : List ℕ) (t : List NodeRecord) (x : LoadTo) (called
   -- what holds of what was read, where the table has it
   by-whole : (P : LoadTo → Type 0)
       → (Reads n bytes y u → Stands n bytes (y .run) (y .opens) u → CanRoot y u
-      → highestIn u (y .run .size) + deepOf (y .opens .depth) ≤ tableLimit
-      → P (loadedAs y (rootedAt y u (highestIn u (y .run .size)) (larger (y .run .size) (highestIn u (y .run .size) + deepOf (y .opens .depth))))))
+      → highestIn u (y .run .size) + rows y ≤ tableLimit
+      → P (loadedAs y (rootedAt y u (highestIn u (y .run .size)) (larger (y .run .size) (highestIn u (y .run .size) + rows y)))))
       → P x
   by-whole P k = subst P (sym called) (load-ways n bytes t (λ (x : LoadTo). x .whole ≡ true → P x)
       (λ h e. absurd (false≢true e)) (λ few h e. absurd (false≢true e))

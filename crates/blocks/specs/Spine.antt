@@ -34,19 +34,14 @@ abbrev pub highestIn : List NodeRecord → ℕ → ℕ
 highestIn t zero = 0
 highestIn t (suc k) = cond (eqb (entryAt noRecord t (suc k) .level) 0) (highestIn t k) (suc k)
 
+-- a record of level i with the children f and e; c: whether the edge to the second is complemented
+abbrev pub recordAs : ℕ → ℕ → ℕ → ℕ → NodeRecord
+recordAs i f e c = record { level = i; first = f; second = e; complement = c; stamp = 1; parents = 0; admits = 0; refuses = 0 }
+
 -- the record of an open node of level i; e: the number of its child that is being read, or is to be read
 abbrev pub spineRecord : T.Open → ℕ → ℕ → NodeRecord
-spineRecord T.inFirst i e = record { level = i; first = e; second = 0; complement = 0; stamp = 1; parents = 0; admits = 0; refuses = 0 }
-spineRecord (T.inSecond r b) i e = record {
-  level = i;
-  first = child r;
-  second = e;
-  complement = cond b 1 0;
-  stamp = 1;
-  parents = 0;
-  admits = 0;
-  refuses = 0;
-}
+spineRecord T.inFirst i e = recordAs i e 0 0
+spineRecord (T.inSecond r b) i e = recordAs i (child r) e (cond b 1 0)
 
 -- the number k is given to x, with what its children say of the words below
 abbrev pub wordedAt : List NodeRecord → ℕ → ℕ → NodeRecord → List NodeRecord
@@ -119,15 +114,12 @@ module _ (o : List (List ℕ)) where
           ve .1 ∙ ap (λ (l : List T.Open). spineNumber l k e) (sym q),
         )
 
--- the record of the cells a
-module _ (a : List ℕ) (i e : ℕ) where
-  abbrev recordAs : ℕ → ℕ → ℕ → NodeRecord
-  recordAs f s c = record { level = i; first = f; second = s; complement = c; stamp = 1; parents = 0; admits = 0; refuses = 0 }
+-- the record of the cells a; x: as code makes it
+module _ (a : List ℕ) (i e : ℕ) (x : NodeRecord) where
+  pub record-first : getD a 2 0 ≡ 0 → x ≡ recordAs i e 0 0 → x ≡ spineRecord (openOf (openIn a)) i e
+  record-first h xe = rw (eq-eqb (getD a 2 0) 0 h) xe
 
-  pub record-first : getD a 2 0 ≡ 0 → recordAs e 0 0 ≡ spineRecord (openOf (openIn a)) i e
-  record-first h = rw (eq-eqb (getD a 2 0) 0 h) refl
-
-  pub record-second : (getD a 2 0 ≡ 0 → ⊥) → (c : ℕ) → c ≡ cond (not (eqb (getD a 3 0) 0)) 1 0
-      → recordAs (getD a 0 0) e c ≡ spineRecord (openOf (openIn a)) i e
-  record-second h c q = rw (ne-eqb (getD a 2 0) 0 h)
-      (ap₂ (λ (f c : ℕ). recordAs f e c) (child-of (openIn a .first)) q)
+  pub record-second : (getD a 2 0 ≡ 0 → ⊥) → (c : ℕ) → c ≡ cond (not (eqb (getD a 3 0) 0)) 1 0 → x ≡ recordAs i (getD a 0 0) e c
+      → x ≡ spineRecord (openOf (openIn a)) i e
+  record-second h c q xe = rw (ne-eqb (getD a 2 0) 0 h)
+      (xe ∙ ap₂ (λ (f c : ℕ). recordAs i f e c) (child-of (openIn a .first)) q)

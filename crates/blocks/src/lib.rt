@@ -11,18 +11,21 @@ ghost use Rattle.node_records.specs.declared.NodeRecord.{NodeRecord};
 ghost use Rattle.work_table.specs.TableLaws.{tableOf};
 ghost use Rattle.reader.specs.OpenCells.{openIn, nodesIn, opensIn, reachedIn, cursorIn};
 ghost use Rattle.blocks.specs.Blocks.{edgeAt, blockIn, blockOf, nextBlock};
-ghost use Rattle.blocks.specs.Spine.{staysIn, highestIn, spineRecord, wordedAt, spineAt};
-ghost use Rattle.blocks.specs.Load.{rootingIn, unrooted, canRoot, lastIn, larger, rootIn, loadIn, refusedLoad, loadOf, load};
+ghost use Rattle.blocks.specs.Spine.{staysIn, highestIn, recordAs, spineRecord, wordedAt, spineAt};
+ghost use Rattle.blocks.specs.Load.{rootingIn, unrooted, lastStays, canRoot, lastIn, pairOpen, rowsIn, rowCount, larger, rootIn};
+ghost use Rattle.blocks.specs.Load.{loadIn, refusedLoad, loadOf, load};
 use answers::Checking;
 use answers::early;
 use checker::checked_at;
 use cursors::Cursor;
+use cursors::Pair;
 use cursors::Run;
 use cursors::first_cursor;
 use elements::Cause;
 use elements::Context;
 use elements::OPEN_LIMIT;
 use elements::context_number;
+use elements::is_context;
 use node_records::Edge;
 use node_records::NodeRecord;
 use node_records::OPTION_LIMIT;
@@ -133,7 +136,8 @@ pub fn next_block(
 // ---- The nodes that are open at the end
 
 // What is open at the end of a stream that was cut: the open nodes, each with its first child if its second has begun, and what ended last. If the table has
-// these, a record for each open node makes it complete: what was not read counts as the terminal.
+// these, a record for each open node makes it complete: what was not read counts as the terminal. A two-child node that ended last has no number yet, and
+// counts as open, with its second child read.
 
 // The number k, with the stamp g, is the terminal or was not given out again. z: how many numbers there are
 fn stays(t: &[NodeRecord], z: u32, k: u32, g: u32) -> bool
@@ -183,33 +187,38 @@ fn highest(t: &[NodeRecord], z: u32) -> u32
     0
 }
 
-// The record of the open node of level i that has the cells a. e: the number of its child that is being read, or is to be read
-fn spine_record(a: [u32; 4], i: u32, e: u32) -> NodeRecord
-    ensures { λ x. ⌜ x ≡ spineRecord (openOf (openIn a)) i e ⌝ }
+// A record of level i with the children f and e; c: 1 if the edge to the second is complemented, 0 if not
+fn record_as(i: u32, f: u32, e: u32, c: u32) -> NodeRecord
+    ensures { λ x. ⌜ x ≡ recordAs i f e c ⌝ }
 {
-    if a[2] == 0 {
-        return NodeRecord {
-            level: i,
-            first: e,
-            second: 0,
-            complement: 0,
-            stamp: 1,
-            parents: 0,
-            admits: 0,
-            refuses: 0,
-        };
-    }
-    let f = a[0];
     NodeRecord {
         level: i,
         first: f,
         second: e,
-        complement: bit(a[3] != 0),
+        complement: c,
         stamp: 1,
         parents: 0,
         admits: 0,
         refuses: 0,
     }
+}
+
+// The record of the open node of level i that has the cells a. e: the number of its child that is being read, or is to be read
+fn spine_record(a: [u32; 4], i: u32, e: u32) -> NodeRecord
+    ensures { λ x. ⌜ x ≡ spineRecord (openOf (openIn a)) i e ⌝ }
+{
+    if a[2] == 0 {
+        return record_as(i, e, 0, 0);
+    }
+    record_as(i, a[0], e, bit(a[3] != 0))
+}
+
+// The same of a two-child node that has just ended.
+fn pair_record(p: Pair, i: u32, e: u32) -> NodeRecord
+    ensures { λ x. ⌜ x ≡ spineRecord (pairOpen p) i e ⌝ }
+{
+    let a = p.first;
+    record_as(i, a.number, e, bit(p.complement))
 }
 
 // The record x, with what its children say of the words below, is put under the number k.
@@ -281,6 +290,25 @@ fn not_rooted(z: u32) -> Rooting
     }
 }
 
+// What ended last is the terminal or was not given out again; of a two-child node, which has no number yet: both its children.
+fn last_stays(t: &[NodeRecord], q: Run) -> bool
+    ensures { λ x. ⌜ x ≡ lastStays (now (t .entry)) q ⌝ }
+{
+    let z = q.size;
+    let m = q.context;
+    if !is_context(m, Context::AfterTwo) {
+        let l = q.last;
+        return stays(t, z, l.number, l.stamp);
+    }
+    let p = q.pair;
+    let a = p.first;
+    if !stays(t, z, a.number, a.stamp) {
+        return false;
+    }
+    let b = p.second;
+    stays(t, z, b.number, b.stamp)
+}
+
 // No fault was met, and the table has what ended last, if a node has just ended, and the first children of all open nodes.
 fn can_root(t: &[NodeRecord], o: &[[u32; 4]; OPEN_LIMIT], r: Reached) -> bool
     ensures { λ x. ⌜ x ≡ canRoot (reachedIn r (now (o .entry))) (now (t .entry)) ⌝ }
@@ -291,24 +319,59 @@ fn can_root(t: &[NodeRecord], o: &[[u32; 4]; OPEN_LIMIT], r: Reached) -> bool
     }
     let q = r.run;
     let z = q.size;
-    let l = q.last;
     let m = q.context;
     if has_ended(m) {
-        if !stays(t, z, l.number, l.stamp) {
+        if !last_stays(t, q) {
             return false;
         }
     }
     firsts_stay(t, z, o, deep_of(r.depth))
 }
 
-// The number of what ended last, if a node has just ended.
-fn last_number(r: Reached) -> u32
-    ensures { λ x. ⌜ x ≡ lastIn (r .run) ⌝ }
+// The number of what ended last, if a node has just ended; of a two-child node: that of its second child.
+fn last_number(q: Run) -> u32
+    ensures { λ x. ⌜ x ≡ lastIn q ⌝ }
 {
-    let q = r.run;
-    let l = q.last;
     let m = q.context;
-    if has_ended(m) { l.number } else { 0 }
+    if !has_ended(m) {
+        return 0;
+    }
+    if is_context(m, Context::AfterTwo) {
+        let p = q.pair;
+        let b = p.second;
+        return b.number;
+    }
+    let l = q.last;
+    l.number
+}
+
+// How many nodes are open, with a two-child node that has just ended.
+fn row_count(d: usize, m: Context) -> usize
+    ensures { λ x. ⌜ x ≡ rowCount d (contextOf m) ⌝ }
+{
+    if is_context(m, Context::AfterTwo) {
+        deep_of(d) + 1
+    } else {
+        deep_of(d)
+    }
+}
+
+// These get records under the numbers from k on, the innermost first: the number of the outermost.
+fn put_rows(t: &mut [NodeRecord], z: u32, o: &[[u32; 4]; OPEN_LIMIT], r: Reached, k: u32) -> u32
+    requires { ⌜ k + rowCount (r .depth) (contextOf (r .run .context)) ≤ tableLimit + 1 ⌝ }
+    ensures { λ x. ⌜ (now (t .exit) ≡ spineAt (now (t .entry)) z (rowsIn (reachedIn r (now (o .entry)))) k (lastIn (r .run)))
+        × (x ≡ spineNumber (rowsIn (reachedIn r (now (o .entry)))) k (lastIn (r .run))) ⌝ }
+{
+    let d = deep_of(r.depth);
+    let q = r.run;
+    let m = q.context;
+    let e = last_number(q);
+    if is_context(m, Context::AfterTwo) {
+        let p = q.pair;
+        put_worded(t, z, k, pair_record(p, d as u32 + 1, e));
+        return put_spine(t, z, o, d, k + 1, k);
+    }
+    put_spine(t, z, o, d, k, e)
 }
 
 // The open nodes get records, above all numbers that have a node, if there is room.
@@ -320,13 +383,14 @@ fn root(t: &mut [NodeRecord], o: &[[u32; 4]; OPEN_LIMIT], r: Reached) -> Rooting
     if !can_root(t, o, r) {
         return not_rooted(z);
     }
-    let d = deep_of(r.depth);
+    let m = q.context;
+    let d = row_count(r.depth, m);
     let h = highest(t, z);
     if TABLE_LIMIT < h as usize + d {
         return not_rooted(z);
     }
     let y = larger(z, h + d as u32);
-    let e = put_spine(t, y, o, d, h + 1, last_number(r));
+    let e = put_rows(t, y, o, r, h + 1);
     Rooting {
         size: y,
         number: e,

@@ -6,19 +6,19 @@ use mathlib.Core.Logic.{_≢_, ⊎-elim}
 use mathlib.Core.Bool.{Bool, true, false, cond, not, _&&_, false≢true}
 use mathlib.Core.List.{List, [], _∷_}
 use Prim.{Unit, tt}
-use Prim.Native.Nat.{ℕ, suc, _+_, _-_, _<_, _≤_}
+use Prim.Native.Nat.{ℕ, zero, suc, _+_, _-_, _<_, _≤_}
 use native.Mathlib.Omega.{arith}
 use lib.ListN.{length}
 use Rattle.theory_lists.specs.Lists.{differ, decide-eq, decide-le}
 use Rattle.theory_reading.specs.Nodes.{Ref, child, Node, newNode, node, bars}
-use Rattle.theory_reading.specs.Element.{Open, inFirst, inSecond}
-use Rattle.theory_reading.specs.Reading.{State, Reading, reading}
+use Rattle.theory_reading.specs.Element.{Open, inFirst, inSecond, Context, start, lead, begins, afterDigit, afterTwo, afterOne, over}
+use Rattle.theory_reading.specs.Reading.{State, Reading, level, isTwo, reading}
 use Rattle.theory_reading.specs.Deciding.{Decision, undecided, decided, complemented, options, Diagram, missing, leaf, branch, walk, top, below}
-use Rattle.theory_reading.specs.Deciding.{around, outermostOf, Trace, traceOn, trace, ended, decisionOf, decision}
+use Rattle.theory_reading.specs.Deciding.{Drawing, around, outermostOf, Trace, traceOn, trace, ended, decisionOf, decision}
 use Rattle.theory_reading.specs.Prefix.{trace-reading}
 use Rattle.theory_reading.specs.Words.{Full}
-use Rattle.theory_reading.specs.Covered.{Nest, under}
-use Rattle.theory_reading.specs.TableWalk.{tableWalk, tableWalk-zero, tableWalk-skip, tableWalk-go, TiedTo, NestTied, current, tied-on}
+use Rattle.theory_reading.specs.Covered.{Nest, under, Good}
+use Rattle.theory_reading.specs.TableWalk.{tableWalk, tableWalk-zero, tableWalk-skip, tableWalk-go, TiedTo, NestTied, PairTied, Tied, current, tied-on}
 use Rattle.theory_reading.specs.Passing.{startTrace, length-options}
 use Rattle.theory_reading.specs.Lasting.{Ordered, is-first, is-second, tied-deep, ordered-on}
 
@@ -236,14 +236,110 @@ module _ (t u : List Node) (ordered : Ordered t) (more : Extends t u) where
 
 -- ---- After some steps ------------------------------------------------------------------------
 
+-- The open nodes; a two-child node that has just ended has no number yet, and counts as open with its second child read.
+abbrev pub spineOpens : State → List Open
+spineOpens s = cond (isTwo (s .place .context)) (inSecond (s .pair .first) (s .pair .complement) ∷ s .place .opens) (s .place .opens)
+
+-- what ended last, below these
+abbrev pub spineLast : State → Ref
+spineLast s = cond (isTwo (s .place .context)) (s .pair .second) (s .place .last)
+
 -- the first children of the open nodes and what ended last, if a node has just ended, are the terminal or in the table
 pub record Stays (s : State) : Type 0 where
-  pub firsts : firstsStay (s .table) (s .place .opens) ≡ true
-  pub last : ended (s .place .context) ≡ true → bars (s .table) (s .place .last) ≡ false
+  pub firsts : firstsStay (s .table) (spineOpens s) ≡ true
+  pub last : ended (s .place .context) ≡ true → bars (s .table) (spineLast s) ≡ false
 
 -- the number of what is being read
 abbrev pub begunNumber : State → ℕ
-begunNumber s = cond (ended (s .place .context)) (child (s .place .last)) 0
+begunNumber s = cond (ended (s .place .context)) (child (spineLast s)) 0
+
+-- what is being read, of level i: nothing of it yet, or it has ended, and the table has it
+data Begun (n : ℕ) (t : List Node) (i : ℕ) : Diagram → ℕ → Type 0 where
+  nothing : Begun n t i missing 0
+  something : (x : Diagram) (r : Ref) → TiedTo n t i x r → bars t r ≡ false → Full x (n + 1 - i) → Begun n t i x (child r)
+
+-- d is what the open nodes o are around x, whose number is e
+record Parts (n : ℕ) (t : List Node) (d : Diagram) (o : List Open) (e : ℕ) : Type 0 where
+  st : List Diagram
+  x : Diagram
+  same : around o st x ≡ d
+  nest : Nest n o st
+  tied : NestTied n t o st
+  begun : Begun n t (length o + 1) x e
+
+begun-shows : (n : ℕ) (t u : List Node) → Ordered t → Extends t u → (i : ℕ) → 1 ≤ i → (x : Diagram) (e : ℕ) → Begun n t i x e
+    → (os : List Bool) → length os ≡ n + 1 - i → Shows (walk x os) (tableWalk u i e os)
+begun-shows n t u ordered more i deep x e nothing os l = missing-shows os (tableWalk u i 0 os) (tableWalk-zero u i os)
+begun-shows n t u ordered more i deep y e (something x r tied stays full) os l = still-shows t u ordered more n i x r deep tied stays full os l
+
+begun-level : (n : ℕ) (t : List Node) (i : ℕ) (x : Diagram) (e : ℕ) → Begun n t i x e → 0 < e → i ≤ node t e .level
+begun-level n t i x e nothing p = absurd (omega (arith, p))
+begun-level n t i y e (something x r tied stays full) p = tied-deep n t i x r tied stays p
+
+full-branch : (a : Diagram) (c : Bool) (b : Diagram) (k : ℕ) → Full (branch a c b) k → (1 ≤ k) × (Full a (k - 1) × Full b (k - 1))
+full-branch a c b zero h = absurd h
+full-branch a c b (suc k) h =
+    let e : k ≡ suc k - 1 = omega arith in
+    (omega arith, (subst (Full a) e (h .0), subst (Full b) e (h .1)))
+
+module _ (n : ℕ) (s : State) (d : Drawing) where
+  abbrev o : List Open
+  o = s .place .opens
+
+  -- nothing of a node is read;
+  parts-none : Nest n o (d .stack) → NestTied n (s .table) o (d .stack) → Parts n (s .table) (around o (d .stack) missing) o 0
+  parts-none nest tied = record { st = d .stack; x = missing; same = refl; nest = nest; tied = tied; begun = nothing }
+
+  -- a node has just ended,
+  module _ (nest : Nest n o (below (d .stack))) (tied : NestTied n (s .table) o (below (d .stack))) (full : Full (top (d .stack)) (n - length o)) where
+    parts-one : TiedTo n (s .table) (level (s .place)) (top (d .stack)) (s .place .last) → bars (s .table) (s .place .last) ≡ false
+        → Parts n (s .table) (around o (below (d .stack)) (top (d .stack))) o (child (s .place .last))
+    parts-one last stays =
+        let size : n - length o ≡ n + 1 - (length o + 1) = omega arith in record {
+          st = below (d .stack);
+          x = top (d .stack);
+          same = refl;
+          nest = nest;
+          tied = tied;
+          begun = something (top (d .stack)) (s .place .last) last stays (subst (Full (top (d .stack))) size full);
+        }
+
+    -- or a two-child node that has no number yet.
+    parts-two : PairTied n s (top (d .stack)) → bars (s .table) (s .pair .second) ≡ false
+        → Parts n (s .table) (around o (below (d .stack)) (top (d .stack))) (inSecond (s .pair .first) (s .pair .complement) ∷ o) (child (s .pair .second))
+    unfolding around
+    parts-two p stays =
+        let f = full-branch (p .a) (s .pair .complement) (p .b) (n - length o) (subst (λ (x : Diagram). Full x (n - length o)) (p .shape) full) in
+        let left : n - length o - 1 ≡ n - suc (length o) = omega arith in
+        let right : n - length o - 1 ≡ n + 1 - (suc (length o) + 1) = omega arith in
+        let i : length o + 1 + 1 ≡ length o + 2 = omega arith in
+        let j : length o + 1 + 1 ≡ suc (length o) + 1 = omega arith in record {
+          st = p .a ∷ below (d .stack);
+          x = p .b;
+          same = ap (around o (below (d .stack))) (sym (p .shape));
+          nest = (omega (arith, f .0), subst (Full (p .a)) left (f .1 .0), nest);
+          tied = (subst (λ (i : ℕ). TiedTo n (s .table) i (p .a) (s .pair .first)) i (p .left), tied);
+          begun = something (p .b) (s .pair .second) (subst (λ (i : ℕ). TiedTo n (s .table) i (p .b) (s .pair .second)) j (p .right)) stays
+              (subst (Full (p .b)) right (f .1 .1));
+        }
+
+  parts : Good n s d → Tied n s d → Stays s
+      → Parts n (s .table) (outermostOf (ended (s .place .context)) o (d .stack)) (spineOpens s) (begunNumber s)
+  parts good tied stays = go (s .place .context) (good .nest) (good .whole) (tied .nest) (tied .last) (tied .pair) (stays .last)
+    where
+      go : (m : Context) → Nest n o (under (ended m) (d .stack)) → (ended m ≡ true → Full (top (d .stack)) (n - length o))
+          → NestTied n (s .table) o (under (ended m) (d .stack))
+          → (ended m ≡ true → TiedTo n (s .table) (level (s .place)) (top (d .stack)) (s .place .last)) → (m ≡ afterTwo → PairTied n s (top (d .stack)))
+          → (ended m ≡ true → bars (s .table) (cond (isTwo m) (s .pair .second) (s .place .last)) ≡ false)
+          → Parts n (s .table) (outermostOf (ended m) o (d .stack)) (cond (isTwo m) (inSecond (s .pair .first) (s .pair .complement) ∷ o) o)
+          (cond (ended m) (child (cond (isTwo m) (s .pair .second) (s .place .last))) 0)
+      go start nest full tied last pair stays = parts-none nest tied
+      go lead nest full tied last pair stays = parts-none nest tied
+      go begins nest full tied last pair stays = parts-none nest tied
+      go afterDigit nest full tied last pair stays = parts-one nest tied (full refl) (last refl) (stays refl)
+      go afterTwo nest full tied last pair stays = parts-two nest tied (full refl) (pair refl) (stays refl)
+      go afterOne nest full tied last pair stays = parts-one nest tied (full refl) (last refl) (stays refl)
+      go over nest full tied last pair stays = parts-one nest tied (full refl) (last refl) (stays refl)
 
 module _ (f n : ℕ) (bytes : List ℕ) (h : Stays (traceOn f n bytes startTrace .reading .state)) where
   abbrev tr : Trace
@@ -252,48 +348,34 @@ module _ (f n : ℕ) (bytes : List ℕ) (h : Stays (traceOn f n bytes startTrace
   abbrev s : State
   s = tr .reading .state
 
+  read-parts : Parts n (s .table) (outermostOf (ended (s .place .context)) (s .place .opens) (tr .drawing .stack)) (spineOpens s) (begunNumber s)
+  read-parts = parts n s (tr .drawing) (tied-on f n bytes .good) (tied-on f n bytes .tied) h
+
   -- u: the table with a row for each open node, under the numbers from k on
-  module _ (u : List Node) (k : ℕ) (real : 0 < k) (more : Extends (s .table) u) (rows : SpineIn u (s .place .opens) k (begunNumber s)) where
+  module _ (u : List Node) (k : ℕ) (real : 0 < k) (more : Extends (s .table) u) (rows : SpineIn u (spineOpens s) k (begunNumber s)) where
     trace-shows : (os : List Bool) → length os ≡ n
         → Shows (walk (outermostOf (ended (s .place .context)) (s .place .opens) (tr .drawing .stack)) os)
-        (tableWalk u 1 (spineNumber (s .place .opens) k (begunNumber s)) os)
-    trace-shows = go (ended (s .place .context)) refl
-        (tied-on f n bytes .good .nest) (tied-on f n bytes .tied .nest) rows
-      where
-        go : (b : Bool) → ended (s .place .context) ≡ b → Nest n (s .place .opens) (under b (tr .drawing .stack))
-            → NestTied n (s .table) (s .place .opens) (under b (tr .drawing .stack))
-            → SpineIn u (s .place .opens) k (cond b (child (s .place .last)) 0) → (os : List Bool) → length os ≡ n
-            → Shows (walk (outermostOf b (s .place .opens) (tr .drawing .stack)) os)
-            (tableWalk u 1 (spineNumber (s .place .opens) k (cond b (child (s .place .last)) 0)) os)
-        go true e nest tied rows =
-            let size : n - length (s .place .opens) ≡ n + 1 - (length (s .place .opens) + 1) = omega arith in
-            spine-shows (s .table) u (ordered-on f n bytes) more n (s .place .opens) (below (tr .drawing .stack)) (top (tr .drawing .stack)) k
-            (child (s .place .last)) real nest tied (h .firsts) rows
-            (λ os l. still-shows (s .table) u (ordered-on f n bytes) more n (length (s .place .opens) + 1) (top (tr .drawing .stack)) (s .place .last)
-            (omega arith) (tied-on f n bytes .tied .last e) (h .last e)
-            (subst (Full (top (tr .drawing .stack))) size (tied-on f n bytes .good .whole e)) os (l ∙ size))
-        go false e nest tied rows =
-            spine-shows (s .table) u (ordered-on f n bytes) more n (s .place .opens) (tr .drawing .stack) missing k 0 real nest tied (h .firsts) rows
-            (λ os l. missing-shows os (tableWalk u (length (s .place .opens) + 1) 0 os) (tableWalk-zero u (length (s .place .opens) + 1) os))
+        (tableWalk u 1 (spineNumber (spineOpens s) k (begunNumber s)) os)
+    trace-shows os l =
+        let size : n - length (spineOpens s) ≡ n + 1 - (length (spineOpens s) + 1) = omega arith in
+        subst (λ (x : Diagram). Shows (walk x os) (tableWalk u 1 (spineNumber (spineOpens s) k (begunNumber s)) os)) (read-parts .same)
+        (spine-shows (s .table) u (ordered-on f n bytes) more n (spineOpens s) (read-parts .st) (read-parts .x) k (begunNumber s) real (read-parts .nest)
+        (read-parts .tied) (h .firsts) rows
+        (λ os l. begun-shows n (s .table) u (ordered-on f n bytes) more (length (spineOpens s) + 1) (omega arith) (read-parts .x) (begunNumber s)
+        (read-parts .begun) os (l ∙ size)) os l)
 
     decision-shows : (w : ℕ) → Shows (decisionOf n tr w)
-        (complemented (s .complement) (tableWalk u 1 (spineNumber (s .place .opens) k (begunNumber s)) (options n w)))
+        (complemented (s .complement) (tableWalk u 1 (spineNumber (spineOpens s) k (begunNumber s)) (options n w)))
     unfolding decisionOf
     decision-shows w = shows-turned (s .complement) _ _ (trace-shows (options n w) (length-options n w))
 
   -- The numbers that a row refers to lie deeper than it: what ended last,
-  trace-deep : 0 < begunNumber s → length (s .place .opens) + 1 ≤ node (s .table) (begunNumber s) .level
-  trace-deep = go (ended (s .place .context)) refl
-    where
-      go : (b : Bool) → ended (s .place .context) ≡ b → 0 < cond b (child (s .place .last)) 0
-          → length (s .place .opens) + 1 ≤ node (s .table) (cond b (child (s .place .last)) 0) .level
-      go true e = tied-deep n (s .table) (length (s .place .opens) + 1) (top (tr .drawing .stack)) (s .place .last) (tied-on f n bytes .tied .last e)
-          (h .last e)
-      go false e = λ p. absurd (omega (arith, p))
+  trace-deep : 0 < begunNumber s → length (spineOpens s) + 1 ≤ node (s .table) (begunNumber s) .level
+  trace-deep = begun-level n (s .table) (length (spineOpens s) + 1) (read-parts .x) (begunNumber s) (read-parts .begun)
 
   -- and the first children.
-  trace-firsts : FirstsDeep (s .table) (s .place .opens)
-  trace-firsts = firsts-deep n (s .table) (s .place .opens) _ (tied-on f n bytes .tied .nest) (h .firsts)
+  trace-firsts : FirstsDeep (s .table) (spineOpens s)
+  trace-firsts = firsts-deep n (s .table) (spineOpens s) (read-parts .st) (read-parts .tied) (h .firsts)
 
 -- ---- The whole stream ------------------------------------------------------------------------
 
@@ -305,25 +387,25 @@ module _ (n : ℕ) (bytes : List ℕ) (h : Stays (reading n bytes .state)) where
 
   -- WHAT THE STREAM DECIDES is shown by the outermost row, and every word is decided there.
   pub spine-decides : (u : List Node) (k : ℕ) → 0 < k → let s = reading n bytes .state in Extends (s .table) u
-      → SpineIn u (s .place .opens) k (begunNumber s)
+      → SpineIn u (spineOpens s) k (begunNumber s)
       → (w : ℕ) → Shows (decision n bytes w)
-      (complemented (s .complement) (tableWalk u 1 (spineNumber (s .place .opens) k (begunNumber s)) (options n w)))
+      (complemented (s .complement) (tableWalk u 1 (spineNumber (spineOpens s) k (begunNumber s)) (options n w)))
   unfolding decision trace
   spine-decides u k real = subst
-      (λ (r : Reading). let s = r .state in Extends (s .table) u → SpineIn u (s .place .opens) k (begunNumber s)
+      (λ (r : Reading). let s = r .state in Extends (s .table) u → SpineIn u (spineOpens s) k (begunNumber s)
       → (w : ℕ) → Shows (decision n bytes w)
-      (complemented (s .complement) (tableWalk u 1 (spineNumber (s .place .opens) k (begunNumber s)) (options n w))))
+      (complemented (s .complement) (tableWalk u 1 (spineNumber (spineOpens s) k (begunNumber s)) (options n w))))
       (trace-reading n bytes) (decision-shows (suc (length bytes)) n bytes there u k real)
 
   -- What ended last lies deeper than the open nodes,
-  pub begun-deep : let s = reading n bytes .state in 0 < begunNumber s → length (s .place .opens) + 1 ≤ node (s .table) (begunNumber s) .level
+  pub begun-deep : let s = reading n bytes .state in 0 < begunNumber s → length (spineOpens s) + 1 ≤ node (s .table) (begunNumber s) .level
   unfolding trace
   begun-deep = subst (λ (r : Reading). let s = r .state in
-      0 < begunNumber s → length (s .place .opens) + 1 ≤ node (s .table) (begunNumber s) .level)
+      0 < begunNumber s → length (spineOpens s) + 1 ≤ node (s .table) (begunNumber s) .level)
       (trace-reading n bytes) (trace-deep (suc (length bytes)) n bytes there)
 
   -- and each first child deeper than its parent.
-  pub reading-firsts : let s = reading n bytes .state in FirstsDeep (s .table) (s .place .opens)
+  pub reading-firsts : let s = reading n bytes .state in FirstsDeep (s .table) (spineOpens s)
   unfolding trace
-  reading-firsts = subst (λ (r : Reading). FirstsDeep (r .state .table) (r .state .place .opens))
+  reading-firsts = subst (λ (r : Reading). FirstsDeep (r .state .table) (spineOpens (r .state)))
       (trace-reading n bytes) (trace-firsts (suc (length bytes)) n bytes there)

@@ -1,5 +1,5 @@
 -- Generated: what callers cite of load.
--- From eec01787ca9aefac, as e8563fc83e51ef9c.
+-- From d3d4f4b232ba5a7b, as e8563fc83e51ef9c.
 use Rattle.blocks.proofs.Loaded
 use Rattle.blocks.proofs.Loaded.Laws
 use Rattle.node_records.proofs.Tables.NodeRecord as NodeRecordT

@@ -8,13 +8,14 @@ use Rattle.blocks.proofs.spine_record.Tie as tie
 array-read-if1 : tie.Need-array-read-if1
 array-read-if1 c = search needs
 
-returns : tie.Need-returns
-returns c =
-    let a = c .before .args in
-    record-first (a .t1) (a .i) (a .e) (c .if1 .taken)
+record-as-requires : tie.Need-record-as-requires
+record-as-requires c κs = search needs
 
-array-read-f : tie.Need-array-read-f
-array-read-f c = search needs
+returns : tie.Need-returns
+returns c = record-first (c .before .before .args .t1) (c .before .before .args .i) (c .before .before .args .e) _ (c .before .if1 .taken) (c .record-as .ensures)
+
+array-read-record-as : tie.Need-array-read-record-as
+array-read-record-as c = search needs
 
 array-read-bit : tie.Need-array-read-bit
 array-read-bit c = search needs
@@ -22,11 +23,11 @@ array-read-bit c = search needs
 bit-requires : tie.Need-bit-requires
 bit-requires c κs = search needs
 
+record-as-requires-2 : tie.Need-record-as-requires-2
+record-as-requires-2 c κs = search needs
+
 returns-2 : tie.Need-returns-2
-returns-2 c =
-    let c1 = c .before in
-    let a = c1 .before .args in
-    record-second (a .t1) (a .i) (a .e) (c1 .if1 .left) _ (c .bit .ensures)
+returns-2 c = record-second (c .before .before .before .args .t1) (c .before .before .before .args .i) (c .before .before .before .args .e) _ (c .before .before .if1 .left) _ (c .before .bit .ensures) (c .record-as2 .ensures)
 
 pub spine-record-spec : {M : Type 1} → statement M
-spine-record-spec = tie.close (tie.spec array-read-if1 returns array-read-f array-read-bit bit-requires returns-2)
+spine-record-spec = tie.close (tie.spec array-read-if1 record-as-requires returns array-read-record-as array-read-bit bit-requires record-as-requires-2 returns-2)

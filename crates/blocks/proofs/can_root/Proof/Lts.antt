@@ -1,15 +1,13 @@
 -- Generated: the derivation of a body.
--- From eec01787ca9aefac, as e9cf949f2e3f3b87.
+-- From d3d4f4b232ba5a7b, as 7dd434355104627d.
 use Prim.Native.Nat
 use Rattle.cursors.proofs.Run
 use Rattle.cursors.proofs.Run.Laws
 use Rattle.elements.proofs.Context
 use Rattle.elements.proofs.Context.Laws as Laws'
-use Rattle.elements.proofs.Ref
-use Rattle.elements.proofs.Ref.Laws as Laws''
 use Rattle.node_records.proofs.Tables.NodeRecord as NodeRecordT
 use Rattle.reader.proofs.Reached
-use Rattle.reader.proofs.Reached.Laws as Laws'3
+use Rattle.reader.proofs.Reached.Laws as Laws''
 use borrow.Author.Called
 use borrow.Fn.Any
 use borrow.Fn.Call
@@ -46,12 +44,12 @@ use borrow.Table.Typed
 use contract.Lifetimes
 use denote.Array
 use denote.Enum.Declared
-use denote.Enum.Laws as Laws'4
+use denote.Enum.Laws as Laws'3
 use denote.Exit
-use denote.Laws as Laws'5
+use denote.Laws as Laws'4
 use denote.Struct.At
 use denote.Struct.Declared as Declared'
-use denote.Struct.Laws as Laws'6
+use denote.Struct.Laws as Laws'5
 use denote.Triple.Clauses
 use denote.Triple.Statement
 use ghost.Atoms
@@ -118,9 +116,9 @@ e5 = (5, Rows.any-gone y5)
 abbrev e6 : Row.Entry
 e6 = (6, Rows.any-gone y0)
 abbrev e7 : Row.Entry
-e7 = (7, Rows.any-gone y1)
+e7 = (7, Rows.any-gone y4)
 abbrev e8 : Row.Entry
-e8 = (8, Rows.any-gone y4)
+e8 = (8, Rows.any-gone Syntax.tyBool)
 abbrev e9 : Row.Entry
 e9 = (9, Rows.any-gone Syntax.tyBool)
 abbrev e10 : Row.Entry
@@ -128,56 +126,56 @@ e10 = (10, Rows.any-gone Syntax.tyBool)
 abbrev e11 : Row.Entry
 e11 = (11, Rows.any-gone Syntax.tyBool)
 abbrev e12 : Row.Entry
-e12 = (12, Rows.any-gone Syntax.tyBool)
-abbrev e13 : Row.Entry
-e13 = (13, Rows.any-gone y3)
+e12 = (12, Rows.any-gone y3)
 abbrev e0a : Row.Entry
 e0a = (0, Rows.sc-here Row.sBool)
 abbrev e3a : Row.Entry
 e3a = (3, Rows.any-gone y11)
 abbrev e4a : Row.Entry
 e4a = (4, Rows.sc-here Row.sBool)
-abbrev e9a : Row.Entry
-e9a = (9, Rows.sc-here Row.sBool)
+abbrev e8a : Row.Entry
+e8a = (8, Rows.sc-here Row.sBool)
 abbrev e5a : Row.Entry
 e5a = (5, Rows.whole (Declared'.row Run.the-type))
 abbrev e6a : Row.Entry
 e6a = (6, Rows.sc-here (Row.sInt Syntax.w32))
 abbrev e7a : Row.Entry
-e7a = (7, Rows.whole (Declared'.row Ref.the-type))
-abbrev e8a : Row.Entry
-e8a = (8, Rows.whole (Declared.row Context.the-type))
+e7a = (7, Rows.whole (Declared.row Context.the-type))
+abbrev e9a : Row.Entry
+e9a = (9, Rows.sc-here Row.sBool)
 abbrev e10a : Row.Entry
 e10a = (10, Rows.sc-here Row.sBool)
 abbrev e11a : Row.Entry
 e11a = (11, Rows.sc-here Row.sBool)
 abbrev e12a : Row.Entry
-e12a = (12, Rows.sc-here Row.sBool)
-abbrev e13a : Row.Entry
-e13a = (13, Rows.sc-here (Row.sInt Syntax.w64))
+e12a = (12, Rows.sc-here (Row.sInt Syntax.w64))
 abbrev pub ps : List (Kinds.PK 2)
 ps = (ShrSlice.pShrS NodeRecordT.row 0 tt) ∷ (ShrRef.pShr (Array.Array (Array.Array (Referent.rtF (Referent.fInt Syntax.w32)) 4) 32) 1 tt) ∷ (Value.pVal
-    record { ty = Declared'.row Reached.the-type; one = Path'.refl; val = Laws'6.val Reached.the-type Laws'3.the-laws; tells = Laws'6.tells Reached.the-type
-    Laws'3.the-laws; still = Laws'6.still Reached.the-type Laws'3.the-copy Exit.yes; row = Rows.whole (Declared'.row Reached.the-type); rd = λ x. x; mk = λ x.
-    x } λ M 𝓤 H A W. record { copies = Laws'6.copy Reached.the-type Laws'3.the-copy 𝓤 H A W; lawful = Laws'6.lawful Reached.the-type Laws'3.the-laws 𝓤 H A W;
-    makes = Laws'6.makes Reached.the-type Laws'3.the-plain 𝓤 H A; in-mem = Local.mem-whole 𝓤 H A W (Declared'.row Reached.the-type); of-mem = Local.whole-mem
+    record { ty = Declared'.row Reached.the-type; one = Path'.refl; val = Laws'5.val Reached.the-type Laws''.the-laws; tells = Laws'5.tells Reached.the-type
+    Laws''.the-laws; still = Laws'5.still Reached.the-type Laws''.the-copy Exit.yes; row = Rows.whole (Declared'.row Reached.the-type); rd = λ x. x; mk = λ x.
+    x } λ M 𝓤 H A W. record { copies = Laws'5.copy Reached.the-type Laws''.the-copy 𝓤 H A W; lawful = Laws'5.lawful Reached.the-type Laws''.the-laws 𝓤 H A W;
+    makes = Laws'5.makes Reached.the-type Laws''.the-plain 𝓤 H A; in-mem = Local.mem-whole 𝓤 H A W (Declared'.row Reached.the-type); of-mem = Local.whole-mem
     𝓤 H A W (Declared'.row Reached.the-type) }) ∷ []
 abbrev pub r : Kinds.RK 2
 r = Bool.rBool
 abbrev pub xs : List Syntax.Ty
-xs = Syntax.tyBool ∷ y5 ∷ y0 ∷ y1 ∷ y4 ∷ Syntax.tyBool ∷ Syntax.tyBool ∷ Syntax.tyBool ∷ Syntax.tyBool ∷ y3 ∷ []
+xs = Syntax.tyBool ∷ y5 ∷ y0 ∷ y4 ∷ Syntax.tyBool ∷ Syntax.tyBool ∷ Syntax.tyBool ∷ Syntax.tyBool ∷ y3 ∷ []
 abbrev pub m : Nat.ℕ
 m = 0
 abbrev pub ps·0 : List (Kinds.PK 0)
-ps·0 = (Value.pVal record { ty = Declared.row Context.the-type; one = Path'.refl; val = Laws'4.val Context.the-type Laws'.the-laws; tells = Laws'4.tells
-    Context.the-type Laws'.the-laws; still = Laws'4.still Context.the-type Laws'.the-copy Exit.yes; row = Rows.whole (Declared.row Context.the-type); rd = λ
-    x. x; mk = λ x. x } λ M 𝓤 H A W. record { copies = Laws'4.copy Context.the-type Laws'.the-copy 𝓤 H A W; lawful = Laws'4.lawful Context.the-type
-    Laws'.the-laws 𝓤 H A W tt; makes = Laws'4.makes Context.the-type Laws'.the-plain 𝓤 H A; in-mem = Local.mem-whole 𝓤 H A W (Declared.row Context.the-type);
+ps·0 = (Value.pVal record { ty = Declared.row Context.the-type; one = Path'.refl; val = Laws'3.val Context.the-type Laws'.the-laws; tells = Laws'3.tells
+    Context.the-type Laws'.the-laws; still = Laws'3.still Context.the-type Laws'.the-copy Exit.yes; row = Rows.whole (Declared.row Context.the-type); rd = λ
+    x. x; mk = λ x. x } λ M 𝓤 H A W. record { copies = Laws'3.copy Context.the-type Laws'.the-copy 𝓤 H A W; lawful = Laws'3.lawful Context.the-type
+    Laws'.the-laws 𝓤 H A W tt; makes = Laws'3.makes Context.the-type Laws'.the-plain 𝓤 H A; in-mem = Local.mem-whole 𝓤 H A W (Declared.row Context.the-type);
     of-mem = Local.whole-mem 𝓤 H A W (Declared.row Context.the-type) }) ∷ []
 abbrev pub r·0 : Kinds.RK 0
 r·0 = Bool.rBool
 abbrev pub ps·1 : List (Kinds.PK 1)
-ps·1 = (ShrSlice.pShrS NodeRecordT.row 0 tt) ∷ (Num.pNum Syntax.w32) ∷ (Num.pNum Syntax.w32) ∷ (Num.pNum Syntax.w32) ∷ []
+ps·1 = (ShrSlice.pShrS NodeRecordT.row 0 tt) ∷ (Value.pVal record { ty = Declared'.row Run.the-type; one = Path'.refl; val = Laws'5.val Run.the-type
+    Laws.the-laws; tells = Laws'5.tells Run.the-type Laws.the-laws; still = Laws'5.still Run.the-type Laws.the-copy Exit.yes; row = Rows.whole (Declared'.row
+    Run.the-type); rd = λ x. x; mk = λ x. x } λ M 𝓤 H A W. record { copies = Laws'5.copy Run.the-type Laws.the-copy 𝓤 H A W; lawful = Laws'5.lawful
+    Run.the-type Laws.the-laws 𝓤 H A W; makes = Laws'5.makes Run.the-type Laws.the-plain 𝓤 H A; in-mem = Local.mem-whole 𝓤 H A W (Declared'.row Run.the-type);
+    of-mem = Local.whole-mem 𝓤 H A W (Declared'.row Run.the-type) }) ∷ []
 abbrev pub r·1 : Kinds.RK 1
 r·1 = Bool.rBool
 abbrev pub ps·2 : List (Kinds.PK 0)
@@ -191,11 +189,11 @@ abbrev pub r·3 : Kinds.RK 2
 r·3 = Bool.rBool
 abbrev pub hs : List Syntax.Home
 hs = Syntax.valueLocal ∷ Syntax.valueLocal ∷ Syntax.valueLocal ∷ Syntax.valueLocal ∷ Syntax.valueLocal ∷ Syntax.valueLocal ∷ Syntax.valueLocal ∷
-    Syntax.valueLocal ∷ Syntax.valueLocal ∷ Syntax.valueLocal ∷ Syntax.valueLocal ∷ Syntax.valueLocal ∷ Syntax.valueLocal ∷ Syntax.valueLocal ∷ []
+    Syntax.valueLocal ∷ Syntax.valueLocal ∷ Syntax.valueLocal ∷ Syntax.valueLocal ∷ Syntax.valueLocal ∷ Syntax.valueLocal ∷ []
 abbrev b0 : Syntax.Body
 b0 = Syntax.assign (Syntax.place 4 []) (Syntax.rvOpd (Syntax.copy (Syntax.place 3 ((Syntax.field 5) ∷ []))))
 abbrev b1 : Syntax.Body
-b1 = Syntax.assign (Syntax.place 9 []) (Syntax.rvOpd (Syntax.copy (Syntax.place 4 [])))
+b1 = Syntax.assign (Syntax.place 8 []) (Syntax.rvOpd (Syntax.copy (Syntax.place 4 [])))
 abbrev b2 : Syntax.Body
 b2 = Syntax.assign (Syntax.place 0 []) (Syntax.rvOpd Syntax.opdFalse)
 abbrev b3 : Syntax.Body
@@ -205,134 +203,123 @@ b4 = Syntax.seq b2 b3
 abbrev b5 : Syntax.Body
 b5 = Syntax.skip
 abbrev b6 : Syntax.Body
-b6 = Syntax.cond (Syntax.copy (Syntax.place 9 [])) b4 b5
+b6 = Syntax.cond (Syntax.copy (Syntax.place 8 [])) b4 b5
 abbrev b7 : Syntax.Body
 b7 = Syntax.assign (Syntax.place 5 []) (Syntax.rvOpd (Syntax.copy (Syntax.place 3 ((Syntax.field 0) ∷ []))))
 abbrev b8 : Syntax.Body
 b8 = Syntax.assign (Syntax.place 6 []) (Syntax.rvOpd (Syntax.copy (Syntax.place 5 ((Syntax.field 4) ∷ []))))
 abbrev b9 : Syntax.Body
-b9 = Syntax.assign (Syntax.place 7 []) (Syntax.rvOpd (Syntax.copy (Syntax.place 5 ((Syntax.field 0) ∷ []))))
+b9 = Syntax.assign (Syntax.place 7 []) (Syntax.rvOpd (Syntax.copy (Syntax.place 5 ((Syntax.field 5) ∷ []))))
 abbrev b10 : Syntax.Body
-b10 = Syntax.assign (Syntax.place 8 []) (Syntax.rvOpd (Syntax.copy (Syntax.place 5 ((Syntax.field 5) ∷ []))))
+b10 = Syntax.call "blocks::has_ended" ((Syntax.copy (Syntax.place 7 [])) ∷ []) (Syntax.place 9 [])
 abbrev b11 : Syntax.Body
-b11 = Syntax.call "blocks::has_ended" ((Syntax.copy (Syntax.place 8 [])) ∷ []) (Syntax.place 10 [])
+b11 = Syntax.call "blocks::last_stays" ((Syntax.copy (Syntax.place 1 [])) ∷ (Syntax.copy (Syntax.place 5 [])) ∷ []) (Syntax.place 10 [])
 abbrev b12 : Syntax.Body
-b12 = Syntax.call "blocks::stays" ((Syntax.copy (Syntax.place 1 [])) ∷ (Syntax.copy (Syntax.place 6 [])) ∷ (Syntax.copy (Syntax.place 7 ((Syntax.field 0) ∷
-    []))) ∷ (Syntax.copy (Syntax.place 7 ((Syntax.field 1) ∷ []))) ∷ []) (Syntax.place 11 [])
+b12 = Syntax.assign (Syntax.place 11 []) (Syntax.op1 Syntax.bitNot (Syntax.copy (Syntax.place 10 [])))
 abbrev b13 : Syntax.Body
-b13 = Syntax.assign (Syntax.place 12 []) (Syntax.op1 Syntax.bitNot (Syntax.copy (Syntax.place 11 [])))
+b13 = Syntax.assign (Syntax.place 0 []) (Syntax.rvOpd Syntax.opdFalse)
 abbrev b14 : Syntax.Body
-b14 = Syntax.assign (Syntax.place 0 []) (Syntax.rvOpd Syntax.opdFalse)
+b14 = Syntax.return
 abbrev b15 : Syntax.Body
-b15 = Syntax.return
+b15 = Syntax.seq b13 b14
 abbrev b16 : Syntax.Body
-b16 = Syntax.seq b14 b15
+b16 = Syntax.skip
 abbrev b17 : Syntax.Body
-b17 = Syntax.skip
+b17 = Syntax.cond (Syntax.copy (Syntax.place 11 [])) b15 b16
 abbrev b18 : Syntax.Body
-b18 = Syntax.cond (Syntax.copy (Syntax.place 12 [])) b16 b17
+b18 = Syntax.seq b12 b17
 abbrev b19 : Syntax.Body
-b19 = Syntax.seq b13 b18
+b19 = Syntax.seq b11 b18
 abbrev b20 : Syntax.Body
-b20 = Syntax.seq b12 b19
+b20 = Syntax.skip
 abbrev b21 : Syntax.Body
-b21 = Syntax.skip
+b21 = Syntax.cond (Syntax.copy (Syntax.place 9 [])) b19 b20
 abbrev b22 : Syntax.Body
-b22 = Syntax.cond (Syntax.copy (Syntax.place 10 [])) b20 b21
+b22 = Syntax.call "blocks::deep_of" ((Syntax.copy (Syntax.place 3 ((Syntax.field 1) ∷ []))) ∷ []) (Syntax.place 12 [])
 abbrev b23 : Syntax.Body
-b23 = Syntax.call "blocks::deep_of" ((Syntax.copy (Syntax.place 3 ((Syntax.field 1) ∷ []))) ∷ []) (Syntax.place 13 [])
+b23 = Syntax.call "blocks::firsts_stay" ((Syntax.copy (Syntax.place 1 [])) ∷ (Syntax.copy (Syntax.place 6 [])) ∷ (Syntax.copy (Syntax.place 2 [])) ∷
+    (Syntax.copy (Syntax.place 12 [])) ∷ []) (Syntax.place 0 [])
 abbrev b24 : Syntax.Body
-b24 = Syntax.call "blocks::firsts_stay" ((Syntax.copy (Syntax.place 1 [])) ∷ (Syntax.copy (Syntax.place 6 [])) ∷ (Syntax.copy (Syntax.place 2 [])) ∷
-    (Syntax.copy (Syntax.place 13 [])) ∷ []) (Syntax.place 0 [])
+b24 = Syntax.return
 abbrev b25 : Syntax.Body
-b25 = Syntax.return
+b25 = Syntax.seq b23 b24
 abbrev b26 : Syntax.Body
-b26 = Syntax.seq b24 b25
+b26 = Syntax.seq b22 b25
 abbrev b27 : Syntax.Body
-b27 = Syntax.seq b23 b26
+b27 = Syntax.seq b21 b26
 abbrev b28 : Syntax.Body
-b28 = Syntax.seq b22 b27
+b28 = Syntax.seq b10 b27
 abbrev b29 : Syntax.Body
-b29 = Syntax.seq b11 b28
+b29 = Syntax.seq b9 b28
 abbrev b30 : Syntax.Body
-b30 = Syntax.seq b10 b29
+b30 = Syntax.seq b8 b29
 abbrev b31 : Syntax.Body
-b31 = Syntax.seq b9 b30
+b31 = Syntax.seq b7 b30
 abbrev b32 : Syntax.Body
-b32 = Syntax.seq b8 b31
+b32 = Syntax.seq b6 b31
 abbrev b33 : Syntax.Body
-b33 = Syntax.seq b7 b32
+b33 = Syntax.seq b1 b32
 abbrev b34 : Syntax.Body
-b34 = Syntax.seq b6 b33
-abbrev b35 : Syntax.Body
-b35 = Syntax.seq b1 b34
-abbrev b36 : Syntax.Body
-b36 = Syntax.seq b0 b35
+b34 = Syntax.seq b0 b33
 abbrev pub body : Syntax.Body
-body = b36
+body = b34
 abbrev pub Claims : Type 1
 Claims = Kinds.In 0 ps·0 × Kinds.Out 0 ps·0 r·0 × Kinds.In 1 ps·1 × Kinds.Out 1 ps·1 r·1 × Kinds.In 0 ps·2 × Kinds.Out 0 ps·2 r·2 × Kinds.In 2 ps·3 ×
     Kinds.Out 2 ps·3 r·3
 abbrev pub t0 : List Row.Entry
-t0 = e0 ∷ e1 ∷ e2 ∷ e3 ∷ e4 ∷ e5 ∷ e6 ∷ e7 ∷ e8 ∷ e9 ∷ e10 ∷ e11 ∷ e12 ∷ e13 ∷ []
+t0 = e0 ∷ e1 ∷ e2 ∷ e3 ∷ e4 ∷ e5 ∷ e6 ∷ e7 ∷ e8 ∷ e9 ∷ e10 ∷ e11 ∷ e12 ∷ []
 abbrev pub t1 : List Row.Entry
-t1 = e0a ∷ e1 ∷ e2 ∷ e3a ∷ e4 ∷ e5 ∷ e6 ∷ e7 ∷ e8 ∷ e9 ∷ e10 ∷ e11 ∷ e12 ∷ e13 ∷ []
+t1 = e0a ∷ e1 ∷ e2 ∷ e3a ∷ e4 ∷ e5 ∷ e6 ∷ e7 ∷ e8 ∷ e9 ∷ e10 ∷ e11 ∷ e12 ∷ []
 abbrev pub t2 : List Row.Entry
-t2 = e0 ∷ e1 ∷ e2 ∷ e3 ∷ e4a ∷ e5 ∷ e6 ∷ e7 ∷ e8 ∷ e9 ∷ e10 ∷ e11 ∷ e12 ∷ e13 ∷ []
+t2 = e0 ∷ e1 ∷ e2 ∷ e3 ∷ e4a ∷ e5 ∷ e6 ∷ e7 ∷ e8 ∷ e9 ∷ e10 ∷ e11 ∷ e12 ∷ []
 abbrev pub t3 : List Row.Entry
-t3 = e0 ∷ e1 ∷ e2 ∷ e3 ∷ e4a ∷ e5 ∷ e6 ∷ e7 ∷ e8 ∷ e9a ∷ e10 ∷ e11 ∷ e12 ∷ e13 ∷ []
+t3 = e0 ∷ e1 ∷ e2 ∷ e3 ∷ e4a ∷ e5 ∷ e6 ∷ e7 ∷ e8a ∷ e9 ∷ e10 ∷ e11 ∷ e12 ∷ []
 abbrev pub t4 : List Row.Entry
-t4 = e0 ∷ e1 ∷ e2 ∷ e3a ∷ e4a ∷ e5 ∷ e6 ∷ e7 ∷ e8 ∷ e9a ∷ e10 ∷ e11 ∷ e12 ∷ e13 ∷ []
+t4 = e0 ∷ e1 ∷ e2 ∷ e3a ∷ e4a ∷ e5 ∷ e6 ∷ e7 ∷ e8a ∷ e9 ∷ e10 ∷ e11 ∷ e12 ∷ []
 abbrev pub t5 : List Row.Entry
-t5 = e0 ∷ e1 ∷ e2 ∷ e3a ∷ e4a ∷ e5 ∷ e6 ∷ e7 ∷ e8 ∷ e9 ∷ e10 ∷ e11 ∷ e12 ∷ e13 ∷ []
+t5 = e0 ∷ e1 ∷ e2 ∷ e3a ∷ e4a ∷ e5 ∷ e6 ∷ e7 ∷ e8 ∷ e9 ∷ e10 ∷ e11 ∷ e12 ∷ []
 abbrev pub t6 : List Row.Entry
-t6 = e0a ∷ e1 ∷ e2 ∷ e3a ∷ e4a ∷ e5 ∷ e6 ∷ e7 ∷ e8 ∷ e9 ∷ e10 ∷ e11 ∷ e12 ∷ e13 ∷ []
+t6 = e0a ∷ e1 ∷ e2 ∷ e3a ∷ e4a ∷ e5 ∷ e6 ∷ e7 ∷ e8 ∷ e9 ∷ e10 ∷ e11 ∷ e12 ∷ []
 abbrev pub t7 : List Row.Entry
-t7 = e0 ∷ e1 ∷ e2 ∷ e3 ∷ e4a ∷ e5a ∷ e6 ∷ e7 ∷ e8 ∷ e9 ∷ e10 ∷ e11 ∷ e12 ∷ e13 ∷ []
+t7 = e0 ∷ e1 ∷ e2 ∷ e3 ∷ e4a ∷ e5a ∷ e6 ∷ e7 ∷ e8 ∷ e9 ∷ e10 ∷ e11 ∷ e12 ∷ []
 abbrev pub t8 : List Row.Entry
-t8 = e0 ∷ e1 ∷ e2 ∷ e3 ∷ e4a ∷ e5a ∷ e6a ∷ e7 ∷ e8 ∷ e9 ∷ e10 ∷ e11 ∷ e12 ∷ e13 ∷ []
+t8 = e0 ∷ e1 ∷ e2 ∷ e3 ∷ e4a ∷ e5a ∷ e6a ∷ e7 ∷ e8 ∷ e9 ∷ e10 ∷ e11 ∷ e12 ∷ []
 abbrev pub t9 : List Row.Entry
-t9 = e0 ∷ e1 ∷ e2 ∷ e3 ∷ e4a ∷ e5a ∷ e6a ∷ e7a ∷ e8 ∷ e9 ∷ e10 ∷ e11 ∷ e12 ∷ e13 ∷ []
+t9 = e0 ∷ e1 ∷ e2 ∷ e3 ∷ e4a ∷ e5a ∷ e6a ∷ e7a ∷ e8 ∷ e9 ∷ e10 ∷ e11 ∷ e12 ∷ []
 abbrev pub t10 : List Row.Entry
-t10 = e0 ∷ e1 ∷ e2 ∷ e3 ∷ e4a ∷ e5a ∷ e6a ∷ e7a ∷ e8a ∷ e9 ∷ e10 ∷ e11 ∷ e12 ∷ e13 ∷ []
+t10 = e0 ∷ e1 ∷ e2 ∷ e3 ∷ e4a ∷ e5a ∷ e6a ∷ e7a ∷ e8 ∷ e9a ∷ e10 ∷ e11 ∷ e12 ∷ []
 abbrev pub t11 : List Row.Entry
-t11 = e0 ∷ e1 ∷ e2 ∷ e3 ∷ e4a ∷ e5 ∷ e6a ∷ e7a ∷ e8a ∷ e9 ∷ e10 ∷ e11 ∷ e12 ∷ e13 ∷ []
+t11 = e0 ∷ e1 ∷ e2 ∷ e3 ∷ e4a ∷ e5 ∷ e6a ∷ e7 ∷ e8 ∷ e9 ∷ e10 ∷ e11 ∷ e12 ∷ []
 abbrev pub t12 : List Row.Entry
-t12 = e0 ∷ e1 ∷ e2 ∷ e3 ∷ e4a ∷ e5 ∷ e6a ∷ e7a ∷ e8a ∷ e9 ∷ e10a ∷ e11 ∷ e12 ∷ e13 ∷ []
+t12 = e0 ∷ e1 ∷ e2 ∷ e3 ∷ e4a ∷ e5a ∷ e6a ∷ e7 ∷ e8 ∷ e9a ∷ e10 ∷ e11 ∷ e12 ∷ []
 abbrev pub t13 : List Row.Entry
-t13 = e0 ∷ e1 ∷ e2 ∷ e3 ∷ e4a ∷ e5 ∷ e6a ∷ e7 ∷ e8 ∷ e9 ∷ e10 ∷ e11 ∷ e12 ∷ e13 ∷ []
+t13 = e0 ∷ e1 ∷ e2 ∷ e3 ∷ e4a ∷ e5a ∷ e6a ∷ e7 ∷ e8 ∷ e9 ∷ e10a ∷ e11 ∷ e12 ∷ []
 abbrev pub t14 : List Row.Entry
-t14 = e0 ∷ e1 ∷ e2 ∷ e3 ∷ e4a ∷ e5 ∷ e6a ∷ e7a ∷ e8 ∷ e9 ∷ e10a ∷ e11 ∷ e12 ∷ e13 ∷ []
+t14 = e0 ∷ e1 ∷ e2 ∷ e3 ∷ e4a ∷ e5 ∷ e6a ∷ e7 ∷ e8 ∷ e9 ∷ e10a ∷ e11 ∷ e12 ∷ []
 abbrev pub t15 : List Row.Entry
-t15 = e0 ∷ e1 ∷ e2 ∷ e3 ∷ e4a ∷ e5 ∷ e6a ∷ e7a ∷ e8 ∷ e9 ∷ e10 ∷ e11 ∷ e12 ∷ e13 ∷ []
+t15 = e0 ∷ e1 ∷ e2 ∷ e3 ∷ e4a ∷ e5 ∷ e6a ∷ e7 ∷ e8 ∷ e9 ∷ e10a ∷ e11a ∷ e12 ∷ []
 abbrev pub t16 : List Row.Entry
-t16 = e0 ∷ e1 ∷ e2 ∷ e3 ∷ e4a ∷ e5 ∷ e6a ∷ e7a ∷ e8 ∷ e9 ∷ e10 ∷ e11a ∷ e12 ∷ e13 ∷ []
+t16 = e0 ∷ e1 ∷ e2 ∷ e3 ∷ e4a ∷ e5 ∷ e6a ∷ e7 ∷ e8 ∷ e9 ∷ e10 ∷ e11a ∷ e12 ∷ []
 abbrev pub t17 : List Row.Entry
-t17 = e0 ∷ e1 ∷ e2 ∷ e3 ∷ e4a ∷ e5 ∷ e6a ∷ e7 ∷ e8 ∷ e9 ∷ e10 ∷ e11a ∷ e12 ∷ e13 ∷ []
+t17 = e0 ∷ e1 ∷ e2 ∷ e3a ∷ e4a ∷ e5 ∷ e6a ∷ e7 ∷ e8 ∷ e9 ∷ e10 ∷ e11a ∷ e12 ∷ []
 abbrev pub t18 : List Row.Entry
-t18 = e0 ∷ e1 ∷ e2 ∷ e3 ∷ e4a ∷ e5 ∷ e6a ∷ e7 ∷ e8 ∷ e9 ∷ e10 ∷ e11a ∷ e12a ∷ e13 ∷ []
+t18 = e0 ∷ e1 ∷ e2 ∷ e3a ∷ e4a ∷ e5 ∷ e6a ∷ e7 ∷ e8 ∷ e9 ∷ e10 ∷ e11 ∷ e12 ∷ []
 abbrev pub t19 : List Row.Entry
-t19 = e0 ∷ e1 ∷ e2 ∷ e3 ∷ e4a ∷ e5 ∷ e6a ∷ e7 ∷ e8 ∷ e9 ∷ e10 ∷ e11 ∷ e12a ∷ e13 ∷ []
+t19 = e0a ∷ e1 ∷ e2 ∷ e3a ∷ e4a ∷ e5 ∷ e6a ∷ e7 ∷ e8 ∷ e9 ∷ e10 ∷ e11 ∷ e12 ∷ []
 abbrev pub t20 : List Row.Entry
-t20 = e0 ∷ e1 ∷ e2 ∷ e3a ∷ e4a ∷ e5 ∷ e6a ∷ e7 ∷ e8 ∷ e9 ∷ e10 ∷ e11 ∷ e12a ∷ e13 ∷ []
+t20 = e0a ∷ e1 ∷ e2 ∷ e3a ∷ e4 ∷ e5 ∷ e6a ∷ e7 ∷ e8 ∷ e9 ∷ e10 ∷ e11 ∷ e12 ∷ []
 abbrev pub t21 : List Row.Entry
-t21 = e0 ∷ e1 ∷ e2 ∷ e3a ∷ e4a ∷ e5 ∷ e6a ∷ e7 ∷ e8 ∷ e9 ∷ e10 ∷ e11 ∷ e12 ∷ e13 ∷ []
+t21 = e0 ∷ e1 ∷ e2 ∷ e3 ∷ e4a ∷ e5 ∷ e6a ∷ e7 ∷ e8 ∷ e9a ∷ e10 ∷ e11 ∷ e12 ∷ []
 abbrev pub t22 : List Row.Entry
-t22 = e0a ∷ e1 ∷ e2 ∷ e3a ∷ e4a ∷ e5 ∷ e6a ∷ e7 ∷ e8 ∷ e9 ∷ e10 ∷ e11 ∷ e12 ∷ e13 ∷ []
+t22 = e0 ∷ e1 ∷ e2 ∷ e3 ∷ e4a ∷ e5 ∷ e6a ∷ e7 ∷ e8 ∷ e9 ∷ e10 ∷ e11 ∷ e12a ∷ []
 abbrev pub t23 : List Row.Entry
-t23 = e0a ∷ e1 ∷ e2 ∷ e3a ∷ e4 ∷ e5 ∷ e6a ∷ e7 ∷ e8 ∷ e9 ∷ e10 ∷ e11 ∷ e12 ∷ e13 ∷ []
+t23 = e0 ∷ e1 ∷ e2 ∷ e3a ∷ e4a ∷ e5 ∷ e6a ∷ e7 ∷ e8 ∷ e9 ∷ e10 ∷ e11 ∷ e12a ∷ []
 abbrev pub t24 : List Row.Entry
-t24 = e0 ∷ e1 ∷ e2 ∷ e3 ∷ e4a ∷ e5 ∷ e6a ∷ e7 ∷ e8 ∷ e9 ∷ e10a ∷ e11 ∷ e12 ∷ e13 ∷ []
+t24 = e0a ∷ e1 ∷ e2 ∷ e3a ∷ e4a ∷ e5 ∷ e6a ∷ e7 ∷ e8 ∷ e9 ∷ e10 ∷ e11 ∷ e12a ∷ []
 abbrev pub t25 : List Row.Entry
-t25 = e0 ∷ e1 ∷ e2 ∷ e3 ∷ e4a ∷ e5 ∷ e6a ∷ e7 ∷ e8 ∷ e9 ∷ e10 ∷ e11 ∷ e12 ∷ e13a ∷ []
+t25 = e0a ∷ e1 ∷ e2 ∷ e3a ∷ e4 ∷ e5 ∷ e6a ∷ e7 ∷ e8 ∷ e9 ∷ e10 ∷ e11 ∷ e12a ∷ []
 abbrev pub t26 : List Row.Entry
-t26 = e0 ∷ e1 ∷ e2 ∷ e3a ∷ e4a ∷ e5 ∷ e6a ∷ e7 ∷ e8 ∷ e9 ∷ e10 ∷ e11 ∷ e12 ∷ e13a ∷ []
-abbrev pub t27 : List Row.Entry
-t27 = e0a ∷ e1 ∷ e2 ∷ e3a ∷ e4a ∷ e5 ∷ e6a ∷ e7 ∷ e8 ∷ e9 ∷ e10 ∷ e11 ∷ e12 ∷ e13a ∷ []
-abbrev pub t28 : List Row.Entry
-t28 = e0a ∷ e1 ∷ e2 ∷ e3a ∷ e4 ∷ e5 ∷ e6a ∷ e7 ∷ e8 ∷ e9 ∷ e10 ∷ e11 ∷ e12 ∷ e13a ∷ []
-abbrev pub t29 : List Row.Entry
-t29 = e0a ∷ e1 ∷ e2 ∷ e3a ∷ e4 ∷ e5 ∷ e6 ∷ e7 ∷ e8 ∷ e9 ∷ e10 ∷ e11 ∷ e12 ∷ e13a ∷ []
+t26 = e0a ∷ e1 ∷ e2 ∷ e3a ∷ e4 ∷ e5 ∷ e6 ∷ e7 ∷ e8 ∷ e9 ∷ e10 ∷ e11 ∷ e12a ∷ []
 abbrev pub T0 : Row.Cx
 T0 = record { locals = t0; slots = [] }
 abbrev pub T1 : Row.Cx
@@ -366,69 +353,65 @@ T14 = record { locals = t11; slots = [] }
 abbrev pub T15 : Row.Cx
 T15 = record { locals = t12; slots = [] }
 abbrev pub T16 : Row.Cx
-T16 = record { locals = t13; slots = [] }
+T16 = record { locals = t8; slots = [] }
 abbrev pub T17 : Row.Cx
-T17 = record { locals = t14; slots = [] }
+T17 = record { locals = t13; slots = [] }
 abbrev pub T18 : Row.Cx
-T18 = record { locals = t15; slots = [] }
+T18 = record { locals = t14; slots = [] }
 abbrev pub T19 : Row.Cx
-T19 = record { locals = t16; slots = [] }
+T19 = record { locals = t15; slots = [] }
 abbrev pub T20 : Row.Cx
-T20 = record { locals = t17; slots = [] }
+T20 = record { locals = t16; slots = [] }
 abbrev pub T21 : Row.Cx
-T21 = record { locals = t18; slots = [] }
+T21 = record { locals = t17; slots = [] }
 abbrev pub T22 : Row.Cx
-T22 = record { locals = t19; slots = [] }
+T22 = record { locals = t18; slots = [] }
 abbrev pub T23 : Row.Cx
-T23 = record { locals = t20; slots = [] }
+T23 = record { locals = t19; slots = [] }
 abbrev pub T24 : Row.Cx
-T24 = record { locals = t21; slots = [] }
+T24 = record { locals = t20; slots = [] }
 abbrev pub T25 : Row.Cx
-T25 = record { locals = t22; slots = [] }
+T25 = record { locals = t1; slots = [] }
 abbrev pub T26 : Row.Cx
-T26 = record { locals = t23; slots = [] }
+T26 = record { locals = t11; slots = [] }
 abbrev pub T27 : Row.Cx
-T27 = record { locals = t1; slots = [] }
+T27 = record { locals = t21; slots = [] }
 abbrev pub T28 : Row.Cx
-T28 = record { locals = t13; slots = [] }
+T28 = record { locals = t11; slots = [] }
 abbrev pub T29 : Row.Cx
-T29 = record { locals = t24; slots = [] }
+T29 = record { locals = t22; slots = [] }
 abbrev pub T30 : Row.Cx
-T30 = record { locals = t13; slots = [] }
+T30 = record { locals = t23; slots = [] }
 abbrev pub T31 : Row.Cx
-T31 = record { locals = t25; slots = [] }
+T31 = record { locals = t24; slots = [] }
 abbrev pub T32 : Row.Cx
-T32 = record { locals = t26; slots = [] }
+T32 = record { locals = t25; slots = [] }
 abbrev pub T33 : Row.Cx
-T33 = record { locals = t27; slots = [] }
+T33 = record { locals = t26; slots = [] }
 abbrev pub T34 : Row.Cx
-T34 = record { locals = t28; slots = [] }
-abbrev pub T35 : Row.Cx
-T35 = record { locals = t29; slots = [] }
-abbrev pub T36 : Row.Cx
-T36 = record { locals = t1; slots = [] }
+T34 = record { locals = t1; slots = [] }
 abbrev pub O0 : Typed.Outs
 O0 = record { next = Option.none; exits = []; returns = Option.some T1 }
 abbrev pub O1 : Typed.Outs
 O1 = Typed.withNext (Option.some T4) O0
 abbrev pub O2 : Typed.Outs
-O2 = Typed.withNext (Option.some T16) O0
+O2 = Typed.withNext (Option.some T14) O0
 module _ (claims· : Claims) where
   abbrev s0 : (bs : List Nat.ℕ) → Typed.Mo T0 → Typed.Mo T2
-  s0 = λ bs. Scalar.n-use T0 (Scalar.oFld 3 ((Syntax.field 5) ∷ []) Syntax.tyBool 81 (Reads.fieldV Reached.the-type Laws'3.the-laws 5)) 4 (Rows.sc-here
+  s0 = λ bs. Scalar.n-use T0 (Scalar.oFld 3 ((Syntax.field 5) ∷ []) Syntax.tyBool 81 (Reads.fieldV Reached.the-type Laws''.the-laws 5)) 4 (Rows.sc-here
       Row.sBool) (Row.sBool .of)
   abbrev s1 : (bs : List Nat.ℕ) → Typed.Mo T2 → Typed.Mo T3
-  s1 = λ bs. Scalar.n-use T2 (Scalar.oAt 4 Syntax.tyBool (Row.valS Row.sBool)) 9 (Rows.sc-here Row.sBool) (Row.sBool .of)
+  s1 = λ bs. Scalar.n-use T2 (Scalar.oAt 4 Syntax.tyBool (Row.valS Row.sBool)) 8 (Rows.sc-here Row.sBool) (Row.sBool .of)
   abbrev s2 : (bs : List Nat.ℕ) → Typed.Mo T3 → Typed.Mo T5
   s2 = λ bs. Scalar.n-room T3 3 y11
   abbrev s3 : (bs : List Nat.ℕ) → Typed.Mo T5 → Typed.Mo T6
-  s3 = λ bs. Scalar.n-room T5 9 Syntax.tyBool
+  s3 = λ bs. Scalar.n-room T5 8 Syntax.tyBool
   abbrev s4 : (bs : List Nat.ℕ) → Typed.Mo T6 → Typed.Mo T7
   s4 = λ bs. Scalar.n-use T6 (Scalar.oBool Bool'.false) 0 (Rows.sc-here Row.sBool) (Row.sBool .of)
   abbrev s5 : (bs : List Nat.ℕ) → Typed.Mo T7 → Typed.Mo T8
   s5 = λ bs. Scalar.n-room T7 4 Syntax.tyBool
   abbrev s6 : (bs : List Nat.ℕ) → Typed.Mo T3 → Typed.Mo T9
-  s6 = λ bs. Scalar.n-room T3 9 Syntax.tyBool
+  s6 = λ bs. Scalar.n-room T3 8 Syntax.tyBool
   abbrev s7 : (bs : List Nat.ℕ) → Typed.Both T4 T10
   s7 = λ bs. WayStmt.k-way-copy-out T4 (Row.out 3 (T4 .locals)) (λ u. Row.drop 3 (T4 .locals) u) 5 (Rows.whole (Declared'.row Run.the-type)) (λ u. At.getAt
       (Reached.the-type .parts) 0 (Reached.struct .as-values (u .1 .1 .1 .0))) (λ T′. record { locals = Row.setRow 3 (3, Rows.whole (Declared'.row
@@ -436,64 +419,58 @@ module _ (claims· : Claims) where
   abbrev s8 : (bs : List Nat.ℕ) → Typed.Mo T10 → Typed.Mo T11
   s8 = λ bs. Scalar.n-use T10 (Scalar.oFld 5 ((Syntax.field 4) ∷ []) y0 48 (Reads.fieldV Run.the-type Laws.the-laws 4)) 6 (Rows.sc-here (Row.sInt Syntax.w32))
       (Row.sInt Syntax.w32 .of)
-  abbrev s9 : (bs : List Nat.ℕ) → Typed.Both T11 T12
-  s9 = λ bs. WayStmt.k-way-copy-out T11 (Row.out 5 (T11 .locals)) (λ u. Row.drop 5 (T11 .locals) u) 7 (Rows.whole (Declared'.row Ref.the-type)) (λ u. At.getAt
-      (Run.the-type .parts) 0 (Run.struct .as-values (u .1 .1 .1 .1 .1 .0))) (λ T′. record { locals = Row.setRow 5 (5, Rows.whole (Declared'.row
-      Run.the-type)) T′; slots = [] }) (λ u T′ m′. Row.set 5 (5, Rows.whole (Declared'.row Run.the-type)) (u .1 .1 .1 .1 .1 .0) T′ m′) (λ u. Unit) λ u. Unit
-  abbrev s10 : (bs : List Nat.ℕ) → Typed.Mo T12 → Typed.Mo T13
-  s10 = λ bs. Make.n-make (Declared.row Context.the-type) T12 8 λ m. Run.struct .as-values (m .1 .1 .1 .1 .1 .0) .1 .1 .1 .1 .1 .0
-  abbrev s11 : (bs : List Nat.ℕ) → Typed.Mo T13 → Typed.Mo T14
-  s11 = λ bs. Scalar.n-room T13 5 y5
-  abbrev s12 : (bs : List Nat.ℕ) → Typed.Both T14 T15
-  s12 = λ bs. Call.callB ps·0 r·0 (claims· .0) (claims· .1) T14 (record { pos = 8; st = []; d = 0; at = λ x. x }, tt) 10 [] Syntax.tyBool
-  abbrev s13 : (bs : List Nat.ℕ) → Typed.Mo T15 → Typed.Mo T17
-  s13 = λ bs. Scalar.n-room T15 8 y4
+  abbrev s9 : (bs : List Nat.ℕ) → Typed.Mo T11 → Typed.Mo T12
+  s9 = λ bs. Make.n-make (Declared.row Context.the-type) T11 7 λ m. Run.struct .as-values (m .1 .1 .1 .1 .1 .0) .1 .1 .1 .1 .1 .0
+  abbrev s10 : (bs : List Nat.ℕ) → Typed.Both T12 T13
+  s10 = λ bs. Call.callB ps·0 r·0 (claims· .0) (claims· .1) T12 (record { pos = 7; st = []; d = 0; at = λ x. x }, tt) 9 [] Syntax.tyBool
+  abbrev s11 : (bs : List Nat.ℕ) → Typed.Mo T13 → Typed.Mo T15
+  s11 = λ bs. Scalar.n-room T13 7 y4
+  abbrev s12 : (bs : List Nat.ℕ) → Typed.Mo T15 → Typed.Mo T16
+  s12 = λ bs. Scalar.n-room T15 9 Syntax.tyBool
+  abbrev s13 : (bs : List Nat.ℕ) → Typed.Both T16 T17
+  s13 = λ bs. Call.callB ps·1 r·1 (claims· .2) (claims· .3) T16 (record { pos = 1; ty = y6; ref = λ x. x }, (record { pos = 5; st = []; d = 0; at = λ x. x },
+      tt)) 10 (0 ∷ []) Syntax.tyBool
   abbrev s14 : (bs : List Nat.ℕ) → Typed.Mo T17 → Typed.Mo T18
-  s14 = λ bs. Scalar.n-room T17 10 Syntax.tyBool
-  abbrev s15 : (bs : List Nat.ℕ) → Typed.Both T18 T19
-  s15 = λ bs. Call.callB ps·1 r·1 (claims· .2) (claims· .3) T18 (record { pos = 1; ty = y6; ref = λ x. x }, (Num.vAt 6 λ x. x, (Num.vFld 7 ((Syntax.field 0) ∷
-      []) 0 λ x. Ref.struct .as-values x .0, (Num.vFld 7 ((Syntax.field 1) ∷ []) 4 λ x. Ref.struct .as-values x .1 .0, tt)))) 11 (0 ∷ []) Syntax.tyBool
+  s14 = λ bs. Scalar.n-room T17 5 y5
+  abbrev s15 : (bs : List Nat.ℕ) → Typed.Asks T18 T19
+  s15 = λ bs. Scalar.k-op1 T18 Syntax.bitNot (Scalar.oAt 10 Syntax.tyBool (Row.valS Row.sBool)) 11 (Rows.sc-here Row.sBool) (Row.sBool .of)
   abbrev s16 : (bs : List Nat.ℕ) → Typed.Mo T19 → Typed.Mo T20
-  s16 = λ bs. Scalar.n-room T19 7 y1
-  abbrev s17 : (bs : List Nat.ℕ) → Typed.Asks T20 T21
-  s17 = λ bs. Scalar.k-op1 T20 Syntax.bitNot (Scalar.oAt 11 Syntax.tyBool (Row.valS Row.sBool)) 12 (Rows.sc-here Row.sBool) (Row.sBool .of)
+  s16 = λ bs. Scalar.n-room T19 10 Syntax.tyBool
+  abbrev s17 : (bs : List Nat.ℕ) → Typed.Mo T20 → Typed.Mo T21
+  s17 = λ bs. Scalar.n-room T20 3 y11
   abbrev s18 : (bs : List Nat.ℕ) → Typed.Mo T21 → Typed.Mo T22
   s18 = λ bs. Scalar.n-room T21 11 Syntax.tyBool
   abbrev s19 : (bs : List Nat.ℕ) → Typed.Mo T22 → Typed.Mo T23
-  s19 = λ bs. Scalar.n-room T22 3 y11
+  s19 = λ bs. Scalar.n-use T22 (Scalar.oBool Bool'.false) 0 (Rows.sc-here Row.sBool) (Row.sBool .of)
   abbrev s20 : (bs : List Nat.ℕ) → Typed.Mo T23 → Typed.Mo T24
-  s20 = λ bs. Scalar.n-room T23 12 Syntax.tyBool
+  s20 = λ bs. Scalar.n-room T23 4 Syntax.tyBool
   abbrev s21 : (bs : List Nat.ℕ) → Typed.Mo T24 → Typed.Mo T25
-  s21 = λ bs. Scalar.n-use T24 (Scalar.oBool Bool'.false) 0 (Rows.sc-here Row.sBool) (Row.sBool .of)
-  abbrev s22 : (bs : List Nat.ℕ) → Typed.Mo T25 → Typed.Mo T26
-  s22 = λ bs. Scalar.n-room T25 4 Syntax.tyBool
-  abbrev s23 : (bs : List Nat.ℕ) → Typed.Mo T26 → Typed.Mo T27
-  s23 = λ bs. Scalar.n-room T26 6 y0
-  abbrev s24 : (bs : List Nat.ℕ) → Typed.Mo T22 → Typed.Mo T28
-  s24 = λ bs. Scalar.n-room T22 12 Syntax.tyBool
-  abbrev s25 : (bs : List Nat.ℕ) → Typed.Mo T17 → Typed.Mo T29
-  s25 = λ bs. Scalar.n-room T17 7 y1
+  s21 = λ bs. Scalar.n-room T24 6 y0
+  abbrev s22 : (bs : List Nat.ℕ) → Typed.Mo T20 → Typed.Mo T26
+  s22 = λ bs. Scalar.n-room T20 11 Syntax.tyBool
+  abbrev s23 : (bs : List Nat.ℕ) → Typed.Mo T15 → Typed.Mo T27
+  s23 = λ bs. Scalar.n-room T15 5 y5
+  abbrev s24 : (bs : List Nat.ℕ) → Typed.Mo T27 → Typed.Mo T28
+  s24 = λ bs. Scalar.n-room T27 9 Syntax.tyBool
+  abbrev s25 : (bs : List Nat.ℕ) → Typed.Both T14 T29
+  s25 = λ bs. Call.callB ps·2 r·2 (claims· .4) (claims· .5) T14 (Num.vFld 3 ((Syntax.field 1) ∷ []) 56 λ x. Reached.struct .as-values x .1 .0, tt) 12 [] y3
   abbrev s26 : (bs : List Nat.ℕ) → Typed.Mo T29 → Typed.Mo T30
-  s26 = λ bs. Scalar.n-room T29 10 Syntax.tyBool
-  abbrev s27 : (bs : List Nat.ℕ) → Typed.Both T16 T31
-  s27 = λ bs. Call.callB ps·2 r·2 (claims· .4) (claims· .5) T16 (Num.vFld 3 ((Syntax.field 1) ∷ []) 56 λ x. Reached.struct .as-values x .1 .0, tt) 13 [] y3
+  s26 = λ bs. Scalar.n-room T29 3 y11
+  abbrev s27 : (bs : List Nat.ℕ) → Typed.Both T30 T31
+  s27 = λ bs. Call.callB ps·3 r·3 (claims· .6) (claims· .7) T30 (record { pos = 1; ty = y6; ref = λ x. x }, (Num.vAt 6 λ x. x, (record { pos = 2; ty = y9; ref
+      = λ x. x }, (Num.vAt 12 λ x. x, tt)))) 0 (0 ∷ 1 ∷ []) Syntax.tyBool
   abbrev s28 : (bs : List Nat.ℕ) → Typed.Mo T31 → Typed.Mo T32
-  s28 = λ bs. Scalar.n-room T31 3 y11
-  abbrev s29 : (bs : List Nat.ℕ) → Typed.Both T32 T33
-  s29 = λ bs. Call.callB ps·3 r·3 (claims· .6) (claims· .7) T32 (record { pos = 1; ty = y6; ref = λ x. x }, (Num.vAt 6 λ x. x, (record { pos = 2; ty = y9; ref
-      = λ x. x }, (Num.vAt 13 λ x. x, tt)))) 0 (0 ∷ 1 ∷ []) Syntax.tyBool
+  s28 = λ bs. Scalar.n-room T31 4 Syntax.tyBool
+  abbrev s29 : (bs : List Nat.ℕ) → Typed.Mo T32 → Typed.Mo T33
+  s29 = λ bs. Scalar.n-room T32 6 y0
   abbrev s30 : (bs : List Nat.ℕ) → Typed.Mo T33 → Typed.Mo T34
-  s30 = λ bs. Scalar.n-room T33 4 Syntax.tyBool
-  abbrev s31 : (bs : List Nat.ℕ) → Typed.Mo T34 → Typed.Mo T35
-  s31 = λ bs. Scalar.n-room T34 6 y0
-  abbrev s32 : (bs : List Nat.ℕ) → Typed.Mo T35 → Typed.Mo T36
-  s32 = λ bs. Scalar.n-room T35 13 y3
+  s30 = λ bs. Scalar.n-room T33 12 y3
   module _ (Pre· : (κs : Lifetimes.Lfts 2) → Kinds.Dens κs ps → Type 0) (Post· : (κs : Lifetimes.Lfts 2) → (a : Kinds.Dens κs ps) → Kinds.Plain 2 ps r κs)
       where
     module _ (M : Type 1) where
       abbrev pub Closed : Type 2
       Closed = (𝓤 : URA.URA M) (H : Wp.Heap 𝓤) (A : Atoms.Atoms 𝓤) (W : Kit.Given 𝓤 H A) (𝓣 : Wp.Tables 𝓤 H) (known0 : Plain.Known 𝓤 H A W 𝓣 0 ps·0 r·0
-          (claims· .0) (claims· .1) "blocks::has_ended") (known1 : Plain.Known 𝓤 H A W 𝓣 1 ps·1 r·1 (claims· .2) (claims· .3) "blocks::stays") (known2 :
+          (claims· .0) (claims· .1) "blocks::has_ended") (known1 : Plain.Known 𝓤 H A W 𝓣 1 ps·1 r·1 (claims· .2) (claims· .3) "blocks::last_stays") (known2 :
           Plain.Known 𝓤 H A W 𝓣 0 ps·2 r·2 (claims· .4) (claims· .5) "blocks::deep_of") (known3 : Plain.Known 𝓤 H A W 𝓣 2 ps·3 r·3 (claims· .6) (claims· .7)
           "blocks::firsts_stay") → Statement.Triple 𝓤 (Wp.WpFn 𝓤 H (𝓣 .C) (𝓣 .Λ) (Function.fnOf 2 ps r xs m hs body)) (Function.plainOf 𝓤 H A 2 ps r Pre·
           Post·)
@@ -513,86 +490,82 @@ module _ (claims· : Claims) where
       abbrev at6 : (bs : List Nat.ℕ) → Typed.TF T3 O1
       at6 = λ bs. λ Ψ. Typed.pass T3 T9 (s6 bs) (at5 bs Ψ)
       abbrev at7 : (bs : List Nat.ℕ) → Typed.TF T3 O1
-      at7 = λ bs. Scalar.Φcond T3 O1 9 (λ x. x) (at4 bs) (at6 bs)
-      abbrev at8 : (bs : List Nat.ℕ) → Typed.TF T27 O2
+      at7 = λ bs. Scalar.Φcond T3 O1 8 (λ x. x) (at4 bs) (at6 bs)
+      abbrev at8 : (bs : List Nat.ℕ) → Typed.TF T25 O2
       at8 = λ bs. Typed.atRet O2
-      abbrev at9 : (bs : List Nat.ℕ) → Typed.TF T26 O2
-      at9 = λ bs. λ Ψ. Typed.pass T26 T27 (s23 bs) (at8 bs Ψ)
-      abbrev at10 : (bs : List Nat.ℕ) → Typed.TF T25 O2
-      at10 = λ bs. λ Ψ. Typed.pass T25 T26 (s22 bs) (at9 bs Ψ)
-      abbrev at11 : (bs : List Nat.ℕ) → Typed.TF T24 O2
-      at11 = λ bs. λ Ψ. Typed.pass T24 T25 (s21 bs) (at10 bs Ψ)
-      abbrev at12 : (bs : List Nat.ℕ) → Typed.TF T23 O2
-      at12 = λ bs. λ Ψ. Typed.pass T23 T24 (s20 bs) (at11 bs Ψ)
-      abbrev at13 : (bs : List Nat.ℕ) → Typed.TF T22 O2
-      at13 = λ bs. λ Ψ. Typed.pass T22 T23 (s19 bs) (at12 bs Ψ)
-      abbrev at14 : (bs : List Nat.ℕ) → Typed.TF T28 O2
+      abbrev at9 : (bs : List Nat.ℕ) → Typed.TF T24 O2
+      at9 = λ bs. λ Ψ. Typed.pass T24 T25 (s21 bs) (at8 bs Ψ)
+      abbrev at10 : (bs : List Nat.ℕ) → Typed.TF T23 O2
+      at10 = λ bs. λ Ψ. Typed.pass T23 T24 (s20 bs) (at9 bs Ψ)
+      abbrev at11 : (bs : List Nat.ℕ) → Typed.TF T22 O2
+      at11 = λ bs. λ Ψ. Typed.pass T22 T23 (s19 bs) (at10 bs Ψ)
+      abbrev at12 : (bs : List Nat.ℕ) → Typed.TF T21 O2
+      at12 = λ bs. λ Ψ. Typed.pass T21 T22 (s18 bs) (at11 bs Ψ)
+      abbrev at13 : (bs : List Nat.ℕ) → Typed.TF T20 O2
+      at13 = λ bs. λ Ψ. Typed.pass T20 T21 (s17 bs) (at12 bs Ψ)
+      abbrev at14 : (bs : List Nat.ℕ) → Typed.TF T26 O2
       at14 = λ bs. Typed.atNext O2
-      abbrev at15 : (bs : List Nat.ℕ) → Typed.TF T22 O2
-      at15 = λ bs. λ Ψ. Typed.pass T22 T28 (s24 bs) (at14 bs Ψ)
-      abbrev at16 : (bs : List Nat.ℕ) → Typed.TF T22 O2
-      at16 = λ bs. Scalar.Φcond T22 O2 12 (λ x. x) (at13 bs) (at15 bs)
-      abbrev at17 : (bs : List Nat.ℕ) → Typed.TF T21 O2
-      at17 = λ bs. λ Ψ. Typed.pass T21 T22 (s18 bs) (at16 bs Ψ)
-      abbrev at18 : (bs : List Nat.ℕ) → Typed.TF T20 O2
-      at18 = λ bs. λ Ψ. Typed.ask (s17 bs) (at17 bs Ψ)
-      abbrev at19 : (bs : List Nat.ℕ) → Typed.TF T19 O2
-      at19 = λ bs. λ Ψ. Typed.pass T19 T20 (s16 bs) (at18 bs Ψ)
-      abbrev at20 : (bs : List Nat.ℕ) → Typed.TF T18 O2
-      at20 = λ bs. λ Ψ. Typed.both (s15 bs) (at19 bs Ψ)
-      abbrev at21 : (bs : List Nat.ℕ) → Typed.TF T17 O2
-      at21 = λ bs. λ Ψ. Typed.pass T17 T18 (s14 bs) (at20 bs Ψ)
-      abbrev at22 : (bs : List Nat.ℕ) → Typed.TF T30 O2
+      abbrev at15 : (bs : List Nat.ℕ) → Typed.TF T20 O2
+      at15 = λ bs. λ Ψ. Typed.pass T20 T26 (s22 bs) (at14 bs Ψ)
+      abbrev at16 : (bs : List Nat.ℕ) → Typed.TF T20 O2
+      at16 = λ bs. Scalar.Φcond T20 O2 11 (λ x. x) (at13 bs) (at15 bs)
+      abbrev at17 : (bs : List Nat.ℕ) → Typed.TF T19 O2
+      at17 = λ bs. λ Ψ. Typed.pass T19 T20 (s16 bs) (at16 bs Ψ)
+      abbrev at18 : (bs : List Nat.ℕ) → Typed.TF T18 O2
+      at18 = λ bs. λ Ψ. Typed.ask (s15 bs) (at17 bs Ψ)
+      abbrev at19 : (bs : List Nat.ℕ) → Typed.TF T17 O2
+      at19 = λ bs. λ Ψ. Typed.pass T17 T18 (s14 bs) (at18 bs Ψ)
+      abbrev at20 : (bs : List Nat.ℕ) → Typed.TF T16 O2
+      at20 = λ bs. λ Ψ. Typed.both (s13 bs) (at19 bs Ψ)
+      abbrev at21 : (bs : List Nat.ℕ) → Typed.TF T15 O2
+      at21 = λ bs. λ Ψ. Typed.pass T15 T16 (s12 bs) (at20 bs Ψ)
+      abbrev at22 : (bs : List Nat.ℕ) → Typed.TF T28 O2
       at22 = λ bs. Typed.atNext O2
-      abbrev at23 : (bs : List Nat.ℕ) → Typed.TF T29 O2
-      at23 = λ bs. λ Ψ. Typed.pass T29 T30 (s26 bs) (at22 bs Ψ)
-      abbrev at24 : (bs : List Nat.ℕ) → Typed.TF T17 O2
-      at24 = λ bs. λ Ψ. Typed.pass T17 T29 (s25 bs) (at23 bs Ψ)
-      abbrev at25 : (bs : List Nat.ℕ) → Typed.TF T17 O2
-      at25 = λ bs. Scalar.Φcond T17 O2 10 (λ x. x) (at21 bs) (at24 bs)
-      abbrev at26 : (bs : List Nat.ℕ) → Typed.TF T15 O2
-      at26 = λ bs. λ Ψ. Typed.pass T15 T17 (s13 bs) (at25 bs Ψ)
-      abbrev at27 : (bs : List Nat.ℕ) → Typed.TF T36 O0
+      abbrev at23 : (bs : List Nat.ℕ) → Typed.TF T27 O2
+      at23 = λ bs. λ Ψ. Typed.pass T27 T28 (s24 bs) (at22 bs Ψ)
+      abbrev at24 : (bs : List Nat.ℕ) → Typed.TF T15 O2
+      at24 = λ bs. λ Ψ. Typed.pass T15 T27 (s23 bs) (at23 bs Ψ)
+      abbrev at25 : (bs : List Nat.ℕ) → Typed.TF T15 O2
+      at25 = λ bs. Scalar.Φcond T15 O2 9 (λ x. x) (at21 bs) (at24 bs)
+      abbrev at26 : (bs : List Nat.ℕ) → Typed.TF T13 O2
+      at26 = λ bs. λ Ψ. Typed.pass T13 T15 (s11 bs) (at25 bs Ψ)
+      abbrev at27 : (bs : List Nat.ℕ) → Typed.TF T34 O0
       at27 = λ bs. Typed.atRet O0
-      abbrev at28 : (bs : List Nat.ℕ) → Typed.TF T35 O0
-      at28 = λ bs. λ Ψ. Typed.pass T35 T36 (s32 bs) (at27 bs Ψ)
-      abbrev at29 : (bs : List Nat.ℕ) → Typed.TF T34 O0
-      at29 = λ bs. λ Ψ. Typed.pass T34 T35 (s31 bs) (at28 bs Ψ)
-      abbrev at30 : (bs : List Nat.ℕ) → Typed.TF T33 O0
-      at30 = λ bs. λ Ψ. Typed.pass T33 T34 (s30 bs) (at29 bs Ψ)
-      abbrev at31 : (bs : List Nat.ℕ) → Typed.TF T32 O0
-      at31 = λ bs. λ Ψ. Typed.both (s29 bs) (at30 bs Ψ)
-      abbrev at32 : (bs : List Nat.ℕ) → Typed.TF T31 O0
-      at32 = λ bs. λ Ψ. Typed.pass T31 T32 (s28 bs) (at31 bs Ψ)
-      pub at33 : (bs : List Nat.ℕ) → Typed.TF T16 O0
-      at33 = λ bs. λ Ψ. Typed.both (s27 bs) (at32 bs Ψ)
-      abbrev at34 : (bs : List Nat.ℕ) → Typed.TF T15 O0
-      at34 = λ bs. λ Ψ. at26 bs (Typed.wantNext T16 O0 (at33 bs Ψ) Ψ)
-      abbrev at35 : (bs : List Nat.ℕ) → Typed.TF T14 O0
-      at35 = λ bs. λ Ψ. Typed.both (s12 bs) (at34 bs Ψ)
-      abbrev at36 : (bs : List Nat.ℕ) → Typed.TF T13 O0
-      at36 = λ bs. λ Ψ. Typed.pass T13 T14 (s11 bs) (at35 bs Ψ)
-      abbrev at37 : (bs : List Nat.ℕ) → Typed.TF T12 O0
-      at37 = λ bs. λ Ψ. Typed.pass T12 T13 (s10 bs) (at36 bs Ψ)
-      abbrev at38 : (bs : List Nat.ℕ) → Typed.TF T11 O0
-      at38 = λ bs. λ Ψ. Typed.both (s9 bs) (at37 bs Ψ)
-      abbrev at39 : (bs : List Nat.ℕ) → Typed.TF T10 O0
-      at39 = λ bs. λ Ψ. Typed.pass T10 T11 (s8 bs) (at38 bs Ψ)
-      abbrev at40 : (bs : List Nat.ℕ) → Typed.TF T4 O0
-      at40 = λ bs. λ Ψ. Typed.both (s7 bs) (at39 bs Ψ)
-      abbrev at41 : (bs : List Nat.ℕ) → Typed.TF T3 O0
-      at41 = λ bs. λ Ψ. at7 bs (Typed.wantNext T4 O0 (at40 bs Ψ) Ψ)
-      abbrev at42 : (bs : List Nat.ℕ) → Typed.TF T2 O0
-      at42 = λ bs. λ Ψ. Typed.pass T2 T3 (s1 bs) (at41 bs Ψ)
-      abbrev at43 : (bs : List Nat.ℕ) → Typed.TF T0 O0
-      at43 = λ bs. λ Ψ. Typed.pass T0 T2 (s0 bs) (at42 bs Ψ)
+      abbrev at28 : (bs : List Nat.ℕ) → Typed.TF T33 O0
+      at28 = λ bs. λ Ψ. Typed.pass T33 T34 (s30 bs) (at27 bs Ψ)
+      abbrev at29 : (bs : List Nat.ℕ) → Typed.TF T32 O0
+      at29 = λ bs. λ Ψ. Typed.pass T32 T33 (s29 bs) (at28 bs Ψ)
+      abbrev at30 : (bs : List Nat.ℕ) → Typed.TF T31 O0
+      at30 = λ bs. λ Ψ. Typed.pass T31 T32 (s28 bs) (at29 bs Ψ)
+      abbrev at31 : (bs : List Nat.ℕ) → Typed.TF T30 O0
+      at31 = λ bs. λ Ψ. Typed.both (s27 bs) (at30 bs Ψ)
+      abbrev at32 : (bs : List Nat.ℕ) → Typed.TF T29 O0
+      at32 = λ bs. λ Ψ. Typed.pass T29 T30 (s26 bs) (at31 bs Ψ)
+      pub at33 : (bs : List Nat.ℕ) → Typed.TF T14 O0
+      at33 = λ bs. λ Ψ. Typed.both (s25 bs) (at32 bs Ψ)
+      abbrev at34 : (bs : List Nat.ℕ) → Typed.TF T13 O0
+      at34 = λ bs. λ Ψ. at26 bs (Typed.wantNext T14 O0 (at33 bs Ψ) Ψ)
+      abbrev at35 : (bs : List Nat.ℕ) → Typed.TF T12 O0
+      at35 = λ bs. λ Ψ. Typed.both (s10 bs) (at34 bs Ψ)
+      abbrev at36 : (bs : List Nat.ℕ) → Typed.TF T11 O0
+      at36 = λ bs. λ Ψ. Typed.pass T11 T12 (s9 bs) (at35 bs Ψ)
+      abbrev at37 : (bs : List Nat.ℕ) → Typed.TF T10 O0
+      at37 = λ bs. λ Ψ. Typed.pass T10 T11 (s8 bs) (at36 bs Ψ)
+      abbrev at38 : (bs : List Nat.ℕ) → Typed.TF T4 O0
+      at38 = λ bs. λ Ψ. Typed.both (s7 bs) (at37 bs Ψ)
+      abbrev at39 : (bs : List Nat.ℕ) → Typed.TF T3 O0
+      at39 = λ bs. λ Ψ. at7 bs (Typed.wantNext T4 O0 (at38 bs Ψ) Ψ)
+      abbrev at40 : (bs : List Nat.ℕ) → Typed.TF T2 O0
+      at40 = λ bs. λ Ψ. Typed.pass T2 T3 (s1 bs) (at39 bs Ψ)
+      abbrev at41 : (bs : List Nat.ℕ) → Typed.TF T0 O0
+      at41 = λ bs. λ Ψ. Typed.pass T0 T2 (s0 bs) (at40 bs Ψ)
       abbrev pub Φ : (bs : List Nat.ℕ) → Typed.TF T0 O0
-      Φ = λ bs. at43 bs
+      Φ = λ bs. at41 bs
       module _ {M : Type 1} (𝓤 : URA.URA M) (H : Wp.Heap 𝓤) (A : Atoms.Atoms 𝓤) (W : Kit.Given 𝓤 H A) (𝓣 : Wp.Tables 𝓤 H) where
         abbrev Knowns : Type 1
         Knowns = Plain.Known 𝓤 H A W 𝓣 0 ps·0 r·0 (claims· .0) (claims· .1) "blocks::has_ended" × Plain.Known 𝓤 H A W 𝓣 1 ps·1 r·1 (claims· .2) (claims· .3)
-            "blocks::stays" × Plain.Known 𝓤 H A W 𝓣 0 ps·2 r·2 (claims· .4) (claims· .5) "blocks::deep_of" × Plain.Known 𝓤 H A W 𝓣 2 ps·3 r·3 (claims· .6)
-            (claims· .7) "blocks::firsts_stay"
+            "blocks::last_stays" × Plain.Known 𝓤 H A W 𝓣 0 ps·2 r·2 (claims· .4) (claims· .5) "blocks::deep_of" × Plain.Known 𝓤 H A W 𝓣 2 ps·3 r·3 (claims·
+            .6) (claims· .7) "blocks::firsts_stay"
       module _ (κs : Lifetimes.Lfts 2) (qs : Lifetimes.Shares 2) where
         abbrev K0 : Row.Life
         K0 = Row.lease (κs .0) (qs .0)
@@ -633,53 +606,49 @@ module _ (claims· : Claims) where
         abbrev G15 : Row.Cx
         G15 = record { locals = t12; slots = l0 }
         abbrev G16 : Row.Cx
-        G16 = record { locals = t13; slots = l0 }
+        G16 = record { locals = t8; slots = l0 }
         abbrev G17 : Row.Cx
-        G17 = record { locals = t14; slots = l0 }
+        G17 = record { locals = t13; slots = l0 }
         abbrev G18 : Row.Cx
-        G18 = record { locals = t15; slots = l0 }
+        G18 = record { locals = t14; slots = l0 }
         abbrev G19 : Row.Cx
-        G19 = record { locals = t16; slots = l0 }
+        G19 = record { locals = t15; slots = l0 }
         abbrev G20 : Row.Cx
-        G20 = record { locals = t17; slots = l0 }
+        G20 = record { locals = t16; slots = l0 }
         abbrev G21 : Row.Cx
-        G21 = record { locals = t18; slots = l0 }
+        G21 = record { locals = t17; slots = l0 }
         abbrev G22 : Row.Cx
-        G22 = record { locals = t19; slots = l0 }
+        G22 = record { locals = t18; slots = l0 }
         abbrev G23 : Row.Cx
-        G23 = record { locals = t20; slots = l0 }
+        G23 = record { locals = t19; slots = l0 }
         abbrev G24 : Row.Cx
-        G24 = record { locals = t21; slots = l0 }
+        G24 = record { locals = t20; slots = l0 }
         abbrev G25 : Row.Cx
-        G25 = record { locals = t22; slots = l0 }
+        G25 = record { locals = t1; slots = l0 }
         abbrev G26 : Row.Cx
-        G26 = record { locals = t23; slots = l0 }
+        G26 = record { locals = t11; slots = l0 }
         abbrev G27 : Row.Cx
-        G27 = record { locals = t1; slots = l0 }
+        G27 = record { locals = t21; slots = l0 }
         abbrev G28 : Row.Cx
-        G28 = record { locals = t13; slots = l0 }
+        G28 = record { locals = t11; slots = l0 }
         abbrev G29 : Row.Cx
-        G29 = record { locals = t24; slots = l0 }
+        G29 = record { locals = t22; slots = l0 }
         abbrev G30 : Row.Cx
-        G30 = record { locals = t13; slots = l0 }
+        G30 = record { locals = t23; slots = l0 }
         abbrev G31 : Row.Cx
-        G31 = record { locals = t25; slots = l0 }
+        G31 = record { locals = t24; slots = l0 }
         abbrev G32 : Row.Cx
-        G32 = record { locals = t26; slots = l0 }
+        G32 = record { locals = t25; slots = l0 }
         abbrev G33 : Row.Cx
-        G33 = record { locals = t27; slots = l0 }
+        G33 = record { locals = t26; slots = l0 }
         abbrev G34 : Row.Cx
-        G34 = record { locals = t28; slots = l0 }
-        abbrev G35 : Row.Cx
-        G35 = record { locals = t29; slots = l0 }
-        abbrev G36 : Row.Cx
-        G36 = record { locals = t1; slots = l0 }
+        G34 = record { locals = t1; slots = l0 }
         abbrev Δ0 : Typed.Outs
         Δ0 = record { next = Option.none; exits = []; returns = Option.some G1 }
         abbrev Δ1 : Typed.Outs
         Δ1 = Typed.withNext (Option.some G4) Δ0
         abbrev Δ2 : Typed.Outs
-        Δ2 = Typed.withNext (Option.some G16) Δ0
+        Δ2 = Typed.withNext (Option.some G14) Δ0
         module _ {M : Type 1} (𝓤 : URA.URA M) (H : Wp.Heap 𝓤) (A : Atoms.Atoms 𝓤) (W : Kit.Given 𝓤 H A) (𝓣 : Wp.Tables 𝓤 H) (known : Knowns 𝓤 H A W 𝓣) (bs :
             List Nat.ℕ) (bd : Lifetimes.AllOutlive 2 (Kinds.osR r) κs) where
           abbrev E : Wp.Env 𝓤 H
@@ -694,7 +663,7 @@ module _ (claims· : Claims) where
               (Rows.sc-here Row.sBool) Syntax.tyBool (Row.valS Row.sBool) (Row.sBool .of) tt (Reads'.room-gone 𝓤 H A Syntax.tyBool) (Scalar.holds-sc 𝓤 H A W
               Row.sBool) Path'.refl (λ u. Path'.refl) λ u. tt) d1
           d3 : Typed.Typed 𝓤 H A 𝓣 E G5 b4 Δ1 (at3 bs)
-          d3 = Typed.g-pre 𝓤 H A W 𝓣 E G5 G6 b4 Δ1 (Typed.pass T5 T6 (s3 bs)) (at2 bs) (Scalar.g-room 𝓤 H A W E G5 9 Syntax.tyBool (Scalar.room-sc 𝓤 H A W
+          d3 = Typed.g-pre 𝓤 H A W 𝓣 E G5 G6 b4 Δ1 (Typed.pass T5 T6 (s3 bs)) (at2 bs) (Scalar.g-room 𝓤 H A W E G5 8 Syntax.tyBool (Scalar.room-sc 𝓤 H A W
               Row.sBool)) d2
           d4 : Typed.Typed 𝓤 H A 𝓣 E G3 b4 Δ1 (at4 bs)
           d4 = Typed.g-pre 𝓤 H A W 𝓣 E G3 G5 b4 Δ1 (Typed.pass T3 T5 (s2 bs)) (at3 bs) (Scalar.g-room 𝓤 H A W E G3 3 y11 (Local.room-whole 𝓤 H A W
@@ -702,146 +671,124 @@ module _ (claims· : Claims) where
           d5 : Typed.Typed 𝓤 H A 𝓣 E G9 b5 Δ1 (at5 bs)
           d5 = Typed.t-skip 𝓤 H A W 𝓣 E Δ1 tt
           d6 : Typed.Typed 𝓤 H A 𝓣 E G3 b5 Δ1 (at6 bs)
-          d6 = Typed.g-pre 𝓤 H A W 𝓣 E G3 G9 b5 Δ1 (Typed.pass T3 T9 (s6 bs)) (at5 bs) (Scalar.g-room 𝓤 H A W E G3 9 Syntax.tyBool (Scalar.room-sc 𝓤 H A W
+          d6 = Typed.g-pre 𝓤 H A W 𝓣 E G3 G9 b5 Δ1 (Typed.pass T3 T9 (s6 bs)) (at5 bs) (Scalar.g-room 𝓤 H A W E G3 8 Syntax.tyBool (Scalar.room-sc 𝓤 H A W
               Row.sBool)) d5
           d7 : Typed.Typed 𝓤 H A 𝓣 E G3 b6 Δ1 (at7 bs)
-          d7 = Scalar.t-cond 𝓤 H A W E 𝓣 G3 9 (λ x. x) b4 b5 Δ1 (at4 bs) (at6 bs) (Scalar.reads-sc 𝓤 H A W Row.sBool) Path'.refl d4 d6
-          d8 : Typed.Typed 𝓤 H A 𝓣 E G27 b15 Δ2 (at8 bs)
+          d7 = Scalar.t-cond 𝓤 H A W E 𝓣 G3 8 (λ x. x) b4 b5 Δ1 (at4 bs) (at6 bs) (Scalar.reads-sc 𝓤 H A W Row.sBool) Path'.refl d4 d6
+          d8 : Typed.Typed 𝓤 H A 𝓣 E G25 b14 Δ2 (at8 bs)
           d8 = Typed.t-return 𝓤 H A W 𝓣 E Δ2 tt
-          d9 : Typed.Typed 𝓤 H A 𝓣 E G26 b15 Δ2 (at9 bs)
-          d9 = Typed.g-pre 𝓤 H A W 𝓣 E G26 G27 b15 Δ2 (Typed.pass T26 T27 (s23 bs)) (at8 bs) (Scalar.g-room 𝓤 H A W E G26 6 y0 (Scalar.room-sc 𝓤 H A W
+          d9 : Typed.Typed 𝓤 H A 𝓣 E G24 b14 Δ2 (at9 bs)
+          d9 = Typed.g-pre 𝓤 H A W 𝓣 E G24 G25 b14 Δ2 (Typed.pass T24 T25 (s21 bs)) (at8 bs) (Scalar.g-room 𝓤 H A W E G24 6 y0 (Scalar.room-sc 𝓤 H A W
               (Row.sInt Syntax.w32))) d8
-          d10 : Typed.Typed 𝓤 H A 𝓣 E G25 b15 Δ2 (at10 bs)
-          d10 = Typed.g-pre 𝓤 H A W 𝓣 E G25 G26 b15 Δ2 (Typed.pass T25 T26 (s22 bs)) (at9 bs) (Scalar.g-room 𝓤 H A W E G25 4 Syntax.tyBool (Scalar.room-sc 𝓤 H
+          d10 : Typed.Typed 𝓤 H A 𝓣 E G23 b14 Δ2 (at10 bs)
+          d10 = Typed.g-pre 𝓤 H A W 𝓣 E G23 G24 b14 Δ2 (Typed.pass T23 T24 (s20 bs)) (at9 bs) (Scalar.g-room 𝓤 H A W E G23 4 Syntax.tyBool (Scalar.room-sc 𝓤 H
               A W Row.sBool)) d9
-          d11 : Typed.Typed 𝓤 H A 𝓣 E G24 b16 Δ2 (at11 bs)
-          d11 = Typed.s-seq 𝓤 H A W 𝓣 E G24 G25 b14 b15 Δ2 (Typed.pass T24 T25 (s21 bs)) (at10 bs) (Scalar.t-use 𝓤 H A W E 𝓣 G24 (Scalar.oBool Bool'.false) 0
+          d11 : Typed.Typed 𝓤 H A 𝓣 E G22 b15 Δ2 (at11 bs)
+          d11 = Typed.s-seq 𝓤 H A W 𝓣 E G22 G23 b13 b14 Δ2 (Typed.pass T22 T23 (s19 bs)) (at10 bs) (Scalar.t-use 𝓤 H A W E 𝓣 G22 (Scalar.oBool Bool'.false) 0
               (Rows.sc-here Row.sBool) Syntax.tyBool (Row.valS Row.sBool) (Row.sBool .of) tt (Reads'.room-gone 𝓤 H A Syntax.tyBool) (Scalar.holds-sc 𝓤 H A W
               Row.sBool) Path'.refl (λ u. Path'.refl) λ u. tt) d10
-          d12 : Typed.Typed 𝓤 H A 𝓣 E G23 b16 Δ2 (at12 bs)
-          d12 = Typed.g-pre 𝓤 H A W 𝓣 E G23 G24 b16 Δ2 (Typed.pass T23 T24 (s20 bs)) (at11 bs) (Scalar.g-room 𝓤 H A W E G23 12 Syntax.tyBool (Scalar.room-sc 𝓤
+          d12 : Typed.Typed 𝓤 H A 𝓣 E G21 b15 Δ2 (at12 bs)
+          d12 = Typed.g-pre 𝓤 H A W 𝓣 E G21 G22 b15 Δ2 (Typed.pass T21 T22 (s18 bs)) (at11 bs) (Scalar.g-room 𝓤 H A W E G21 11 Syntax.tyBool (Scalar.room-sc 𝓤
               H A W Row.sBool)) d11
-          d13 : Typed.Typed 𝓤 H A 𝓣 E G22 b16 Δ2 (at13 bs)
-          d13 = Typed.g-pre 𝓤 H A W 𝓣 E G22 G23 b16 Δ2 (Typed.pass T22 T23 (s19 bs)) (at12 bs) (Scalar.g-room 𝓤 H A W E G22 3 y11 (Local.room-whole 𝓤 H A W
+          d13 : Typed.Typed 𝓤 H A 𝓣 E G20 b15 Δ2 (at13 bs)
+          d13 = Typed.g-pre 𝓤 H A W 𝓣 E G20 G21 b15 Δ2 (Typed.pass T20 T21 (s17 bs)) (at12 bs) (Scalar.g-room 𝓤 H A W E G20 3 y11 (Local.room-whole 𝓤 H A W
               (Declared'.row Reached.the-type) y11 Path'.refl)) d12
-          d14 : Typed.Typed 𝓤 H A 𝓣 E G28 b17 Δ2 (at14 bs)
+          d14 : Typed.Typed 𝓤 H A 𝓣 E G26 b16 Δ2 (at14 bs)
           d14 = Typed.t-skip 𝓤 H A W 𝓣 E Δ2 tt
-          d15 : Typed.Typed 𝓤 H A 𝓣 E G22 b17 Δ2 (at15 bs)
-          d15 = Typed.g-pre 𝓤 H A W 𝓣 E G22 G28 b17 Δ2 (Typed.pass T22 T28 (s24 bs)) (at14 bs) (Scalar.g-room 𝓤 H A W E G22 12 Syntax.tyBool (Scalar.room-sc 𝓤
+          d15 : Typed.Typed 𝓤 H A 𝓣 E G20 b16 Δ2 (at15 bs)
+          d15 = Typed.g-pre 𝓤 H A W 𝓣 E G20 G26 b16 Δ2 (Typed.pass T20 T26 (s22 bs)) (at14 bs) (Scalar.g-room 𝓤 H A W E G20 11 Syntax.tyBool (Scalar.room-sc 𝓤
               H A W Row.sBool)) d14
-          d16 : Typed.Typed 𝓤 H A 𝓣 E G22 b18 Δ2 (at16 bs)
-          d16 = Scalar.t-cond 𝓤 H A W E 𝓣 G22 12 (λ x. x) b16 b17 Δ2 (at13 bs) (at15 bs) (Scalar.reads-sc 𝓤 H A W Row.sBool) Path'.refl d13 d15
-          d17 : Typed.Typed 𝓤 H A 𝓣 E G21 b18 Δ2 (at17 bs)
-          d17 = Typed.g-pre 𝓤 H A W 𝓣 E G21 G22 b18 Δ2 (Typed.pass T21 T22 (s18 bs)) (at16 bs) (Scalar.g-room 𝓤 H A W E G21 11 Syntax.tyBool (Scalar.room-sc 𝓤
+          d16 : Typed.Typed 𝓤 H A 𝓣 E G20 b17 Δ2 (at16 bs)
+          d16 = Scalar.t-cond 𝓤 H A W E 𝓣 G20 11 (λ x. x) b15 b16 Δ2 (at13 bs) (at15 bs) (Scalar.reads-sc 𝓤 H A W Row.sBool) Path'.refl d13 d15
+          d17 : Typed.Typed 𝓤 H A 𝓣 E G19 b17 Δ2 (at17 bs)
+          d17 = Typed.g-pre 𝓤 H A W 𝓣 E G19 G20 b17 Δ2 (Typed.pass T19 T20 (s16 bs)) (at16 bs) (Scalar.g-room 𝓤 H A W E G19 10 Syntax.tyBool (Scalar.room-sc 𝓤
               H A W Row.sBool)) d16
-          d18 : Typed.Typed 𝓤 H A 𝓣 E G20 b19 Δ2 (at18 bs)
-          d18 = Typed.s-seq 𝓤 H A W 𝓣 E G20 G21 b13 b18 Δ2 (Typed.ask (s17 bs)) (at17 bs) (Scalar.t-op1 𝓤 H A W E 𝓣 G20 Syntax.bitNot (Scalar.oAt 11
-              Syntax.tyBool (Row.valS Row.sBool)) 12 (Rows.sc-here Row.sBool) Syntax.tyBool (Row.valS Row.sBool) (Row.sBool .of) (Scalar.reads-sc 𝓤 H A W
+          d18 : Typed.Typed 𝓤 H A 𝓣 E G18 b18 Δ2 (at18 bs)
+          d18 = Typed.s-seq 𝓤 H A W 𝓣 E G18 G19 b12 b17 Δ2 (Typed.ask (s15 bs)) (at17 bs) (Scalar.t-op1 𝓤 H A W E 𝓣 G18 Syntax.bitNot (Scalar.oAt 10
+              Syntax.tyBool (Row.valS Row.sBool)) 11 (Rows.sc-here Row.sBool) Syntax.tyBool (Row.valS Row.sBool) (Row.sBool .of) (Scalar.reads-sc 𝓤 H A W
               Row.sBool, Path'.refl) (Reads'.room-gone 𝓤 H A Syntax.tyBool) (Scalar.holds-sc 𝓤 H A W Row.sBool) Path'.refl (λ u. Path'.refl) λ u. tt) d17
-          d19 : Typed.Typed 𝓤 H A 𝓣 E G19 b19 Δ2 (at19 bs)
-          d19 = Typed.g-pre 𝓤 H A W 𝓣 E G19 G20 b19 Δ2 (Typed.pass T19 T20 (s16 bs)) (at18 bs) (Scalar.g-room 𝓤 H A W E G19 7 y1 (Local.room-whole 𝓤 H A W
-              (Declared'.row Ref.the-type) y1 Path'.refl)) d18
-          d20 : Typed.Typed 𝓤 H A 𝓣 E G18 b20 Δ2 (at20 bs)
-          d20 = Typed.s-seq 𝓤 H A W 𝓣 E G18 G19 b12 b19 Δ2 (Typed.both (s15 bs)) (at19 bs) (Plain.t-call-plain 𝓤 H A W 𝓣 1 ps·1 r·1 (claims· .2) (claims· .3)
-              "blocks::stays" (known .1) E (λ pos β. β) G18 (record { pos = 1; ty = y6; ref = λ x. x }, (Num.vAt 6 λ x. x, (Num.vFld 7 ((Syntax.field 0) ∷ [])
-              0 λ x. Ref.struct .as-values x .0, (Num.vFld 7 ((Syntax.field 1) ∷ []) 4 λ x. Ref.struct .as-values x .1 .0, tt)))) 11 (0 ∷ []) (Call.sub-id 𝓤 H
-              A W (G18 .slots)) (ShrSlice.spares-sslice 𝓤 H A W NodeRecordT.row y6 0, Shared.reads-sslice 𝓤 H A W NodeRecordT.row y6 0, Path'.refl,
-              ((Scalar.reads-sc 𝓤 H A W (Row.sInt Syntax.w32), Path'.refl), ((Reads.reads-field 𝓤 H A W Ref.the-type Laws''.the-laws 0 y0 0 Path'.refl,
-              Path'.refl), ((Reads.reads-field 𝓤 H A W Ref.the-type Laws''.the-laws 1 y0 4 Path'.refl, Path'.refl), tt)))) (Reads'.room-gone 𝓤 H A
+          d19 : Typed.Typed 𝓤 H A 𝓣 E G17 b18 Δ2 (at19 bs)
+          d19 = Typed.g-pre 𝓤 H A W 𝓣 E G17 G18 b18 Δ2 (Typed.pass T17 T18 (s14 bs)) (at18 bs) (Scalar.g-room 𝓤 H A W E G17 5 y5 (Local.room-whole 𝓤 H A W
+              (Declared'.row Run.the-type) y5 Path'.refl)) d18
+          d20 : Typed.Typed 𝓤 H A 𝓣 E G16 b19 Δ2 (at20 bs)
+          d20 = Typed.s-seq 𝓤 H A W 𝓣 E G16 G17 b11 b18 Δ2 (Typed.both (s13 bs)) (at19 bs) (Plain.t-call-plain 𝓤 H A W 𝓣 1 ps·1 r·1 (claims· .2) (claims· .3)
+              "blocks::last_stays" (known .1) E (λ pos β. β) G16 (record { pos = 1; ty = y6; ref = λ x. x }, (record { pos = 5; st = []; d = 0; at = λ x. x },
+              tt)) 10 (0 ∷ []) (Call.sub-id 𝓤 H A W (G16 .slots)) (ShrSlice.spares-sslice 𝓤 H A W NodeRecordT.row y6 0, Shared.reads-sslice 𝓤 H A W
+              NodeRecordT.row y6 0, Path'.refl, ((Yields.yields-copy 𝓤 H A W (λ ρ. Unit) (Declared'.row Run.the-type) Path'.refl (Copies.cStruct Run.the-type
+              Laws.the-laws Laws.the-copy .copy 𝓤 H A W) (Rows.whole (Declared'.row Run.the-type)) (λ x. x) (λ x. x) (λ ρ told. Local.mem-whole 𝓤 H A W
+              (Declared'.row Run.the-type) ρ) λ ρ told. Local.whole-mem 𝓤 H A W (Declared'.row Run.the-type) ρ, Path'.refl), tt)) (Reads'.room-gone 𝓤 H A
               Syntax.tyBool) (tt, tt) Path'.refl) d19
-          d21 : Typed.Typed 𝓤 H A 𝓣 E G17 b20 Δ2 (at21 bs)
-          d21 = Typed.g-pre 𝓤 H A W 𝓣 E G17 G18 b20 Δ2 (Typed.pass T17 T18 (s14 bs)) (at20 bs) (Scalar.g-room 𝓤 H A W E G17 10 Syntax.tyBool (Scalar.room-sc 𝓤
+          d21 : Typed.Typed 𝓤 H A 𝓣 E G15 b19 Δ2 (at21 bs)
+          d21 = Typed.g-pre 𝓤 H A W 𝓣 E G15 G16 b19 Δ2 (Typed.pass T15 T16 (s12 bs)) (at20 bs) (Scalar.g-room 𝓤 H A W E G15 9 Syntax.tyBool (Scalar.room-sc 𝓤
               H A W Row.sBool)) d20
-          d22 : Typed.Typed 𝓤 H A 𝓣 E G30 b21 Δ2 (at22 bs)
+          d22 : Typed.Typed 𝓤 H A 𝓣 E G28 b20 Δ2 (at22 bs)
           d22 = Typed.t-skip 𝓤 H A W 𝓣 E Δ2 tt
-          d23 : Typed.Typed 𝓤 H A 𝓣 E G29 b21 Δ2 (at23 bs)
-          d23 = Typed.g-pre 𝓤 H A W 𝓣 E G29 G30 b21 Δ2 (Typed.pass T29 T30 (s26 bs)) (at22 bs) (Scalar.g-room 𝓤 H A W E G29 10 Syntax.tyBool (Scalar.room-sc 𝓤
+          d23 : Typed.Typed 𝓤 H A 𝓣 E G27 b20 Δ2 (at23 bs)
+          d23 = Typed.g-pre 𝓤 H A W 𝓣 E G27 G28 b20 Δ2 (Typed.pass T27 T28 (s24 bs)) (at22 bs) (Scalar.g-room 𝓤 H A W E G27 9 Syntax.tyBool (Scalar.room-sc 𝓤
               H A W Row.sBool)) d22
-          d24 : Typed.Typed 𝓤 H A 𝓣 E G17 b21 Δ2 (at24 bs)
-          d24 = Typed.g-pre 𝓤 H A W 𝓣 E G17 G29 b21 Δ2 (Typed.pass T17 T29 (s25 bs)) (at23 bs) (Scalar.g-room 𝓤 H A W E G17 7 y1 (Local.room-whole 𝓤 H A W
-              (Declared'.row Ref.the-type) y1 Path'.refl)) d23
-          d25 : Typed.Typed 𝓤 H A 𝓣 E G17 b22 Δ2 (at25 bs)
-          d25 = Scalar.t-cond 𝓤 H A W E 𝓣 G17 10 (λ x. x) b20 b21 Δ2 (at21 bs) (at24 bs) (Scalar.reads-sc 𝓤 H A W Row.sBool) Path'.refl d21 d24
-          d26 : Typed.Typed 𝓤 H A 𝓣 E G15 b22 Δ2 (at26 bs)
-          d26 = Typed.g-pre 𝓤 H A W 𝓣 E G15 G17 b22 Δ2 (Typed.pass T15 T17 (s13 bs)) (at25 bs) (Scalar.g-room 𝓤 H A W E G15 8 y4 (Local.room-whole 𝓤 H A W
+          d24 : Typed.Typed 𝓤 H A 𝓣 E G15 b20 Δ2 (at24 bs)
+          d24 = Typed.g-pre 𝓤 H A W 𝓣 E G15 G27 b20 Δ2 (Typed.pass T15 T27 (s23 bs)) (at23 bs) (Scalar.g-room 𝓤 H A W E G15 5 y5 (Local.room-whole 𝓤 H A W
+              (Declared'.row Run.the-type) y5 Path'.refl)) d23
+          d25 : Typed.Typed 𝓤 H A 𝓣 E G15 b21 Δ2 (at25 bs)
+          d25 = Scalar.t-cond 𝓤 H A W E 𝓣 G15 9 (λ x. x) b19 b20 Δ2 (at21 bs) (at24 bs) (Scalar.reads-sc 𝓤 H A W Row.sBool) Path'.refl d21 d24
+          d26 : Typed.Typed 𝓤 H A 𝓣 E G13 b21 Δ2 (at26 bs)
+          d26 = Typed.g-pre 𝓤 H A W 𝓣 E G13 G15 b21 Δ2 (Typed.pass T13 T15 (s11 bs)) (at25 bs) (Scalar.g-room 𝓤 H A W E G13 7 y4 (Local.room-whole 𝓤 H A W
               (Declared.row Context.the-type) y4 Path'.refl)) d25
-          d27 : Typed.Typed 𝓤 H A 𝓣 E G36 b25 Δ0 (at27 bs)
+          d27 : Typed.Typed 𝓤 H A 𝓣 E G34 b24 Δ0 (at27 bs)
           d27 = Typed.t-return 𝓤 H A W 𝓣 E Δ0 tt
-          d28 : Typed.Typed 𝓤 H A 𝓣 E G35 b25 Δ0 (at28 bs)
-          d28 = Typed.g-pre 𝓤 H A W 𝓣 E G35 G36 b25 Δ0 (Typed.pass T35 T36 (s32 bs)) (at27 bs) (Scalar.g-room 𝓤 H A W E G35 13 y3 (Scalar.room-sc 𝓤 H A W
+          d28 : Typed.Typed 𝓤 H A 𝓣 E G33 b24 Δ0 (at28 bs)
+          d28 = Typed.g-pre 𝓤 H A W 𝓣 E G33 G34 b24 Δ0 (Typed.pass T33 T34 (s30 bs)) (at27 bs) (Scalar.g-room 𝓤 H A W E G33 12 y3 (Scalar.room-sc 𝓤 H A W
               (Row.sInt Syntax.w64))) d27
-          d29 : Typed.Typed 𝓤 H A 𝓣 E G34 b25 Δ0 (at29 bs)
-          d29 = Typed.g-pre 𝓤 H A W 𝓣 E G34 G35 b25 Δ0 (Typed.pass T34 T35 (s31 bs)) (at28 bs) (Scalar.g-room 𝓤 H A W E G34 6 y0 (Scalar.room-sc 𝓤 H A W
+          d29 : Typed.Typed 𝓤 H A 𝓣 E G32 b24 Δ0 (at29 bs)
+          d29 = Typed.g-pre 𝓤 H A W 𝓣 E G32 G33 b24 Δ0 (Typed.pass T32 T33 (s29 bs)) (at28 bs) (Scalar.g-room 𝓤 H A W E G32 6 y0 (Scalar.room-sc 𝓤 H A W
               (Row.sInt Syntax.w32))) d28
-          d30 : Typed.Typed 𝓤 H A 𝓣 E G33 b25 Δ0 (at30 bs)
-          d30 = Typed.g-pre 𝓤 H A W 𝓣 E G33 G34 b25 Δ0 (Typed.pass T33 T34 (s30 bs)) (at29 bs) (Scalar.g-room 𝓤 H A W E G33 4 Syntax.tyBool (Scalar.room-sc 𝓤
+          d30 : Typed.Typed 𝓤 H A 𝓣 E G31 b24 Δ0 (at30 bs)
+          d30 = Typed.g-pre 𝓤 H A W 𝓣 E G31 G32 b24 Δ0 (Typed.pass T31 T32 (s28 bs)) (at29 bs) (Scalar.g-room 𝓤 H A W E G31 4 Syntax.tyBool (Scalar.room-sc 𝓤
               H A W Row.sBool)) d29
-          d31 : Typed.Typed 𝓤 H A 𝓣 E G32 b26 Δ0 (at31 bs)
-          d31 = Typed.s-seq 𝓤 H A W 𝓣 E G32 G33 b24 b25 Δ0 (Typed.both (s29 bs)) (at30 bs) (Plain.t-call-plain 𝓤 H A W 𝓣 2 ps·3 r·3 (claims· .6) (claims· .7)
-              "blocks::firsts_stay" (known .3) E (λ pos β. β) G32 (record { pos = 1; ty = y6; ref = λ x. x }, (Num.vAt 6 λ x. x, (record { pos = 2; ty = y9;
-              ref = λ x. x }, (Num.vAt 13 λ x. x, tt)))) 0 (0 ∷ 1 ∷ []) (Call.sub-id 𝓤 H A W (G32 .slots)) (ShrSlice.spares-sslice 𝓤 H A W NodeRecordT.row y6
+          d31 : Typed.Typed 𝓤 H A 𝓣 E G30 b25 Δ0 (at31 bs)
+          d31 = Typed.s-seq 𝓤 H A W 𝓣 E G30 G31 b23 b24 Δ0 (Typed.both (s27 bs)) (at30 bs) (Plain.t-call-plain 𝓤 H A W 𝓣 2 ps·3 r·3 (claims· .6) (claims· .7)
+              "blocks::firsts_stay" (known .3) E (λ pos β. β) G30 (record { pos = 1; ty = y6; ref = λ x. x }, (Num.vAt 6 λ x. x, (record { pos = 2; ty = y9;
+              ref = λ x. x }, (Num.vAt 12 λ x. x, tt)))) 0 (0 ∷ 1 ∷ []) (Call.sub-id 𝓤 H A W (G30 .slots)) (ShrSlice.spares-sslice 𝓤 H A W NodeRecordT.row y6
               0, Shared.reads-sslice 𝓤 H A W NodeRecordT.row y6 0, Path'.refl, ((Scalar.reads-sc 𝓤 H A W (Row.sInt Syntax.w32), Path'.refl),
               (ShrRef.spares-sref 𝓤 H A W (Array.Array (Array.Array (Referent.rtF (Referent.fInt Syntax.w32)) 4) 32) y9 1, Reads'.reads-sref 𝓤 H A W
               (Array.Array (Array.Array (Referent.rtF (Referent.fInt Syntax.w32)) 4) 32) y9 1, Path'.refl, ((Scalar.reads-sc 𝓤 H A W (Row.sInt Syntax.w64),
               Path'.refl), tt)))) (Reads'.room-gone 𝓤 H A Syntax.tyBool) (tt, (tt, tt)) Path'.refl) d30
-          d32 : Typed.Typed 𝓤 H A 𝓣 E G31 b26 Δ0 (at32 bs)
-          d32 = Typed.g-pre 𝓤 H A W 𝓣 E G31 G32 b26 Δ0 (Typed.pass T31 T32 (s28 bs)) (at31 bs) (Scalar.g-room 𝓤 H A W E G31 3 y11 (Local.room-whole 𝓤 H A W
+          d32 : Typed.Typed 𝓤 H A 𝓣 E G29 b25 Δ0 (at32 bs)
+          d32 = Typed.g-pre 𝓤 H A W 𝓣 E G29 G30 b25 Δ0 (Typed.pass T29 T30 (s26 bs)) (at31 bs) (Scalar.g-room 𝓤 H A W E G29 3 y11 (Local.room-whole 𝓤 H A W
               (Declared'.row Reached.the-type) y11 Path'.refl)) d31
-          d33 : Typed.Typed 𝓤 H A 𝓣 E G16 b27 Δ0 (at33 bs)
+          d33 : Typed.Typed 𝓤 H A 𝓣 E G14 b26 Δ0 (at33 bs)
           unfolding at33
-          d33 = Typed.s-seq 𝓤 H A W 𝓣 E G16 G31 b23 b26 Δ0 (Typed.both (s27 bs)) (at32 bs) (Plain.t-call-plain 𝓤 H A W 𝓣 0 ps·2 r·2 (claims· .4) (claims· .5)
-              "blocks::deep_of" (known .2) E (λ pos β. β) G16 (Num.vFld 3 ((Syntax.field 1) ∷ []) 56 λ x. Reached.struct .as-values x .1 .0, tt) 13 []
-              (Call.sub-id 𝓤 H A W (G16 .slots)) ((Reads.reads-field 𝓤 H A W Reached.the-type Laws'3.the-laws 1 y3 56 Path'.refl, Path'.refl), tt)
+          d33 = Typed.s-seq 𝓤 H A W 𝓣 E G14 G29 b22 b25 Δ0 (Typed.both (s25 bs)) (at32 bs) (Plain.t-call-plain 𝓤 H A W 𝓣 0 ps·2 r·2 (claims· .4) (claims· .5)
+              "blocks::deep_of" (known .2) E (λ pos β. β) G14 (Num.vFld 3 ((Syntax.field 1) ∷ []) 56 λ x. Reached.struct .as-values x .1 .0, tt) 12 []
+              (Call.sub-id 𝓤 H A W (G14 .slots)) ((Reads.reads-field 𝓤 H A W Reached.the-type Laws''.the-laws 1 y3 56 Path'.refl, Path'.refl), tt)
               (Reads'.room-gone 𝓤 H A y3) tt Path'.refl) d32
-          d34 : Typed.Typed 𝓤 H A 𝓣 E G15 b28 Δ0 (at34 bs)
-          d34 = Typed.t-seq 𝓤 H A W 𝓣 E G15 G16 b22 b27 Δ0 (at26 bs) (at33 bs) d26 d33
-          d35 : Typed.Typed 𝓤 H A 𝓣 E G14 b29 Δ0 (at35 bs)
-          d35 = Typed.s-seq 𝓤 H A W 𝓣 E G14 G15 b11 b28 Δ0 (Typed.both (s12 bs)) (at34 bs) (Plain.t-call-plain 𝓤 H A W 𝓣 0 ps·0 r·0 (claims· .0) (claims· .1)
-              "blocks::has_ended" (known .0) E (λ pos β. β) G14 (record { pos = 8; st = []; d = 0; at = λ x. x }, tt) 10 [] (Call.sub-id 𝓤 H A W (G14 .slots))
+          d34 : Typed.Typed 𝓤 H A 𝓣 E G13 b27 Δ0 (at34 bs)
+          d34 = Typed.t-seq 𝓤 H A W 𝓣 E G13 G14 b21 b26 Δ0 (at26 bs) (at33 bs) d26 d33
+          d35 : Typed.Typed 𝓤 H A 𝓣 E G12 b28 Δ0 (at35 bs)
+          d35 = Typed.s-seq 𝓤 H A W 𝓣 E G12 G13 b10 b27 Δ0 (Typed.both (s10 bs)) (at34 bs) (Plain.t-call-plain 𝓤 H A W 𝓣 0 ps·0 r·0 (claims· .0) (claims· .1)
+              "blocks::has_ended" (known .0) E (λ pos β. β) G12 (record { pos = 7; st = []; d = 0; at = λ x. x }, tt) 9 [] (Call.sub-id 𝓤 H A W (G12 .slots))
               ((Yields.yields-copy 𝓤 H A W (λ ρ. Unit) (Declared.row Context.the-type) Path'.refl (Copies.cEnum Context.the-type Laws'.the-laws Laws'.the-copy
               .copy 𝓤 H A W) (Rows.whole (Declared.row Context.the-type)) (λ x. x) (λ x. x) (λ ρ told. Local.mem-whole 𝓤 H A W (Declared.row Context.the-type)
               ρ) λ ρ told. Local.whole-mem 𝓤 H A W (Declared.row Context.the-type) ρ, Path'.refl), tt) (Reads'.room-gone 𝓤 H A Syntax.tyBool) tt Path'.refl)
               d34
-          d36 : Typed.Typed 𝓤 H A 𝓣 E G13 b29 Δ0 (at36 bs)
-          d36 = Typed.g-pre 𝓤 H A W 𝓣 E G13 G14 b29 Δ0 (Typed.pass T13 T14 (s11 bs)) (at35 bs) (Scalar.g-room 𝓤 H A W E G13 5 y5 (Local.room-whole 𝓤 H A W
-              (Declared'.row Run.the-type) y5 Path'.refl)) d35
-          d37 : Typed.Typed 𝓤 H A 𝓣 E G12 b30 Δ0 (at37 bs)
-          d37 = Typed.s-seq 𝓤 H A W 𝓣 E G12 G13 b10 b29 Δ0 (Typed.pass T12 T13 (s10 bs)) (at36 bs) (CopyOut.t-copy-told 𝓤 H A W E 𝓣 (Declared.row
-              Context.the-type) Path'.refl (Laws'4.val Context.the-type Laws'.the-laws) (Laws'4.lawful Context.the-type Laws'.the-laws 𝓤 H A W tt)
-              (Laws'4.makes Context.the-type Laws'.the-plain 𝓤 H A) G12 8 (Scalar.oFld 5 ((Syntax.field 5) ∷ []) y4 52 λ x. Laws'4.val Context.the-type
-              Laws'.the-laws (Run.struct .as-values x .1 .1 .1 .1 .1 .0)) (λ m. Run.struct .as-values (m .1 .1 .1 .1 .1 .0) .1 .1 .1 .1 .1 .0) (λ m. Laws'5.Is
-              (Declared'.row Run.the-type) (m .1 .1 .1 .1 .1 .0) (Laws'6.vals Run.the-type Laws.the-laws (m .1 .1 .1 .1 .1 .0))) (Reads'.room-gone 𝓤 H A y4)
-              (Reads.reads-field 𝓤 H A W Run.the-type Laws.the-laws 5 y4 52 Path'.refl, Path'.refl) Path'.refl (λ ρ m. Make.tells-row 𝓤 H A W E ρ (Row.out 8
-              (G12 .locals)) m 5 (Laws'5.Is (Declared'.row Run.the-type) (m .1 .1 .1 .1 .1 .0) (Laws'6.vals Run.the-type Laws.the-laws (m .1 .1 .1 .1 .1 .0)))
-              (Make.whole-is 𝓤 H A W E (Declared'.row Run.the-type) Path'.refl (Laws'6.val Run.the-type Laws.the-laws) (Laws'6.tells Run.the-type
-              Laws.the-laws) ρ 5 (m .1 .1 .1 .1 .1 .0))) (λ m k wa. Path'.refl) λ m k wa. Laws'6.owed Run.the-type Laws.the-laws (m .1 .1 .1 .1 .1 .0)
-              (Laws'6.vals Run.the-type Laws.the-laws (m .1 .1 .1 .1 .1 .0)) k .1 .1 .1 .1 .1 .0) d36
-          d38 : Typed.Typed 𝓤 H A 𝓣 E G11 b31 Δ0 (at38 bs)
-          d38 = Typed.s-seq 𝓤 H A W 𝓣 E G11 G12 b9 b30 Δ0 (Typed.both (s9 bs)) (at37 bs) (WayStmt.t-way-copy-out 𝓤 H A W E 𝓣 (Declared'.row Ref.the-type)
-              Path'.refl (Copies.cStruct Ref.the-type Laws''.the-laws Laws''.the-copy .copy 𝓤 H A W) (λ ρ. Unit) G11 (Row.out 5 (G11 .locals)) (λ u. Row.drop
-              5 (G11 .locals) u) (G11 .slots) 5 (λ t. (Syntax.field 0) ∷ t) y1 y1 7 (Rows.whole (Declared'.row Ref.the-type)) (λ x. x) (λ u. At.getAt
-              (Run.the-type .parts) 0 (Run.struct .as-values (u .1 .1 .1 .1 .1 .0))) (λ u. (Row.hd 0 (Row.tl (Row.tl (Row.tl (Row.tl (Row.tl bs))))), Nat._+_
-              0 0)) (λ T′. record { locals = Row.setRow 5 (5, Rows.whole (Declared'.row Run.the-type)) T′; slots = G11 .slots }) (λ u T′ m′. Row.set 5 (5,
-              Rows.whole (Declared'.row Run.the-type)) (u .1 .1 .1 .1 .1 .0) T′ m′) (λ u. Unit) (λ x. Unit) (Own.told-none 𝓤 H A (G11 .slots))
-              (DerefMove.learns-nothing 𝓤 H A (Declared'.row Ref.the-type)) (λ ρ told u asked. Way'.w-partˢ 𝓤 H A W E (Declared'.row Run.the-type)
-              (Declared'.row Ref.the-type) y5 y1 0 0 (u .1 .1 .1 .1 .1 .0) (At.getAt (Run.the-type .parts) 0 (Run.struct .as-values (u .1 .1 .1 .1 .1 .0)))
-              (Row.hd 0 (Row.tl (Row.tl (Row.tl (Row.tl (Row.tl bs))))), 0) (Way.w-look 𝓤 H A W E (Way.w-local 𝓤 H A W E G11 ρ u (G11 .slots) 5 (Declared'.row
-              Run.the-type) (Rows.whole (Declared'.row Run.the-type)) (λ x. x) (λ x. x) (u .1 .1 .1 .1 .1 .0) (Local.mem-whole 𝓤 H A W (Declared'.row
-              Run.the-type) ρ (u .1 .1 .1 .1 .1 .0) (Row.hd 0 (Row.tl (Row.tl (Row.tl (Row.tl (Row.tl bs))))))) (Local.whole-mem 𝓤 H A W (Declared'.row
-              Run.the-type) ρ (u .1 .1 .1 .1 .1 .0) (Row.hd 0 (Row.tl (Row.tl (Row.tl (Row.tl (Row.tl bs))))))))) Path'.refl λ q. Inner.cut-record 𝓤 H A q
-              (Declared'.row Run.the-type) Ref.the-type 0 (u .1 .1 .1 .1 .1 .0) (u .1 .1 .1 .1 .1 .0) (At.getAt (Run.the-type .parts) 0 (Run.struct .as-values
-              (u .1 .1 .1 .1 .1 .0))) (At.getAt (Run.the-type .parts) 0 (Run.struct .as-values (u .1 .1 .1 .1 .1 .0))) (Row.hd 0 (Row.tl (Row.tl (Row.tl
-              (Row.tl (Row.tl bs))))), 0) (Behind.look-at 𝓤 H A W q Run.the-type Laws.the-laws 0 0 Path'.refl Path'.refl (Row.hd 0 (Row.tl (Row.tl (Row.tl
-              (Row.tl (Row.tl bs))))), 0) (u .1 .1 .1 .1 .1 .0) (Run.struct .as-values (u .1 .1 .1 .1 .1 .0)) Path'.refl)) (Reads'.room-gone 𝓤 H A y1)
-              (Yields.makes-mem 𝓤 H A W (λ ρ. Unit) (Declared'.row Ref.the-type) Path'.refl (Rows.whole (Declared'.row Ref.the-type)) (λ x. x) λ ρ told.
-              Local.whole-mem 𝓤 H A W (Declared'.row Ref.the-type) ρ) Path'.refl Path'.refl Path'.refl) d37
-          d39 : Typed.Typed 𝓤 H A 𝓣 E G10 b32 Δ0 (at39 bs)
-          d39 = Typed.s-seq 𝓤 H A W 𝓣 E G10 G11 b8 b31 Δ0 (Typed.pass T10 T11 (s8 bs)) (at38 bs) (Scalar.t-use 𝓤 H A W E 𝓣 G10 (Scalar.oFld 5 ((Syntax.field
+          d36 : Typed.Typed 𝓤 H A 𝓣 E G11 b29 Δ0 (at36 bs)
+          d36 = Typed.s-seq 𝓤 H A W 𝓣 E G11 G12 b9 b28 Δ0 (Typed.pass T11 T12 (s9 bs)) (at35 bs) (CopyOut.t-copy-told 𝓤 H A W E 𝓣 (Declared.row
+              Context.the-type) Path'.refl (Laws'3.val Context.the-type Laws'.the-laws) (Laws'3.lawful Context.the-type Laws'.the-laws 𝓤 H A W tt)
+              (Laws'3.makes Context.the-type Laws'.the-plain 𝓤 H A) G11 7 (Scalar.oFld 5 ((Syntax.field 5) ∷ []) y4 52 λ x. Laws'3.val Context.the-type
+              Laws'.the-laws (Run.struct .as-values x .1 .1 .1 .1 .1 .0)) (λ m. Run.struct .as-values (m .1 .1 .1 .1 .1 .0) .1 .1 .1 .1 .1 .0) (λ m. Laws'4.Is
+              (Declared'.row Run.the-type) (m .1 .1 .1 .1 .1 .0) (Laws'5.vals Run.the-type Laws.the-laws (m .1 .1 .1 .1 .1 .0))) (Reads'.room-gone 𝓤 H A y4)
+              (Reads.reads-field 𝓤 H A W Run.the-type Laws.the-laws 5 y4 52 Path'.refl, Path'.refl) Path'.refl (λ ρ m. Make.tells-row 𝓤 H A W E ρ (Row.out 7
+              (G11 .locals)) m 5 (Laws'4.Is (Declared'.row Run.the-type) (m .1 .1 .1 .1 .1 .0) (Laws'5.vals Run.the-type Laws.the-laws (m .1 .1 .1 .1 .1 .0)))
+              (Make.whole-is 𝓤 H A W E (Declared'.row Run.the-type) Path'.refl (Laws'5.val Run.the-type Laws.the-laws) (Laws'5.tells Run.the-type
+              Laws.the-laws) ρ 5 (m .1 .1 .1 .1 .1 .0))) (λ m k wa. Path'.refl) λ m k wa. Laws'5.owed Run.the-type Laws.the-laws (m .1 .1 .1 .1 .1 .0)
+              (Laws'5.vals Run.the-type Laws.the-laws (m .1 .1 .1 .1 .1 .0)) k .1 .1 .1 .1 .1 .0) d35
+          d37 : Typed.Typed 𝓤 H A 𝓣 E G10 b30 Δ0 (at37 bs)
+          d37 = Typed.s-seq 𝓤 H A W 𝓣 E G10 G11 b8 b29 Δ0 (Typed.pass T10 T11 (s8 bs)) (at36 bs) (Scalar.t-use 𝓤 H A W E 𝓣 G10 (Scalar.oFld 5 ((Syntax.field
               4) ∷ []) y0 48 (Reads.fieldV Run.the-type Laws.the-laws 4)) 6 (Rows.sc-here (Row.sInt Syntax.w32)) y0 (Row.valS (Row.sInt Syntax.w32)) (Row.sInt
               Syntax.w32 .of) (Reads.reads-field 𝓤 H A W Run.the-type Laws.the-laws 4 y0 48 Path'.refl, Path'.refl) (Reads'.room-gone 𝓤 H A y0)
-              (Scalar.holds-sc 𝓤 H A W (Row.sInt Syntax.w32)) Path'.refl (λ u. Path'.refl) λ u. tt) d38
-          d40 : Typed.Typed 𝓤 H A 𝓣 E G4 b33 Δ0 (at40 bs)
-          d40 = Typed.s-seq 𝓤 H A W 𝓣 E G4 G10 b7 b32 Δ0 (Typed.both (s7 bs)) (at39 bs) (WayStmt.t-way-copy-out 𝓤 H A W E 𝓣 (Declared'.row Run.the-type)
+              (Scalar.holds-sc 𝓤 H A W (Row.sInt Syntax.w32)) Path'.refl (λ u. Path'.refl) λ u. tt) d36
+          d38 : Typed.Typed 𝓤 H A 𝓣 E G4 b31 Δ0 (at38 bs)
+          d38 = Typed.s-seq 𝓤 H A W 𝓣 E G4 G10 b7 b30 Δ0 (Typed.both (s7 bs)) (at37 bs) (WayStmt.t-way-copy-out 𝓤 H A W E 𝓣 (Declared'.row Run.the-type)
               Path'.refl (Copies.cStruct Run.the-type Laws.the-laws Laws.the-copy .copy 𝓤 H A W) (λ ρ. Unit) G4 (Row.out 3 (G4 .locals)) (λ u. Row.drop 3 (G4
               .locals) u) (G4 .slots) 3 (λ t. (Syntax.field 0) ∷ t) y5 y5 5 (Rows.whole (Declared'.row Run.the-type)) (λ x. x) (λ u. At.getAt
               (Reached.the-type .parts) 0 (Reached.struct .as-values (u .1 .1 .1 .0))) (λ u. (Row.hd 0 (Row.tl (Row.tl (Row.tl bs))), Nat._+_ 0 0)) (λ T′.
@@ -854,31 +801,31 @@ module _ (claims· : Claims) where
               bs))))) (Local.whole-mem 𝓤 H A W (Declared'.row Reached.the-type) ρ (u .1 .1 .1 .0) (Row.hd 0 (Row.tl (Row.tl (Row.tl bs))))))) Path'.refl λ q.
               Inner.cut-record 𝓤 H A q (Declared'.row Reached.the-type) Run.the-type 0 (u .1 .1 .1 .0) (u .1 .1 .1 .0) (At.getAt (Reached.the-type .parts) 0
               (Reached.struct .as-values (u .1 .1 .1 .0))) (At.getAt (Reached.the-type .parts) 0 (Reached.struct .as-values (u .1 .1 .1 .0))) (Row.hd 0
-              (Row.tl (Row.tl (Row.tl bs))), 0) (Behind.look-at 𝓤 H A W q Reached.the-type Laws'3.the-laws 0 0 Path'.refl Path'.refl (Row.hd 0 (Row.tl (Row.tl
+              (Row.tl (Row.tl (Row.tl bs))), 0) (Behind.look-at 𝓤 H A W q Reached.the-type Laws''.the-laws 0 0 Path'.refl Path'.refl (Row.hd 0 (Row.tl (Row.tl
               (Row.tl bs))), 0) (u .1 .1 .1 .0) (Reached.struct .as-values (u .1 .1 .1 .0)) Path'.refl)) (Reads'.room-gone 𝓤 H A y5) (Yields.makes-mem 𝓤 H A W
               (λ ρ. Unit) (Declared'.row Run.the-type) Path'.refl (Rows.whole (Declared'.row Run.the-type)) (λ x. x) λ ρ told. Local.whole-mem 𝓤 H A W
-              (Declared'.row Run.the-type) ρ) Path'.refl Path'.refl Path'.refl) d39
-          d41 : Typed.Typed 𝓤 H A 𝓣 E G3 b34 Δ0 (at41 bs)
-          d41 = Typed.t-seq 𝓤 H A W 𝓣 E G3 G4 b6 b33 Δ0 (at7 bs) (at40 bs) d7 d40
-          d42 : Typed.Typed 𝓤 H A 𝓣 E G2 b35 Δ0 (at42 bs)
-          d42 = Typed.s-seq 𝓤 H A W 𝓣 E G2 G3 b1 b34 Δ0 (Typed.pass T2 T3 (s1 bs)) (at41 bs) (Scalar.t-use 𝓤 H A W E 𝓣 G2 (Scalar.oAt 4 Syntax.tyBool
-              (Row.valS Row.sBool)) 9 (Rows.sc-here Row.sBool) Syntax.tyBool (Row.valS Row.sBool) (Row.sBool .of) (Scalar.reads-sc 𝓤 H A W Row.sBool,
-              Path'.refl) (Reads'.room-gone 𝓤 H A Syntax.tyBool) (Scalar.holds-sc 𝓤 H A W Row.sBool) Path'.refl (λ u. Path'.refl) λ u. tt) d41
-          d43 : Typed.Typed 𝓤 H A 𝓣 E G0 b36 Δ0 (at43 bs)
-          d43 = Typed.s-seq 𝓤 H A W 𝓣 E G0 G2 b0 b35 Δ0 (Typed.pass T0 T2 (s0 bs)) (at42 bs) (Scalar.t-use 𝓤 H A W E 𝓣 G0 (Scalar.oFld 3 ((Syntax.field 5) ∷
-              []) Syntax.tyBool 81 (Reads.fieldV Reached.the-type Laws'3.the-laws 5)) 4 (Rows.sc-here Row.sBool) Syntax.tyBool (Row.valS Row.sBool) (Row.sBool
-              .of) (Reads.reads-field 𝓤 H A W Reached.the-type Laws'3.the-laws 5 Syntax.tyBool 81 Path'.refl, Path'.refl) (Reads'.room-gone 𝓤 H A
-              Syntax.tyBool) (Scalar.holds-sc 𝓤 H A W Row.sBool) Path'.refl (λ u. Path'.refl) λ u. tt) d42
-          pub typed : Typed.Typed 𝓤 H A 𝓣 E (Function.Γin 2 ps r xs m κs qs) b36 (Function.Δret 2 ps r xs m κs qs) (Φ bs)
-          typed = d43
+              (Declared'.row Run.the-type) ρ) Path'.refl Path'.refl Path'.refl) d37
+          d39 : Typed.Typed 𝓤 H A 𝓣 E G3 b32 Δ0 (at39 bs)
+          d39 = Typed.t-seq 𝓤 H A W 𝓣 E G3 G4 b6 b31 Δ0 (at7 bs) (at38 bs) d7 d38
+          d40 : Typed.Typed 𝓤 H A 𝓣 E G2 b33 Δ0 (at40 bs)
+          d40 = Typed.s-seq 𝓤 H A W 𝓣 E G2 G3 b1 b32 Δ0 (Typed.pass T2 T3 (s1 bs)) (at39 bs) (Scalar.t-use 𝓤 H A W E 𝓣 G2 (Scalar.oAt 4 Syntax.tyBool
+              (Row.valS Row.sBool)) 8 (Rows.sc-here Row.sBool) Syntax.tyBool (Row.valS Row.sBool) (Row.sBool .of) (Scalar.reads-sc 𝓤 H A W Row.sBool,
+              Path'.refl) (Reads'.room-gone 𝓤 H A Syntax.tyBool) (Scalar.holds-sc 𝓤 H A W Row.sBool) Path'.refl (λ u. Path'.refl) λ u. tt) d39
+          d41 : Typed.Typed 𝓤 H A 𝓣 E G0 b34 Δ0 (at41 bs)
+          d41 = Typed.s-seq 𝓤 H A W 𝓣 E G0 G2 b0 b33 Δ0 (Typed.pass T0 T2 (s0 bs)) (at40 bs) (Scalar.t-use 𝓤 H A W E 𝓣 G0 (Scalar.oFld 3 ((Syntax.field 5) ∷
+              []) Syntax.tyBool 81 (Reads.fieldV Reached.the-type Laws''.the-laws 5)) 4 (Rows.sc-here Row.sBool) Syntax.tyBool (Row.valS Row.sBool) (Row.sBool
+              .of) (Reads.reads-field 𝓤 H A W Reached.the-type Laws''.the-laws 5 Syntax.tyBool 81 Path'.refl, Path'.refl) (Reads'.room-gone 𝓤 H A
+              Syntax.tyBool) (Scalar.holds-sc 𝓤 H A W Row.sBool) Path'.refl (λ u. Path'.refl) λ u. tt) d40
+          pub typed : Typed.Typed 𝓤 H A 𝓣 E (Function.Γin 2 ps r xs m κs qs) b34 (Function.Δret 2 ps r xs m κs qs) (Φ bs)
+          typed = d41
       module _ (κs : Lifetimes.Lfts 2) where
         pub record Args : Type 0 where
           pub t : Kinds.Den {n = 2} κs (ShrSlice.pShrS NodeRecordT.row 0 tt)
           pub o : Kinds.Den {n = 2} κs (ShrRef.pShr (Array.Array (Array.Array (Referent.rtF (Referent.fInt Syntax.w32)) 4) 32) 1 tt)
-          pub r : Kinds.Den {n = 2} κs (Value.pVal record { ty = Declared'.row Reached.the-type; one = Path'.refl; val = Laws'6.val Reached.the-type
-              Laws'3.the-laws; tells = Laws'6.tells Reached.the-type Laws'3.the-laws; still = Laws'6.still Reached.the-type Laws'3.the-copy Exit.yes; row =
-              Rows.whole (Declared'.row Reached.the-type); rd = λ x. x; mk = λ x. x } λ M 𝓤 H A W. record { copies = Laws'6.copy Reached.the-type
-              Laws'3.the-copy 𝓤 H A W; lawful = Laws'6.lawful Reached.the-type Laws'3.the-laws 𝓤 H A W; makes = Laws'6.makes Reached.the-type Laws'3.the-plain
+          pub r : Kinds.Den {n = 2} κs (Value.pVal record { ty = Declared'.row Reached.the-type; one = Path'.refl; val = Laws'5.val Reached.the-type
+              Laws''.the-laws; tells = Laws'5.tells Reached.the-type Laws''.the-laws; still = Laws'5.still Reached.the-type Laws''.the-copy Exit.yes; row =
+              Rows.whole (Declared'.row Reached.the-type); rd = λ x. x; mk = λ x. x } λ M 𝓤 H A W. record { copies = Laws'5.copy Reached.the-type
+              Laws''.the-copy 𝓤 H A W; lawful = Laws'5.lawful Reached.the-type Laws''.the-laws 𝓤 H A W; makes = Laws'5.makes Reached.the-type Laws''.the-plain
               𝓤 H A; in-mem = Local.mem-whole 𝓤 H A W (Declared'.row Reached.the-type); of-mem = Local.whole-mem 𝓤 H A W (Declared'.row Reached.the-type) })
         abbrev pub dens : (a : Args) → Kinds.Dens κs ps
         dens = λ a. (a .t, (a .o, (a .r, tt)))
@@ -898,7 +845,7 @@ module _ (claims· : Claims) where
       abbrev pub m2 : (κs : Lifetimes.Lfts 2) → (args : Args κs) → (blocks : List Nat.ℕ) → Typed.Mo T3
       m2 = λ κs args blocks. s1 blocks (m1 κs args blocks)
       abbrev W1 : (κs : Lifetimes.Lfts 2) → (args : Args κs) → (blocks : List Nat.ℕ) → Typed.Want O1
-      W1 = λ κs args blocks. Typed.wantNext T4 O0 (at40 blocks (W0 κs args blocks)) (W0 κs args blocks)
+      W1 = λ κs args blocks. Typed.wantNext T4 O0 (at38 blocks (W0 κs args blocks)) (W0 κs args blocks)
       abbrev pub m3 : (before : Start) → Typed.Mo T5
       m3 = λ before. s2 (before .blocks) (m2 (before .κs) (before .args) (before .blocks))
       abbrev pub m4 : (before : Start) → Typed.Mo T6
@@ -909,7 +856,7 @@ module _ (claims· : Claims) where
       m6 = λ before. s5 (before .blocks) (m5 before)
       module _ (before· : Start) where
         pub record Then1·own : Type 0 where
-          pub taken : Path'._≡_ (Row.get 9 (T3 .locals) (m2 (before· .κs) (before· .args) (before· .blocks))) Bool'.true
+          pub taken : Path'._≡_ (Row.get 8 (T3 .locals) (m2 (before· .κs) (before· .args) (before· .blocks))) Bool'.true
       pub record Then1 : Type 0 where
         pub before : Start
         pub if1 : Then1·own before
@@ -921,7 +868,7 @@ module _ (claims· : Claims) where
       m7 = λ before. s6 (before .blocks) (m2 (before .κs) (before .args) (before .blocks))
       module _ (before· : Start) where
         pub record Else1·own : Type 0 where
-          pub left : Path'._≡_ (Row.get 9 (T3 .locals) (m2 (before· .κs) (before· .args) (before· .blocks))) Bool'.false
+          pub left : Path'._≡_ (Row.get 8 (T3 .locals) (m2 (before· .κs) (before· .args) (before· .blocks))) Bool'.false
       pub record Else1 : Type 0 where
         pub before : Start
         pub if1 : Else1·own before
@@ -929,219 +876,196 @@ module _ (claims· : Claims) where
       m8 = λ before given. s7 (before .before .blocks) .next (m7 (before .before)) given
       abbrev pub m9 : (before : Else1) → (given : s7 (before .before .blocks) .gives (m7 (before .before))) → Typed.Mo T11
       m9 = λ before given. s8 (before .before .blocks) (m8 before given)
+      abbrev pub m10 : (before : Else1) → (given : s7 (before .before .blocks) .gives (m7 (before .before))) → Typed.Mo T12
+      m10 = λ before given. s9 (before .before .blocks) (m9 before given)
       module _ (before· : Else1) where
         pub record After-q·own : Type 0 where
           pub given : s7 (before· .before .blocks) .gives (m7 (before· .before))
       pub record After-q : Type 0 where
         pub before : Else1
         pub q : After-q·own before
-      abbrev pub m10 : (before : After-q) → (given : s9 (before .before .before .blocks) .gives (m9 (before .before) (before .q .given))) → Typed.Mo T12
-      m10 = λ before given. s9 (before .before .before .blocks) .next (m9 (before .before) (before .q .given)) given
-      abbrev pub m11 : (before : After-q) → (given : s9 (before .before .before .blocks) .gives (m9 (before .before) (before .q .given))) → Typed.Mo T13
-      m11 = λ before given. s10 (before .before .before .blocks) (m10 before given)
-      abbrev pub m12 : (before : After-q) → (given : s9 (before .before .before .blocks) .gives (m9 (before .before) (before .q .given))) → Typed.Mo T14
-      m12 = λ before given. s11 (before .before .before .blocks) (m11 before given)
-      module _ (before· : After-q) where
-        pub record After-l·own : Type 0 where
-          pub given : s9 (before· .before .before .blocks) .gives (m9 (before· .before) (before· .q .given))
-      pub record After-l : Type 0 where
-        pub before : After-q
-        pub l : After-l·own before
       abbrev pub Need-has-ended-requires : Type 0
-      Need-has-ended-requires = (c : After-l) → s12 (c .before .before .before .blocks) .asks (m12 (c .before) (c .l .given))
-      abbrev pub m13 : (before : After-l) → (given : s12 (before .before .before .before .blocks) .gives (m12 (before .before) (before .l .given))) → Typed.Mo
-          T15
-      m13 = λ before given. s12 (before .before .before .before .blocks) .next (m12 (before .before) (before .l .given)) given
-      module _ (before· : After-l) where
+      Need-has-ended-requires = (c : After-q) → s10 (c .before .before .blocks) .asks (m10 (c .before) (c .q .given))
+      abbrev pub m11 : (before : After-q) → (given : s10 (before .before .before .blocks) .gives (m10 (before .before) (before .q .given))) → Typed.Mo T13
+      m11 = λ before given. s10 (before .before .before .blocks) .next (m10 (before .before) (before .q .given)) given
+      module _ (before· : After-q) where
         abbrev pub After-has-ended·own : Type 0
-        After-has-ended·own = Called.Called ps·0 r·0 (claims· .1) T14 (record { pos = 8; st = []; d = 0; at = λ x. x }, tt) (m12 (before· .before) (before· .l
+        After-has-ended·own = Called.Called ps·0 r·0 (claims· .1) T12 (record { pos = 7; st = []; d = 0; at = λ x. x }, tt) (m10 (before· .before) (before· .q
             .given))
       pub record After-has-ended : Type 0 where
-        pub before : After-l
+        pub before : After-q
         pub has-ended : After-has-ended·own before
-      abbrev pub After-has-ended·gave : (c : After-has-ended) → s12 (c .before .before .before .before .blocks) .gives (m12 (c .before .before) (c .before .l
-          .given))
-      After-has-ended·gave = λ c. Called.given ps·0 r·0 (claims· .1) T14 (record { pos = 8; st = []; d = 0; at = λ x. x }, tt) (m12 (c .before .before) (c
-          .before .l .given)) (c .has-ended)
-      abbrev W2 : (before : After-l) → (given : s12 (before .before .before .before .blocks) .gives (m12 (before .before) (before .l .given))) → Typed.Want O2
-      W2 = λ before given. Typed.wantNext T16 O0 (at33 (before .before .before .before .blocks) (W0 (before .before .before .before .κs) (before .before
-          .before .before .args) (before .before .before .before .blocks))) (W0 (before .before .before .before .κs) (before .before .before .before .args)
-          (before .before .before .before .blocks))
-      abbrev pub m14 : (before : After-l) → (given : s12 (before .before .before .before .blocks) .gives (m12 (before .before) (before .l .given))) → Typed.Mo
-          T17
-      m14 = λ before given. s13 (before .before .before .before .blocks) (m13 before given)
-      abbrev pub m15 : (before : After-has-ended) → Typed.Mo T18
-      m15 = λ before. s14 (before .before .before .before .before .blocks) (m14 (before .before) (After-has-ended·gave before))
+      abbrev pub After-has-ended·gave : (c : After-has-ended) → s10 (c .before .before .before .blocks) .gives (m10 (c .before .before) (c .before .q .given))
+      After-has-ended·gave = λ c. Called.given ps·0 r·0 (claims· .1) T12 (record { pos = 7; st = []; d = 0; at = λ x. x }, tt) (m10 (c .before .before) (c
+          .before .q .given)) (c .has-ended)
+      abbrev W2 : (before : After-q) → (given : s10 (before .before .before .blocks) .gives (m10 (before .before) (before .q .given))) → Typed.Want O2
+      W2 = λ before given. Typed.wantNext T14 O0 (at33 (before .before .before .blocks) (W0 (before .before .before .κs) (before .before .before .args)
+          (before .before .before .blocks))) (W0 (before .before .before .κs) (before .before .before .args) (before .before .before .blocks))
+      abbrev pub m12 : (before : After-q) → (given : s10 (before .before .before .blocks) .gives (m10 (before .before) (before .q .given))) → Typed.Mo T15
+      m12 = λ before given. s11 (before .before .before .blocks) (m11 before given)
+      abbrev pub m13 : (before : After-has-ended) → Typed.Mo T16
+      m13 = λ before. s12 (before .before .before .before .blocks) (m12 (before .before) (After-has-ended·gave before))
       module _ (before· : After-has-ended) where
         pub record Then2·own : Type 0 where
-          pub taken : Path'._≡_ (Row.get 10 (T17 .locals) (m14 (before· .before) (After-has-ended·gave before·))) Bool'.true
+          pub taken : Path'._≡_ (Row.get 9 (T15 .locals) (m12 (before· .before) (After-has-ended·gave before·))) Bool'.true
       pub record Then2 : Type 0 where
         pub before : After-has-ended
         pub if2 : Then2·own before
-      abbrev pub Need-stays-requires : Type 0
-      Need-stays-requires = (c : Then2) → s15 (c .before .before .before .before .before .blocks) .asks (m15 (c .before))
-      abbrev pub m16 : (before : Then2) → (given : s15 (before .before .before .before .before .before .blocks) .gives (m15 (before .before))) → Typed.Mo T19
-      m16 = λ before given. s15 (before .before .before .before .before .before .blocks) .next (m15 (before .before)) given
+      abbrev pub Need-last-stays-requires : Type 0
+      Need-last-stays-requires = (c : Then2) → s13 (c .before .before .before .before .blocks) .asks (m13 (c .before))
+      abbrev pub m14 : (before : Then2) → (given : s13 (before .before .before .before .before .blocks) .gives (m13 (before .before))) → Typed.Mo T17
+      m14 = λ before given. s13 (before .before .before .before .before .blocks) .next (m13 (before .before)) given
       module _ (before· : Then2) where
-        abbrev pub After-stays·own : Type 0
-        After-stays·own = Called.Called ps·1 r·1 (claims· .3) T18 (record { pos = 1; ty = y6; ref = λ x. x }, (Num.vAt 6 λ x. x, (Num.vFld 7 ((Syntax.field 0)
-            ∷ []) 0 λ x. Ref.struct .as-values x .0, (Num.vFld 7 ((Syntax.field 1) ∷ []) 4 λ x. Ref.struct .as-values x .1 .0, tt)))) (m15 (before· .before))
-      pub record After-stays : Type 0 where
+        abbrev pub After-last-stays·own : Type 0
+        After-last-stays·own = Called.Called ps·1 r·1 (claims· .3) T16 (record { pos = 1; ty = y6; ref = λ x. x }, (record { pos = 5; st = []; d = 0; at = λ
+            x. x }, tt)) (m13 (before· .before))
+      pub record After-last-stays : Type 0 where
         pub before : Then2
-        pub stays : After-stays·own before
-      abbrev pub After-stays·gave : (c : After-stays) → s15 (c .before .before .before .before .before .before .blocks) .gives (m15 (c .before .before))
-      After-stays·gave = λ c. Called.given ps·1 r·1 (claims· .3) T18 (record { pos = 1; ty = y6; ref = λ x. x }, (Num.vAt 6 λ x. x, (Num.vFld 7 ((Syntax.field
-          0) ∷ []) 0 λ x. Ref.struct .as-values x .0, (Num.vFld 7 ((Syntax.field 1) ∷ []) 4 λ x. Ref.struct .as-values x .1 .0, tt)))) (m15 (c .before
-          .before)) (c .stays)
-      abbrev pub m17 : (before : Then2) → (given : s15 (before .before .before .before .before .before .blocks) .gives (m15 (before .before))) → Typed.Mo T20
-      m17 = λ before given. s16 (before .before .before .before .before .before .blocks) (m16 before given)
-      abbrev pub m18 : (before : Then2) → (given : s15 (before .before .before .before .before .before .blocks) .gives (m15 (before .before))) → Typed.Mo T21
-      m18 = λ before given. s17 (before .before .before .before .before .before .blocks) .next (m17 before given)
-      abbrev pub m19 : (before : Then2) → (given : s15 (before .before .before .before .before .before .blocks) .gives (m15 (before .before))) → Typed.Mo T22
-      m19 = λ before given. s18 (before .before .before .before .before .before .blocks) (m18 before given)
-      abbrev pub m20 : (before : After-stays) → Typed.Mo T23
-      m20 = λ before. s19 (before .before .before .before .before .before .before .blocks) (m19 (before .before) (After-stays·gave before))
-      abbrev pub m21 : (before : After-stays) → Typed.Mo T24
-      m21 = λ before. s20 (before .before .before .before .before .before .before .blocks) (m20 before)
-      abbrev pub m22 : (before : After-stays) → Typed.Mo T25
-      m22 = λ before. s21 (before .before .before .before .before .before .before .blocks) (m21 before)
-      abbrev pub m23 : (before : After-stays) → Typed.Mo T26
-      m23 = λ before. s22 (before .before .before .before .before .before .before .blocks) (m22 before)
-      abbrev pub m24 : (before : After-stays) → Typed.Mo T27
-      m24 = λ before. s23 (before .before .before .before .before .before .before .blocks) (m23 before)
-      module _ (before· : After-stays) where
+        pub last-stays : After-last-stays·own before
+      abbrev pub After-last-stays·gave : (c : After-last-stays) → s13 (c .before .before .before .before .before .blocks) .gives (m13 (c .before .before))
+      After-last-stays·gave = λ c. Called.given ps·1 r·1 (claims· .3) T16 (record { pos = 1; ty = y6; ref = λ x. x }, (record { pos = 5; st = []; d = 0; at =
+          λ x. x }, tt)) (m13 (c .before .before)) (c .last-stays)
+      abbrev pub m15 : (before : Then2) → (given : s13 (before .before .before .before .before .blocks) .gives (m13 (before .before))) → Typed.Mo T18
+      m15 = λ before given. s14 (before .before .before .before .before .blocks) (m14 before given)
+      abbrev pub m16 : (before : Then2) → (given : s13 (before .before .before .before .before .blocks) .gives (m13 (before .before))) → Typed.Mo T19
+      m16 = λ before given. s15 (before .before .before .before .before .blocks) .next (m15 before given)
+      abbrev pub m17 : (before : Then2) → (given : s13 (before .before .before .before .before .blocks) .gives (m13 (before .before))) → Typed.Mo T20
+      m17 = λ before given. s16 (before .before .before .before .before .blocks) (m16 before given)
+      abbrev pub m18 : (before : After-last-stays) → Typed.Mo T21
+      m18 = λ before. s17 (before .before .before .before .before .before .blocks) (m17 (before .before) (After-last-stays·gave before))
+      abbrev pub m19 : (before : After-last-stays) → Typed.Mo T22
+      m19 = λ before. s18 (before .before .before .before .before .before .blocks) (m18 before)
+      abbrev pub m20 : (before : After-last-stays) → Typed.Mo T23
+      m20 = λ before. s19 (before .before .before .before .before .before .blocks) (m19 before)
+      abbrev pub m21 : (before : After-last-stays) → Typed.Mo T24
+      m21 = λ before. s20 (before .before .before .before .before .before .blocks) (m20 before)
+      abbrev pub m22 : (before : After-last-stays) → Typed.Mo T25
+      m22 = λ before. s21 (before .before .before .before .before .before .blocks) (m21 before)
+      module _ (before· : After-last-stays) where
         pub record Then3·own : Type 0 where
-          pub taken : Path'._≡_ (Row.get 12 (T22 .locals) (m19 (before· .before) (After-stays·gave before·))) Bool'.true
+          pub taken : Path'._≡_ (Row.get 11 (T20 .locals) (m17 (before· .before) (After-last-stays·gave before·))) Bool'.true
       pub record Then3 : Type 0 where
-        pub before : After-stays
+        pub before : After-last-stays
         pub if3 : Then3·own before
       abbrev pub Need-returns-2 : Type 0
-      Need-returns-2 = (c : Then3) → Post· (c .before .before .before .before .before .before .before .κs) (dens (c .before .before .before .before .before
-          .before .before .κs) (c .before .before .before .before .before .before .before .args)) (Function.resV r (c .before .before .before .before .before
-          .before .before .κs) (m24 (c .before) .0)) (Clauses.atExit (Kinds.endedOf 2 ps r) (c .before .before .before .before .before .before .before .κs)
-          (dens (c .before .before .before .before .before .before .before .κs) (c .before .before .before .before .before .before .before .args))
-          (Enter.lastsP (c .before .before .before .before .before .before .before .κs) 1 ps xs (dens (c .before .before .before .before .before .before
-          .before .κs) (c .before .before .before .before .before .before .before .args)) (m24 (c .before) .1)))
-      abbrev pub m25 : (before : After-stays) → Typed.Mo T28
-      m25 = λ before. s24 (before .before .before .before .before .before .before .blocks) (m19 (before .before) (After-stays·gave before))
-      module _ (before· : After-stays) where
+      Need-returns-2 = (c : Then3) → Post· (c .before .before .before .before .before .before .κs) (dens (c .before .before .before .before .before .before
+          .κs) (c .before .before .before .before .before .before .args)) (Function.resV r (c .before .before .before .before .before .before .κs) (m22 (c
+          .before) .0)) (Clauses.atExit (Kinds.endedOf 2 ps r) (c .before .before .before .before .before .before .κs) (dens (c .before .before .before
+          .before .before .before .κs) (c .before .before .before .before .before .before .args)) (Enter.lastsP (c .before .before .before .before .before
+          .before .κs) 1 ps xs (dens (c .before .before .before .before .before .before .κs) (c .before .before .before .before .before .before .args)) (m22
+          (c .before) .1)))
+      abbrev pub m23 : (before : After-last-stays) → Typed.Mo T26
+      m23 = λ before. s22 (before .before .before .before .before .before .blocks) (m17 (before .before) (After-last-stays·gave before))
+      module _ (before· : After-last-stays) where
         pub record Else3·own : Type 0 where
-          pub left : Path'._≡_ (Row.get 12 (T22 .locals) (m19 (before· .before) (After-stays·gave before·))) Bool'.false
+          pub left : Path'._≡_ (Row.get 11 (T20 .locals) (m17 (before· .before) (After-last-stays·gave before·))) Bool'.false
       pub record Else3 : Type 0 where
-        pub before : After-stays
+        pub before : After-last-stays
         pub if3 : Else3·own before
-      abbrev pub m26 : (before : After-has-ended) → Typed.Mo T29
-      m26 = λ before. s25 (before .before .before .before .before .blocks) (m14 (before .before) (After-has-ended·gave before))
-      abbrev pub m27 : (before : After-has-ended) → Typed.Mo T30
-      m27 = λ before. s26 (before .before .before .before .before .blocks) (m26 before)
+      abbrev pub m24 : (before : After-has-ended) → Typed.Mo T27
+      m24 = λ before. s23 (before .before .before .before .blocks) (m12 (before .before) (After-has-ended·gave before))
+      abbrev pub m25 : (before : After-has-ended) → Typed.Mo T28
+      m25 = λ before. s24 (before .before .before .before .blocks) (m24 before)
       module _ (before· : After-has-ended) where
         pub record Else2·own : Type 0 where
-          pub left : Path'._≡_ (Row.get 10 (T17 .locals) (m14 (before· .before) (After-has-ended·gave before·))) Bool'.false
+          pub left : Path'._≡_ (Row.get 9 (T15 .locals) (m12 (before· .before) (After-has-ended·gave before·))) Bool'.false
       pub record Else2 : Type 0 where
         pub before : After-has-ended
         pub if2 : Else2·own before
-      abbrev pub m28 : (before : After-has-ended) → Typed.Mo T16
-      m28 = λ before. Row.set 12 (12, Rows.any-gone Syntax.tyBool) tt (Row.setRow 11 (11, Rows.any-gone Syntax.tyBool) (Row.setRow 10 (10, Rows.any-gone
-          Syntax.tyBool) (Row.setRow 7 (7, Rows.any-gone y1) (T17 .locals)))) (Row.set 11 (11, Rows.any-gone Syntax.tyBool) tt (Row.setRow 10 (10,
-          Rows.any-gone Syntax.tyBool) (Row.setRow 7 (7, Rows.any-gone y1) (T17 .locals))) (Row.set 10 (10, Rows.any-gone Syntax.tyBool) tt (Row.setRow 7 (7,
-          Rows.any-gone y1) (T17 .locals)) (Row.set 7 (7, Rows.any-gone y1) tt (T17 .locals) (m14 (before .before) (After-has-ended·gave before)))))
+      abbrev pub m26 : (before : After-has-ended) → Typed.Mo T14
+      m26 = λ before. Row.set 11 (11, Rows.any-gone Syntax.tyBool) tt (Row.setRow 10 (10, Rows.any-gone Syntax.tyBool) (Row.setRow 9 (9, Rows.any-gone
+          Syntax.tyBool) (Row.setRow 5 (5, Rows.any-gone y5) (T15 .locals)))) (Row.set 10 (10, Rows.any-gone Syntax.tyBool) tt (Row.setRow 9 (9, Rows.any-gone
+          Syntax.tyBool) (Row.setRow 5 (5, Rows.any-gone y5) (T15 .locals))) (Row.set 9 (9, Rows.any-gone Syntax.tyBool) tt (Row.setRow 5 (5, Rows.any-gone
+          y5) (T15 .locals)) (Row.set 5 (5, Rows.any-gone y5) tt (T15 .locals) (m12 (before .before) (After-has-ended·gave before)))))
       module _ (before· : After-has-ended) where
         pub record Joined2·own : Type 0 where
-          pub came : Logic._⊎_ ((if2 : Then2·own before·) × (stays : After-stays·own record { before = before·; if2 = if2 }) × Else3·own record { before =
-              record { before = before·; if2 = if2 }; stays = stays }) (Else2·own before·)
+          pub came : Logic._⊎_ ((if2 : Then2·own before·) × (last-stays : After-last-stays·own record { before = before·; if2 = if2 }) × Else3·own record {
+              before = record { before = before·; if2 = if2 }; last-stays = last-stays }) (Else2·own before·)
       pub record Joined2 : Type 0 where
         pub before : After-has-ended
         pub if2 : Joined2·own before
       abbrev pub Need-deep-of-requires : Type 0
-      Need-deep-of-requires = (c : Joined2) → s27 (c .before .before .before .before .before .blocks) .asks (m28 (c .before))
-      abbrev pub m29 : (before : Joined2) → (given : s27 (before .before .before .before .before .before .blocks) .gives (m28 (before .before))) → Typed.Mo
-          T31
-      m29 = λ before given. s27 (before .before .before .before .before .before .blocks) .next (m28 (before .before)) given
+      Need-deep-of-requires = (c : Joined2) → s25 (c .before .before .before .before .blocks) .asks (m26 (c .before))
+      abbrev pub m27 : (before : Joined2) → (given : s25 (before .before .before .before .before .blocks) .gives (m26 (before .before))) → Typed.Mo T29
+      m27 = λ before given. s25 (before .before .before .before .before .blocks) .next (m26 (before .before)) given
       module _ (before· : Joined2) where
         abbrev pub After-deep-of·own : Type 0
-        After-deep-of·own = Called.Called ps·2 r·2 (claims· .5) T16 (Num.vFld 3 ((Syntax.field 1) ∷ []) 56 λ x. Reached.struct .as-values x .1 .0, tt) (m28
+        After-deep-of·own = Called.Called ps·2 r·2 (claims· .5) T14 (Num.vFld 3 ((Syntax.field 1) ∷ []) 56 λ x. Reached.struct .as-values x .1 .0, tt) (m26
             (before· .before))
       pub record After-deep-of : Type 0 where
         pub before : Joined2
         pub deep-of : After-deep-of·own before
-      abbrev pub After-deep-of·gave : (c : After-deep-of) → s27 (c .before .before .before .before .before .before .blocks) .gives (m28 (c .before .before))
-      After-deep-of·gave = λ c. Called.given ps·2 r·2 (claims· .5) T16 (Num.vFld 3 ((Syntax.field 1) ∷ []) 56 λ x. Reached.struct .as-values x .1 .0, tt) (m28
+      abbrev pub After-deep-of·gave : (c : After-deep-of) → s25 (c .before .before .before .before .before .blocks) .gives (m26 (c .before .before))
+      After-deep-of·gave = λ c. Called.given ps·2 r·2 (claims· .5) T14 (Num.vFld 3 ((Syntax.field 1) ∷ []) 56 λ x. Reached.struct .as-values x .1 .0, tt) (m26
           (c .before .before)) (c .deep-of)
-      abbrev pub m30 : (before : Joined2) → (given : s27 (before .before .before .before .before .before .blocks) .gives (m28 (before .before))) → Typed.Mo
-          T32
-      m30 = λ before given. s28 (before .before .before .before .before .before .blocks) (m29 before given)
+      abbrev pub m28 : (before : Joined2) → (given : s25 (before .before .before .before .before .blocks) .gives (m26 (before .before))) → Typed.Mo T30
+      m28 = λ before given. s26 (before .before .before .before .before .blocks) (m27 before given)
       abbrev pub Need-firsts-stay-requires : Type 0
-      Need-firsts-stay-requires = (c : After-deep-of) → s29 (c .before .before .before .before .before .before .blocks) .asks (m30 (c .before)
-          (After-deep-of·gave c))
-      abbrev pub m31 : (before : After-deep-of) → (given : s29 (before .before .before .before .before .before .before .blocks) .gives (m30 (before .before)
-          (After-deep-of·gave before))) → Typed.Mo T33
-      m31 = λ before given. s29 (before .before .before .before .before .before .before .blocks) .next (m30 (before .before) (After-deep-of·gave before))
-          given
+      Need-firsts-stay-requires = (c : After-deep-of) → s27 (c .before .before .before .before .before .blocks) .asks (m28 (c .before) (After-deep-of·gave c))
+      abbrev pub m29 : (before : After-deep-of) → (given : s27 (before .before .before .before .before .before .blocks) .gives (m28 (before .before)
+          (After-deep-of·gave before))) → Typed.Mo T31
+      m29 = λ before given. s27 (before .before .before .before .before .before .blocks) .next (m28 (before .before) (After-deep-of·gave before)) given
       module _ (before· : After-deep-of) where
         abbrev pub After-firsts-stay·own : Type 0
-        After-firsts-stay·own = Called.Called ps·3 r·3 (claims· .7) T32 (record { pos = 1; ty = y6; ref = λ x. x }, (Num.vAt 6 λ x. x, (record { pos = 2; ty =
-            y9; ref = λ x. x }, (Num.vAt 13 λ x. x, tt)))) (m30 (before· .before) (After-deep-of·gave before·))
+        After-firsts-stay·own = Called.Called ps·3 r·3 (claims· .7) T30 (record { pos = 1; ty = y6; ref = λ x. x }, (Num.vAt 6 λ x. x, (record { pos = 2; ty =
+            y9; ref = λ x. x }, (Num.vAt 12 λ x. x, tt)))) (m28 (before· .before) (After-deep-of·gave before·))
       pub record After-firsts-stay : Type 0 where
         pub before : After-deep-of
         pub firsts-stay : After-firsts-stay·own before
-      abbrev pub After-firsts-stay·gave : (c : After-firsts-stay) → s29 (c .before .before .before .before .before .before .before .blocks) .gives (m30 (c
-          .before .before) (After-deep-of·gave (c .before)))
-      After-firsts-stay·gave = λ c. Called.given ps·3 r·3 (claims· .7) T32 (record { pos = 1; ty = y6; ref = λ x. x }, (Num.vAt 6 λ x. x, (record { pos = 2;
-          ty = y9; ref = λ x. x }, (Num.vAt 13 λ x. x, tt)))) (m30 (c .before .before) (After-deep-of·gave (c .before))) (c .firsts-stay)
-      abbrev pub m32 : (before : After-deep-of) → (given : s29 (before .before .before .before .before .before .before .blocks) .gives (m30 (before .before)
+      abbrev pub After-firsts-stay·gave : (c : After-firsts-stay) → s27 (c .before .before .before .before .before .before .blocks) .gives (m28 (c .before
+          .before) (After-deep-of·gave (c .before)))
+      After-firsts-stay·gave = λ c. Called.given ps·3 r·3 (claims· .7) T30 (record { pos = 1; ty = y6; ref = λ x. x }, (Num.vAt 6 λ x. x, (record { pos = 2;
+          ty = y9; ref = λ x. x }, (Num.vAt 12 λ x. x, tt)))) (m28 (c .before .before) (After-deep-of·gave (c .before))) (c .firsts-stay)
+      abbrev pub m30 : (before : After-deep-of) → (given : s27 (before .before .before .before .before .before .blocks) .gives (m28 (before .before)
+          (After-deep-of·gave before))) → Typed.Mo T32
+      m30 = λ before given. s28 (before .before .before .before .before .before .blocks) (m29 before given)
+      abbrev pub m31 : (before : After-deep-of) → (given : s27 (before .before .before .before .before .before .blocks) .gives (m28 (before .before)
+          (After-deep-of·gave before))) → Typed.Mo T33
+      m31 = λ before given. s29 (before .before .before .before .before .before .blocks) (m30 before given)
+      abbrev pub m32 : (before : After-deep-of) → (given : s27 (before .before .before .before .before .before .blocks) .gives (m28 (before .before)
           (After-deep-of·gave before))) → Typed.Mo T34
-      m32 = λ before given. s30 (before .before .before .before .before .before .before .blocks) (m31 before given)
-      abbrev pub m33 : (before : After-deep-of) → (given : s29 (before .before .before .before .before .before .before .blocks) .gives (m30 (before .before)
-          (After-deep-of·gave before))) → Typed.Mo T35
-      m33 = λ before given. s31 (before .before .before .before .before .before .before .blocks) (m32 before given)
-      abbrev pub m34 : (before : After-deep-of) → (given : s29 (before .before .before .before .before .before .before .blocks) .gives (m30 (before .before)
-          (After-deep-of·gave before))) → Typed.Mo T36
-      m34 = λ before given. s32 (before .before .before .before .before .before .before .blocks) (m33 before given)
+      m32 = λ before given. s30 (before .before .before .before .before .before .blocks) (m31 before given)
       abbrev pub Need-returns-3 : Type 0
-      Need-returns-3 = (c : After-firsts-stay) → Post· (c .before .before .before .before .before .before .before .κs) (dens (c .before .before .before
-          .before .before .before .before .κs) (c .before .before .before .before .before .before .before .args)) (Function.resV r (c .before .before .before
-          .before .before .before .before .κs) (m34 (c .before) (After-firsts-stay·gave c) .0)) (Clauses.atExit (Kinds.endedOf 2 ps r) (c .before .before
-          .before .before .before .before .before .κs) (dens (c .before .before .before .before .before .before .before .κs) (c .before .before .before
-          .before .before .before .before .args)) (Enter.lastsP (c .before .before .before .before .before .before .before .κs) 1 ps xs (dens (c .before
-          .before .before .before .before .before .before .κs) (c .before .before .before .before .before .before .before .args)) (m34 (c .before)
-          (After-firsts-stay·gave c) .1)))
-      module _ (returns : Need-returns) (has-ended-requires : Need-has-ended-requires) (stays-requires : Need-stays-requires) (returns-2 : Need-returns-2)
-          (deep-of-requires : Need-deep-of-requires) (firsts-stay-requires : Need-firsts-stay-requires) (returns-3 : Need-returns-3) where
-        lay6 : (c : After-firsts-stay) → at30 (c .before .before .before .before .before .before .before .blocks) (W0 (c .before .before .before .before
-            .before .before .before .κs) (c .before .before .before .before .before .before .before .args) (c .before .before .before .before .before .before
-            .before .blocks)) (m31 (c .before) (After-firsts-stay·gave c))
+      Need-returns-3 = (c : After-firsts-stay) → Post· (c .before .before .before .before .before .before .κs) (dens (c .before .before .before .before
+          .before .before .κs) (c .before .before .before .before .before .before .args)) (Function.resV r (c .before .before .before .before .before .before
+          .κs) (m32 (c .before) (After-firsts-stay·gave c) .0)) (Clauses.atExit (Kinds.endedOf 2 ps r) (c .before .before .before .before .before .before .κs)
+          (dens (c .before .before .before .before .before .before .κs) (c .before .before .before .before .before .before .args)) (Enter.lastsP (c .before
+          .before .before .before .before .before .κs) 1 ps xs (dens (c .before .before .before .before .before .before .κs) (c .before .before .before
+          .before .before .before .args)) (m32 (c .before) (After-firsts-stay·gave c) .1)))
+      module _ (returns : Need-returns) (has-ended-requires : Need-has-ended-requires) (last-stays-requires : Need-last-stays-requires) (returns-2 :
+          Need-returns-2) (deep-of-requires : Need-deep-of-requires) (firsts-stay-requires : Need-firsts-stay-requires) (returns-3 : Need-returns-3) where
+        lay6 : (c : After-firsts-stay) → at30 (c .before .before .before .before .before .before .blocks) (W0 (c .before .before .before .before .before
+            .before .κs) (c .before .before .before .before .before .before .args) (c .before .before .before .before .before .before .blocks)) (m29 (c
+            .before) (After-firsts-stay·gave c))
         lay6 = λ c. ((Path'.refl, (Path'.refl, (tt, tt))), returns-3 record { before = c .before; firsts-stay = c .firsts-stay })
-        lay5 : (c : After-deep-of) → at32 (c .before .before .before .before .before .before .blocks) (W0 (c .before .before .before .before .before .before
-            .κs) (c .before .before .before .before .before .before .args) (c .before .before .before .before .before .before .blocks)) (m29 (c .before)
-            (After-deep-of·gave c))
+        lay5 : (c : After-deep-of) → at32 (c .before .before .before .before .before .blocks) (W0 (c .before .before .before .before .before .κs) (c .before
+            .before .before .before .before .args) (c .before .before .before .before .before .blocks)) (m27 (c .before) (After-deep-of·gave c))
         lay5 = λ c. (firsts-stay-requires record { before = c .before; deep-of = c .deep-of }, λ g. lay6 record { before = record { before = c .before;
-            deep-of = c .deep-of }; firsts-stay = Called.called ps·3 r·3 (claims· .7) T32 (record { pos = 1; ty = y6; ref = λ x. x }, (Num.vAt 6 λ x. x,
-            (record { pos = 2; ty = y9; ref = λ x. x }, (Num.vAt 13 λ x. x, tt)))) (m30 (c .before) (After-deep-of·gave c)) g })
-        lay4 : (c : Joined2) → at33 (c .before .before .before .before .before .blocks) (W0 (c .before .before .before .before .before .κs) (c .before .before
-            .before .before .before .args) (c .before .before .before .before .before .blocks)) (m28 (c .before))
+            deep-of = c .deep-of }; firsts-stay = Called.called ps·3 r·3 (claims· .7) T30 (record { pos = 1; ty = y6; ref = λ x. x }, (Num.vAt 6 λ x. x,
+            (record { pos = 2; ty = y9; ref = λ x. x }, (Num.vAt 12 λ x. x, tt)))) (m28 (c .before) (After-deep-of·gave c)) g })
+        lay4 : (c : Joined2) → at33 (c .before .before .before .before .blocks) (W0 (c .before .before .before .before .κs) (c .before .before .before .before
+            .args) (c .before .before .before .before .blocks)) (m26 (c .before))
         unfolding at33
         lay4 = λ c. (deep-of-requires record { before = c .before; if2 = c .if2 }, λ g. lay5 record { before = record { before = c .before; if2 = c .if2 };
-            deep-of = Called.called ps·2 r·2 (claims· .5) T16 (Num.vFld 3 ((Syntax.field 1) ∷ []) 56 λ x. Reached.struct .as-values x .1 .0, tt) (m28 (c
+            deep-of = Called.called ps·2 r·2 (claims· .5) T14 (Num.vFld 3 ((Syntax.field 1) ∷ []) 56 λ x. Reached.struct .as-values x .1 .0, tt) (m26 (c
             .before)) g })
-        lay3 : (c : After-stays) → at19 (c .before .before .before .before .before .before .blocks) (W2 (c .before .before .before) (After-has-ended·gave (c
-            .before .before))) (m16 (c .before) (After-stays·gave c))
-        lay3 = λ c. (tt, (λ taken. ((Path'.refl, (Path'.refl, (tt, tt))), returns-2 record { before = record { before = c .before; stays = c .stays }; if3 =
-            record { taken = taken } }), λ left. lay4 record { before = record { before = c .before .before .before; has-ended = c .before .before .has-ended
-            }; if2 = record { came = Logic.inl (c .before .if2, c .stays, record { left = left }) } }))
-        lay2 : (c : After-has-ended) → at34 (c .before .before .before .before .blocks) (W0 (c .before .before .before .before .κs) (c .before .before .before
-            .before .args) (c .before .before .before .before .blocks)) (m13 (c .before) (After-has-ended·gave c))
-        lay2 = λ c. (λ taken. (stays-requires record { before = record { before = c .before; has-ended = c .has-ended }; if2 = record { taken = taken } }, λ
-            g. lay3 record { before = record { before = record { before = c .before; has-ended = c .has-ended }; if2 = record { taken = taken } }; stays =
-            Called.called ps·1 r·1 (claims· .3) T18 (record { pos = 1; ty = y6; ref = λ x. x }, (Num.vAt 6 λ x. x, (Num.vFld 7 ((Syntax.field 0) ∷ []) 0 λ x.
-            Ref.struct .as-values x .0, (Num.vFld 7 ((Syntax.field 1) ∷ []) 4 λ x. Ref.struct .as-values x .1 .0, tt)))) (m15 record { before = c .before;
-            has-ended = c .has-ended }) g }), λ left. lay4 record { before = record { before = c .before; has-ended = c .has-ended }; if2 = record { came =
-            Logic.inr record { left = left } } })
-        lay1 : (c : Else1) → at40 (c .before .blocks) (W0 (c .before .κs) (c .before .args) (c .before .blocks)) (m7 (c .before))
-        lay1 = λ c. (tt, λ g. (tt, λ g'. (has-ended-requires record { before = record { before = record { before = c .before; if1 = c .if1 }; q = record {
-            given = g } }; l = record { given = g' } }, λ g''. lay2 record { before = record { before = record { before = record { before = c .before; if1 = c
-            .if1 }; q = record { given = g } }; l = record { given = g' } }; has-ended = Called.called ps·0 r·0 (claims· .1) T14 (record { pos = 8; st = []; d
-            = 0; at = λ x. x }, tt) (m12 record { before = record { before = c .before; if1 = c .if1 }; q = record { given = g } } g') g'' })))
-        pub laid : (c : Start) → at43 (c .blocks) (W0 (c .κs) (c .args) (c .blocks)) (m0 (c .κs) (c .args) (c .blocks))
+        lay3 : (c : After-last-stays) → at19 (c .before .before .before .before .before .blocks) (W2 (c .before .before .before) (After-has-ended·gave (c
+            .before .before))) (m14 (c .before) (After-last-stays·gave c))
+        lay3 = λ c. (tt, (λ taken. ((Path'.refl, (Path'.refl, (tt, tt))), returns-2 record { before = record { before = c .before; last-stays = c .last-stays
+            }; if3 = record { taken = taken } }), λ left. lay4 record { before = record { before = c .before .before .before; has-ended = c .before .before
+            .has-ended }; if2 = record { came = Logic.inl (c .before .if2, c .last-stays, record { left = left }) } }))
+        lay2 : (c : After-has-ended) → at34 (c .before .before .before .blocks) (W0 (c .before .before .before .κs) (c .before .before .before .args) (c
+            .before .before .before .blocks)) (m11 (c .before) (After-has-ended·gave c))
+        lay2 = λ c. (λ taken. (last-stays-requires record { before = record { before = c .before; has-ended = c .has-ended }; if2 = record { taken = taken }
+            }, λ g. lay3 record { before = record { before = record { before = c .before; has-ended = c .has-ended }; if2 = record { taken = taken } };
+            last-stays = Called.called ps·1 r·1 (claims· .3) T16 (record { pos = 1; ty = y6; ref = λ x. x }, (record { pos = 5; st = []; d = 0; at = λ x. x },
+            tt)) (m13 record { before = c .before; has-ended = c .has-ended }) g }), λ left. lay4 record { before = record { before = c .before; has-ended = c
+            .has-ended }; if2 = record { came = Logic.inr record { left = left } } })
+        lay1 : (c : Else1) → at38 (c .before .blocks) (W0 (c .before .κs) (c .before .args) (c .before .blocks)) (m7 (c .before))
+        lay1 = λ c. (tt, λ g. (has-ended-requires record { before = record { before = c .before; if1 = c .if1 }; q = record { given = g } }, λ g'. lay2 record
+            { before = record { before = record { before = c .before; if1 = c .if1 }; q = record { given = g } }; has-ended = Called.called ps·0 r·0 (claims·
+            .1) T12 (record { pos = 7; st = []; d = 0; at = λ x. x }, tt) (m10 record { before = c .before; if1 = c .if1 } g) g' }))
+        pub laid : (c : Start) → at41 (c .blocks) (W0 (c .κs) (c .args) (c .blocks)) (m0 (c .κs) (c .args) (c .blocks))
         laid = λ c. (λ taken. ((Path'.refl, (Path'.refl, (tt, tt))), returns record { before = c; if1 = record { taken = taken } }), λ left. lay1 record {
             before = c; if1 = record { left = left } })
         module _ (κs : Lifetimes.Lfts 2) (qs : Lifetimes.Shares 2) where
@@ -1149,7 +1073,7 @@ module _ (claims· : Claims) where
               (Post· κs a)) (Function.init 2 ps r xs m κs qs a)
           asked = λ a good pre bs. laid record { κs = κs; args = record { t = a .0; o = a .1 .0; r = a .1 .1 .0 }; blocks = bs; good = good; pre = pre }
         module _ {M : Type 1} (𝓤 : URA.URA M) (H : Wp.Heap 𝓤) (A : Atoms.Atoms 𝓤) (W : Kit.Given 𝓤 H A) (𝓣 : Wp.Tables 𝓤 H) (known0 : Plain.Known 𝓤 H A W 𝓣 0
-            ps·0 r·0 (claims· .0) (claims· .1) "blocks::has_ended") (known1 : Plain.Known 𝓤 H A W 𝓣 1 ps·1 r·1 (claims· .2) (claims· .3) "blocks::stays")
+            ps·0 r·0 (claims· .0) (claims· .1) "blocks::has_ended") (known1 : Plain.Known 𝓤 H A W 𝓣 1 ps·1 r·1 (claims· .2) (claims· .3) "blocks::last_stays")
             (known2 : Plain.Known 𝓤 H A W 𝓣 0 ps·2 r·2 (claims· .4) (claims· .5) "blocks::deep_of") (known3 : Plain.Known 𝓤 H A W 𝓣 2 ps·3 r·3 (claims· .6)
             (claims· .7) "blocks::firsts_stay") where
           pub spec : Statement.Triple 𝓤 (Wp.WpFn 𝓤 H (𝓣 .C) (𝓣 .Λ) (Function.fnOf 2 ps r xs m hs body)) (Function.plainOf 𝓤 H A 2 ps r Pre· Post·)

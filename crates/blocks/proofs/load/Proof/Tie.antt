@@ -1,5 +1,5 @@
 -- Generated: the needs of load at its contract, and how its theorem closes.
--- From eec01787ca9aefac, as 196e40035756466f.
+-- From d3d4f4b232ba5a7b, as 196e40035756466f.
 use borrow.Fn.Run
 use borrow.Fn.Written
 use contract.Running.{givenOf, tablesOf}
