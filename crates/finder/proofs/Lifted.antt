@@ -1,5 +1,5 @@
 -- Generated: what callers cite of the lifted functions.
--- From 2e0a1ba9a7875d0e, as e27836c96ad268d8.
+-- From af84eaee5d593c9a, as e27836c96ad268d8.
 pub mod some_word
 pub mod least_word
 pub mod start_word

@@ -1,5 +1,5 @@
 -- Generated: what callers cite of clear_all.
--- From d3cb2f4840a250e8, as 4e9f99fb33ec7e35.
+-- From 06f934e7881b1c65, as 4e9f99fb33ec7e35.
 use Rattle.node_records.proofs.Tables.NodeRecord as NodeRecordT
 use borrow.Fn.Kinds
 use borrow.Kind.MutSlice

@@ -1,5 +1,5 @@
 -- Generated: what callers cite of combine.
--- From d3cb2f4840a250e8, as fe5c81e537d6836b.
+-- From 06f934e7881b1c65, as fe5c81e537d6836b.
 use Rattle.meeting.proofs.Writing
 use Rattle.meeting.proofs.Writing.Laws
 use Rattle.node_records.proofs.Tables.NodeRecord as NodeRecordT

@@ -1,5 +1,5 @@
 -- Generated: what callers cite of walk_down.
--- From fc2f5aa0bad04c21, as 27a05ba2eb9a4923.
+-- From c3becf4235387887, as 27a05ba2eb9a4923.
 use Rattle.answers.proofs.Verdict
 use Rattle.answers.proofs.Verdict.Laws
 use Rattle.node_records.proofs.Edge

@@ -1,5 +1,5 @@
 -- Generated: what callers cite of search_text.
--- From 2e0a1ba9a7875d0e, as 1b99f9eec195277d.
+-- From af84eaee5d593c9a, as 1b99f9eec195277d.
 use Rattle.node_records.proofs.Tables.NodeRecord as NodeRecordT
 use borrow.Fn.Kinds
 use borrow.Kind.MutSlice

@@ -1,5 +1,5 @@
 -- Generated: what callers cite of seek.
--- From 2e0a1ba9a7875d0e, as 8eee37490700d3a8.
+-- From af84eaee5d593c9a, as 8eee37490700d3a8.
 use Rattle.finder.proofs.Sought
 use Rattle.finder.proofs.Sought.Laws
 use Rattle.node_records.proofs.Tables.NodeRecord as NodeRecordT

@@ -1,5 +1,5 @@
 -- Generated: what callers cite of word_from.
--- From 2e0a1ba9a7875d0e, as cdc0d8c7a93ba480.
+-- From af84eaee5d593c9a, as cdc0d8c7a93ba480.
 use Rattle.node_records.proofs.Edge
 use Rattle.node_records.proofs.Edge.Laws
 use Rattle.node_records.proofs.Tables.NodeRecord as NodeRecordT

@@ -1,5 +1,5 @@
 -- Generated: what callers cite of rule_check.
--- From cb3679ff6445d1bd, as ad50fe5e265bc27b.
+-- From 553f271bdc6d0ff4, as ad50fe5e265bc27b.
 use Rattle.c_answers.proofs.RuleChecked
 use Rattle.c_answers.proofs.RuleChecked.Laws
 use Rattle.node_records.proofs.Tables.NodeRecord as NodeRecordT

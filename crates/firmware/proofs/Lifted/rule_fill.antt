@@ -1,5 +1,5 @@
 -- Generated: what callers cite of rule_fill.
--- From cb3679ff6445d1bd, as 820be47d1d58c220.
+-- From 553f271bdc6d0ff4, as 820be47d1d58c220.
 use Rattle.c_answers.proofs.RuleFilled
 use Rattle.c_answers.proofs.RuleFilled.Laws
 use Rattle.node_records.proofs.Tables.NodeRecord as NodeRecordT

@@ -1,5 +1,5 @@
 -- Generated: what callers cite of texts.
--- From 3de5421630097740, as 26257b2abaf436a4.
+-- From ceff48a87e0890f4, as 26257b2abaf436a4.
 use Rattle.blocks.proofs.Block
 use Rattle.blocks.proofs.Block.Laws
 use Rattle.meeting.proofs.Progress

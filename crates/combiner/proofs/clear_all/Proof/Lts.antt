@@ -1,5 +1,5 @@
 -- Generated: the derivation of a body.
--- From d3cb2f4840a250e8, as dd2347f865cfbfc3.
+-- From 06f934e7881b1c65, as dd2347f865cfbfc3.
 use Prim.Native.Nat
 use Rattle.node_records.proofs.Tables.NodeRecord as NodeRecordT
 use borrow.Author.Called

@@ -1,5 +1,5 @@
 -- Generated: the derivation of a body.
--- From d3cb2f4840a250e8, as dc715953736c98c6.
+-- From 06f934e7881b1c65, as dc715953736c98c6.
 use Prim.Native.Nat
 use Rattle.answers.proofs.Refusal
 use Rattle.answers.proofs.Refusal.Laws

@@ -1,5 +1,5 @@
 -- Generated: the needs of combine at its contract, and how its theorem closes.
--- From d3cb2f4840a250e8, as d654268e01b4ad44.
+-- From 06f934e7881b1c65, as d654268e01b4ad44.
 use borrow.Fn.Run
 use borrow.Fn.Written
 use contract.Running.{givenOf, tablesOf}

@@ -1,5 +1,5 @@
 -- Generated: the derivation of a body.
--- From d3cb2f4840a250e8, as bba38df7ae298368.
+-- From 06f934e7881b1c65, as bba38df7ae298368.
 use Prim.Native.Nat
 use Rattle.blocks.proofs.Block
 use Rattle.blocks.proofs.Block.Laws

@@ -1,5 +1,5 @@
 -- Generated: the needs of enter at its contract, and how its theorem closes.
--- From d3cb2f4840a250e8, as ee489e9bb4de354d.
+-- From 06f934e7881b1c65, as ee489e9bb4de354d.
 use borrow.Fn.Run
 use borrow.Fn.Written
 use contract.Running.{givenOf, tablesOf}

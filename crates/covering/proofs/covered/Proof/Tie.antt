@@ -1,5 +1,5 @@
 -- Generated: the needs of covered at its contract, and how its theorem closes.
--- From 8227b92c5991b942, as 6badf3e5cecf981d.
+-- From 2d40ec7ffb554c72, as 6badf3e5cecf981d.
 use borrow.Fn.Run
 use borrow.Fn.Written
 use contract.Running.{givenOf, tablesOf}

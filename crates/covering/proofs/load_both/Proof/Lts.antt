@@ -1,5 +1,5 @@
 -- Generated: the derivation of a body.
--- From 8227b92c5991b942, as 40c8be6478946e38.
+-- From 2d40ec7ffb554c72, as 40c8be6478946e38.
 use Prim.Native.Nat
 use Rattle.answers.proofs.Checked
 use Rattle.answers.proofs.Checked.Laws

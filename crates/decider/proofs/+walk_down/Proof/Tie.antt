@@ -1,5 +1,5 @@
 -- Generated: how the theorem of walk_down, which calls itself, closes.
--- From fc2f5aa0bad04c21, as e26671d802512e8a.
+-- From c3becf4235387887, as e26671d802512e8a.
 use Prim.Native.Nat.{ℕ, _<_}
 use borrow.Fn.Kinds.{In}
 use borrow.Fn.PlainCycle

@@ -1,5 +1,5 @@
 -- Generated: the derivation of a body.
--- From fc2f5aa0bad04c21, as 86836fbdd831dc37.
+-- From c3becf4235387887, as 86836fbdd831dc37.
 use Prim.Native.Nat
 use Rattle.answers.proofs.Deciding
 use Rattle.answers.proofs.Deciding.Laws

@@ -1,5 +1,5 @@
 -- Generated: the needs of word_at at its contract, and how its theorem closes.
--- From fc2f5aa0bad04c21, as b576c79ad5664a11.
+-- From c3becf4235387887, as b576c79ad5664a11.
 use borrow.Fn.Run
 use borrow.Fn.Written
 use contract.Running.{givenOf, tablesOf}

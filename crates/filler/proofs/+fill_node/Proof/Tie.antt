@@ -1,5 +1,5 @@
 -- Generated: how the theorem of fill_node, which calls itself, closes.
--- From 744cf17257d49f13, as 4ff9df7fa77b3f43.
+-- From 15ec96374cf112f2, as 4ff9df7fa77b3f43.
 use Prim.Native.Nat.{ℕ, _<_}
 use borrow.Fn.Kinds.{In}
 use borrow.Fn.PlainCycle

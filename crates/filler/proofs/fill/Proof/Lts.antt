@@ -1,5 +1,5 @@
 -- Generated: the derivation of a body.
--- From 744cf17257d49f13, as fdff0890a4f18596.
+-- From 15ec96374cf112f2, as fdff0890a4f18596.
 use Prim.Native.Nat
 use Rattle.answers.proofs.Filling
 use Rattle.answers.proofs.Filling.Laws

@@ -1,5 +1,5 @@
 -- Generated: the derivation of a body.
--- From 744cf17257d49f13, as e08123d553e36301.
+-- From 15ec96374cf112f2, as e08123d553e36301.
 use Prim.Native.Nat
 use Rattle.cursors.proofs.Cursor
 use Rattle.cursors.proofs.Cursor.Laws

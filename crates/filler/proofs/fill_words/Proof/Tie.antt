@@ -1,5 +1,5 @@
 -- Generated: the needs of fill_words at its contract, and how its theorem closes.
--- From 744cf17257d49f13, as bae73e9930f1acf1.
+-- From 15ec96374cf112f2, as bae73e9930f1acf1.
 use borrow.Fn.Run
 use borrow.Fn.Written
 use contract.Running.{givenOf, tablesOf}

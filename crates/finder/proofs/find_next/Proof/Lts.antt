@@ -1,5 +1,5 @@
 -- Generated: the derivation of a body.
--- From 2e0a1ba9a7875d0e, as 0fad0e2c5d190c0c.
+-- From af84eaee5d593c9a, as 0fad0e2c5d190c0c.
 use Prim.Native.Nat
 use Rattle.answers.proofs.Finding
 use Rattle.answers.proofs.Finding.Laws

@@ -1,5 +1,5 @@
 -- Generated: the derivation of a body.
--- From 2e0a1ba9a7875d0e, as c2014d183cea6ef6.
+-- From af84eaee5d593c9a, as c2014d183cea6ef6.
 use Prim.Native.Nat
 use Rattle.answers.proofs.Checked
 use Rattle.answers.proofs.Checked.Laws

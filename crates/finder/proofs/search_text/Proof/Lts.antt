@@ -1,5 +1,5 @@
 -- Generated: the derivation of a body.
--- From 2e0a1ba9a7875d0e, as 540bd89d117d1f08.
+-- From af84eaee5d593c9a, as 540bd89d117d1f08.
 use Prim.Native.Nat
 use Rattle.finder.proofs.Sought
 use Rattle.finder.proofs.Sought.Laws

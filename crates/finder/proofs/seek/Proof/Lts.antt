@@ -1,5 +1,5 @@
 -- Generated: the derivation of a body.
--- From 2e0a1ba9a7875d0e, as 391080dfd1c96693.
+-- From af84eaee5d593c9a, as 391080dfd1c96693.
 use Prim.Native.Nat
 use Rattle.cursors.proofs.Cursor
 use Rattle.cursors.proofs.Cursor.Laws

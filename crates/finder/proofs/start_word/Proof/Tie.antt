@@ -1,5 +1,5 @@
 -- Generated: the needs of start_word at its contract, and how its theorem closes.
--- From 2e0a1ba9a7875d0e, as 1238720a30f83012.
+-- From af84eaee5d593c9a, as 1238720a30f83012.
 use borrow.Fn.Run
 use borrow.Fn.Written
 use contract.Running.{givenOf, tablesOf}

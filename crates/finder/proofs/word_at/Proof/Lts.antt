@@ -1,5 +1,5 @@
 -- Generated: the derivation of a body.
--- From 2e0a1ba9a7875d0e, as 81f7c59ed9003f81.
+-- From af84eaee5d593c9a, as 81f7c59ed9003f81.
 use Prim.Native.Nat
 use Rattle.cursors.proofs.Run
 use Rattle.cursors.proofs.Run.Laws

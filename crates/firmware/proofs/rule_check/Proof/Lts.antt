@@ -1,5 +1,5 @@
 -- Generated: the derivation of a body.
--- From cb3679ff6445d1bd, as 9ed2b6f0ca108c30.
+-- From 553f271bdc6d0ff4, as 9ed2b6f0ca108c30.
 use Prim.Native.Nat
 use Rattle.answers.proofs.Checking
 use Rattle.answers.proofs.Checking.Laws

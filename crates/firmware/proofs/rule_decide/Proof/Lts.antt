@@ -1,5 +1,5 @@
 -- Generated: the derivation of a body.
--- From cb3679ff6445d1bd, as 41e4fdc9a611e6b8.
+-- From 553f271bdc6d0ff4, as 41e4fdc9a611e6b8.
 use Prim.Native.Nat
 use Rattle.answers.proofs.Deciding
 use Rattle.answers.proofs.Deciding.Laws

@@ -1,5 +1,5 @@
 -- Generated: the derivation of a body.
--- From cb3679ff6445d1bd, as 90891f7d7c993af9.
+-- From 553f271bdc6d0ff4, as 90891f7d7c993af9.
 use Prim.Native.Nat
 use Rattle.answers.proofs.Filling
 use Rattle.answers.proofs.Filling.Laws

@@ -1,5 +1,5 @@
 -- Generated: the derivation of a body.
--- From cb3679ff6445d1bd, as b3e894c570143545.
+-- From 553f271bdc6d0ff4, as b3e894c570143545.
 use Prim.Native.Nat
 use Rattle.answers.proofs.Finding
 use Rattle.answers.proofs.Finding.Laws

@@ -1,5 +1,5 @@
 -- Generated: the needs of rule_next at its contract, and how its theorem closes.
--- From cb3679ff6445d1bd, as 0f050eab6391c7a6.
+-- From 553f271bdc6d0ff4, as 0f050eab6391c7a6.
 use borrow.Fn.Run
 use borrow.Fn.Written
 use contract.Running.{givenOf, tablesOf}

@@ -1,5 +1,5 @@
 -- Generated: the derivation of a body.
--- From 3de5421630097740, as 12d56ebae4bdf1fe.
+-- From ceff48a87e0890f4, as 12d56ebae4bdf1fe.
 use Prim.Native.Nat
 use Rattle.blocks.proofs.Block
 use Rattle.blocks.proofs.Block.Laws

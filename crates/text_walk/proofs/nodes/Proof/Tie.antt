@@ -1,5 +1,5 @@
 -- Generated: the needs of nodes at its contract, and how its theorem closes.
--- From 3de5421630097740, as 694ebaccc28e3923.
+-- From ceff48a87e0890f4, as 694ebaccc28e3923.
 use borrow.Fn.Run
 use borrow.Fn.Written
 use contract.Running.{givenOf, tablesOf}

@@ -1,5 +1,5 @@
 -- Generated: the needs of second_on at its contract, and how its theorem closes.
--- From 3de5421630097740, as 8340f4a7ed0066cc.
+-- From ceff48a87e0890f4, as 8340f4a7ed0066cc.
 use borrow.Fn.Run
 use borrow.Fn.Written
 use contract.Running.{givenOf, tablesOf}
