@@ -1,2 +1,2 @@
 # crates/covering/src/lib.rt
-/^fn reach/,/^}/s/short, false)/short, true)/
+/^fn reach/,/^}/s/long, false)/long, true)/

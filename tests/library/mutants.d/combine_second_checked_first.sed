@@ -1,2 +1,2 @@
 # crates/combiner/src/lib.rt
-s/^    let z = both_loaded(a, b);/    let z = both_loaded(b, a);/
+s/both_loaded(l.first, l.second)/both_loaded(l.second, l.first)/

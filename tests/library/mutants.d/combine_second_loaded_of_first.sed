@@ -1,2 +1,2 @@
-# crates/combiner/src/lib.rt
-s/load(n, y, t2)/load(n, x, t2)/
+# crates/covering/src/lib.rt
+/^pub fn load_both/,/^}/s/load(n, y, t2)/load(n, x, t2)/

@@ -1,2 +1,2 @@
 # crates/combiner/src/lib.rt
-s/enter(n, y, t2, &mut o2, b, /enter(n, y, t2, \&mut o2, a, /
+s/enter(n, y, t2, &mut o2, l.second, /enter(n, y, t2, \&mut o2, l.first, /

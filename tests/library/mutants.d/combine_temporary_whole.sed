@@ -1,2 +1,2 @@
 # crates/blocks/src/lib.rt
-/^fn is_whole/,/^}/s/^    x\.stamp == l\.stamp/    true/
+/^fn stays/,/^}/s/^    x\.stamp == g/    x.stamp != 0xffffffff/

@@ -1,5 +1,5 @@
 # crates/combiner/src/lib.rt
-/^    let b = load(n, y, t2);/{
+/^    let l = load_both(/{
 n
 s/^    clear_writer_records(t);/    \/\/ clear_writer_records(t);/
 }

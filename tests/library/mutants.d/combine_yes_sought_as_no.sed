@@ -1,2 +1,2 @@
 # crates/covering/src/lib.rt
-/^fn reach/,/^}/s/short, true)/short, false)/
+/^fn reach/,/^}/s/long, true)/long, false)/

@@ -1,0 +1,2 @@
+# crates/blocks/src/lib.rt
+/^fn highest/,/^}/s/return k;/return k - 1;/

@@ -1,0 +1,2 @@
+# crates/blocks/src/lib.rt
+/^fn pair_record/,/^}/s/bit(p.complement)/0/
