@@ -6,9 +6,9 @@ use mathlib.Core.Bool.{Bool, true, false, cond, not, _&&_, _||_}
 use mathlib.Core.List.{List, _∷_}
 use Prim.Native.Nat.{ℕ, _+_, _<_, _≤_}
 use native.Mathlib.Omega.{arith}
-use lib.Dec.{ltb}
+use lib.Dec.{eqb, ltb}
 use lib.ListN.{length, replicate}
-use borrow.Author.Tests.{lt-ltb, le-ltb}
+use borrow.Author.Tests.{eq-eqb, ne-eqb, lt-ltb, le-ltb}
 use Rattle.theory_reading.specs.Limits.{optionLimit, openLimit, tableLimit, wordLimit}
 use Rattle.theory_reading.specs.Causes as C
 use Rattle.theory_reading.specs.Calls as R
@@ -126,9 +126,16 @@ rootAbove y t h =
     let d = rowCount (y .opens .depth) (contextOf (y .run .context)) in
     cond (ltb tableLimit (h + d)) (unrooted (y .run .size) t) (rootedAt y t h (larger (y .run .size) (h + d)))
 
+-- where no node is open
+abbrev pub rootedBare : ReadReached → List NodeRecord → RootTo
+rootedBare y t = record { whole = true; size = y .run .size; number = lastIn (y .run); table = t }
+
 -- The open nodes get records, above all numbers that have a node, if there is room.
 unfoldable pub rootIn : ReadReached → List NodeRecord → RootTo
-rootIn y t = cond (canRoot y t) (rootAbove y t (highestIn t (y .run .size))) (unrooted (y .run .size) t)
+rootIn y t =
+    cond (canRoot y t)
+    (cond (eqb (rowCount (y .opens .depth) (contextOf (y .run .context))) 0) (rootedBare y t) (rootAbove y t (highestIn t (y .run .size))))
+    (unrooted (y .run .size) t)
 
 -- what is made of what the loop reaches; x: the number that stands for it
 abbrev pub loadedAs : ReadReached → RootTo → LoadTo
@@ -204,15 +211,27 @@ module _ (y : ReadReached) (t : List NodeRecord) where
   unfolding rootIn
   root-cannot x c e = rw (sym c) e
 
-  -- h, d: the highest number that has a node, and the count of open nodes
-  module _ (h d : ℕ) (he : h ≡ highestIn t (y .run .size)) (de : d ≡ rowCount (y .opens .depth) (contextOf (y .run .context)))
-      (can : true ≡ canRoot y t) where
+  -- d: the count of open nodes
+  abbrev counted : ℕ
+  counted = rowCount (y .opens .depth) (contextOf (y .run .context))
+
+  pub root-bare : (d : ℕ) → d ≡ counted → true ≡ canRoot y t → d ≡ 0 → (e : ℕ) → e ≡ lastIn (y .run)
+      → record { whole = true; size = y .run .size; number = e; table = t } ≡ rootIn y t
+  unfolding rootIn
+  root-bare d de can none e ee =
+      rw (sym can, eq-eqb counted 0 (sym de ∙ none)) (ap (λ (e : ℕ). record { whole = true; size = y .run .size; number = e; table = t }) ee)
+
+  -- h: the highest number that has a node
+  module _ (h d : ℕ) (he : h ≡ highestIn t (y .run .size)) (de : d ≡ counted) (can : true ≡ canRoot y t) (some : d ≡ 0 → ⊥) where
+    real : eqb counted 0 ≡ false
+    real = ne-eqb counted 0 (λ e. some (de ∙ e))
+
     pub root-full : (x : RootTo) → tableLimit < h + d → x ≡ unrooted (y .run .size) t → x ≡ rootIn y t
     unfolding rootIn
     root-full x l e =
-        let q : ltb tableLimit (highestIn t (y .run .size) + rowCount (y .opens .depth) (contextOf (y .run .context))) ≡ true
-        = lt-ltb tableLimit (highestIn t (y .run .size) + rowCount (y .opens .depth) (contextOf (y .run .context))) (omega (arith, l, he, de)) in
-        rw (sym can, q) e
+        let q : ltb tableLimit (highestIn t (y .run .size) + counted) ≡ true
+        = lt-ltb tableLimit (highestIn t (y .run .size) + counted) (omega (arith, l, he, de)) in
+        rw (sym can, real, q) e
 
     -- z: the size; m, u: the number of the outermost node, and the table
     pub root-done : h + d ≤ tableLimit → (z : ℕ) → z ≡ larger (y .run .size) (h + d) → (m : ℕ) (u : List NodeRecord)
@@ -220,11 +239,11 @@ module _ (y : ReadReached) (t : List NodeRecord) where
         → record { whole = true; size = z; number = m; table = u } ≡ rootIn y t
     unfolding rootIn
     root-done l z ze m u p =
-        let q : ltb tableLimit (highestIn t (y .run .size) + rowCount (y .opens .depth) (contextOf (y .run .context))) ≡ false
-        = le-ltb tableLimit (highestIn t (y .run .size) + rowCount (y .opens .depth) (contextOf (y .run .context))) (omega (arith, l, he, de)) in
-        let s : z ≡ larger (y .run .size) (highestIn t (y .run .size) + rowCount (y .opens .depth) (contextOf (y .run .context))) = ze
+        let q : ltb tableLimit (highestIn t (y .run .size) + counted) ≡ false
+        = le-ltb tableLimit (highestIn t (y .run .size) + counted) (omega (arith, l, he, de)) in
+        let s : z ≡ larger (y .run .size) (highestIn t (y .run .size) + counted) = ze
         ∙ ap₂ (λ (h d : ℕ). larger (y .run .size) (h + d)) he de in
-        rw (sym can, q) (ap₂ (λ (u : List NodeRecord) (m : ℕ). record { whole = true; size = z; number = m; table = u }) (p .0) (p .1)
+        rw (sym can, real, q) (ap₂ (λ (u : List NodeRecord) (m : ℕ). record { whole = true; size = z; number = m; table = u }) (p .0) (p .1)
         ∙ ap (λ (h : ℕ). rootedAt y t h z) he
         ∙ ap (rootedAt y t (highestIn t (y .run .size))) s)
 

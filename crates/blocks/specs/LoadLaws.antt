@@ -9,7 +9,7 @@ use Prim.Native.Nat.{ℕ, suc, _+_, _<_, _≤_, _^_}
 use native.Mathlib.Omega.{arith}
 use lib.Dec.{eqb, ltb}
 use lib.ListN.{length}
-use borrow.Author.Tests.{ltb-false}
+use borrow.Author.Tests.{eqb-true, ltb-false}
 use Rattle.theory_lists.specs.Lists.{decide-le}
 use Rattle.theory_reading.specs.Limits.{optionLimit, tableLimit, wordLimit}
 use Rattle.theory_reading.specs.Nodes.{Ref, terminal, entry, temporary, child, Node, node, bars}
@@ -34,9 +34,10 @@ use Rattle.reader.specs.Loop.{firstOpens, Stands, stands-first, ReachedBy}
 use Rattle.checker.specs.CheckCorrect.{checkedBy, Reads, all-reads, check-options, check-table, check-correct}
 use Rattle.reader.specs.ReadOn.{ReadTo, readAll, read-length, read-reaches}
 use Rattle.blocks.specs.BlockLaws.{none-node, none-ordered, stands-ordered}
-use Rattle.blocks.specs.Spine.{staysIn, highestIn}
-use Rattle.blocks.specs.SpineLaws.{spine-length, spine-ordered, spine-worded, spine-extends, spine-has, spine-deep}
-use Rattle.blocks.specs.Load.{LoadTo, RootTo, unrooted, pairOpen, rowsIn, rowCount, canRoot, lastIn, rootedAt, larger, rootIn, refusedLoad, loadedAs, loadOf, load}
+use Rattle.blocks.specs.Spine.{staysIn, highestIn, spineAt}
+use Rattle.blocks.specs.SpineLaws.{highest-most, larger-not, spine-length, spine-ordered, spine-worded, spine-extends, spine-has, spine-deep}
+use Rattle.blocks.specs.Load.{LoadTo, RootTo, unrooted, pairOpen, rowsIn, rowCount, canRoot, lastIn, rootedAt, rootedBare, larger, rootIn}
+use Rattle.blocks.specs.Load.{refusedLoad, loadedAs, loadOf, load}
 use Rattle.blocks.specs.Load.{load-options, load-table, load-on}
 use Rattle.elements.specs.declared.Ref as K
 use Rattle.node_records.specs.declared.NodeRecord.{NodeRecord}
@@ -103,24 +104,63 @@ can-says y u = go (y .faulty) (ended m) refl (isTwo m) refl (staysIn u z (y .run
 
 -- the ways of rooting
 root-ways : (P : RootTo → Type 0) (y : ReadReached) (u : List NodeRecord) → P (unrooted (y .run .size) u)
+    → (CanRoot y u → rows y ≡ 0 → P (rootedBare y u))
     → (CanRoot y u → highestIn u (y .run .size) + rows y ≤ tableLimit
     → P (rootedAt y u (highestIn u (y .run .size)) (larger (y .run .size) (highestIn u (y .run .size) + rows y))))
     → P (rootIn y u)
 unfolding rootIn
-root-ways P y u none some = go (canRoot y u) refl (ltb tableLimit (highestIn u (y .run .size) + rows y)) refl
+root-ways P y u none bare some = go (canRoot y u) refl (eqb (rows y) 0) refl (ltb tableLimit (highestIn u (y .run .size) + rows y)) refl
   where
-    go : (a : Bool) → canRoot y u ≡ a → (b : Bool) → ltb tableLimit (highestIn u (y .run .size) + rows y) ≡ b
-        → P (cond a (cond b (unrooted (y .run .size) u)
-        (rootedAt y u (highestIn u (y .run .size)) (larger (y .run .size) (highestIn u (y .run .size) + rows y))))
+    go : (a : Bool) → canRoot y u ≡ a → (e : Bool) → eqb (rows y) 0 ≡ e → (b : Bool) → ltb tableLimit (highestIn u (y .run .size) + rows y) ≡ b
+        → P (cond a (cond e (rootedBare y u) (cond b (unrooted (y .run .size) u)
+        (rootedAt y u (highestIn u (y .run .size)) (larger (y .run .size) (highestIn u (y .run .size) + rows y)))))
         (unrooted (y .run .size) u))
-    go true i true j = none
-    go true i false j = some (can-says y u i) (ltb-false _ _ j)
-    go false i b j = none
+    go true i true k b j = bare (can-says y u i) (eqb-true (rows y) 0 k)
+    go true i false k true j = none
+    go true i false k false j = some (can-says y u i) (ltb-false _ _ j)
+    go false i e k b j = none
 
 root-length : (y : ReadReached) (u : List NodeRecord) → length (rootIn y u .table) ≡ length u
-root-length y u = root-ways (λ (x : RootTo). length (x .table) ≡ length u) y u refl
+root-length y u = root-ways (λ (x : RootTo). length (x .table) ≡ length u) y u refl (λ can none. refl)
     (λ can fits. spine-length (larger (y .run .size) (highestIn u (y .run .size) + rows y)) (rowsIn y) u (highestIn u (y .run .size) + 1)
     (lastIn (y .run)))
+
+count-same : (y : ReadReached) → length (rowsIn y) ≡ rows y
+count-same y = go (isTwo (contextOf (y .run .context)))
+  where
+    n-open : length (openList (y .opens)) ≡ deepOf (y .opens .depth)
+    n-open = open-length (y .opens .nodes) (deepOf (y .opens .depth))
+
+    go : (b : Bool) → length (cond b (pairOpen (y .run .pair) ∷ openList (y .opens)) (openList (y .opens)))
+        ≡ cond b (deepOf (y .opens .depth) + 1) (deepOf (y .opens .depth))
+    go true = omega (arith, n-open)
+    go false = n-open
+
+-- where no node is open nothing is put into the table
+bare-same : (y : ReadReached) (u : List NodeRecord) → rows y ≡ 0
+    → rootedAt y u (highestIn u (y .run .size)) (larger (y .run .size) (highestIn u (y .run .size) + rows y)) ≡ rootedBare y u
+bare-same y u none =
+    let size : larger (y .run .size) (highestIn u (y .run .size) + rows y) ≡ y .run .size
+    = larger-not (y .run .size) (highestIn u (y .run .size) + rows y) (omega (arith, none, highest-most u (y .run .size))) in
+    ap (rootedAt y u (highestIn u (y .run .size))) size
+    ∙ ap (λ (o : List T.Open). record {
+      whole = true;
+      size = y .run .size;
+      number = spineNumber o (highestIn u (y .run .size) + 1) (lastIn (y .run));
+      table = spineAt u (y .run .size) o (highestIn u (y .run .size) + 1) (lastIn (y .run));
+    }) (empty (rowsIn y) (count-same y ∙ none))
+  where
+    empty : (o : List T.Open) → length o ≡ 0 → o ≡ []
+    empty [] e = refl
+    empty (x ∷ o) e = absurd (omega (arith, e))
+
+-- ways of a table that is no larger than the limit
+rooted-ways : (P : RootTo → Type 0) (y : ReadReached) (u : List NodeRecord) → y .run .size ≤ tableLimit → P (unrooted (y .run .size) u)
+    → (CanRoot y u → highestIn u (y .run .size) + rows y ≤ tableLimit
+    → P (rootedAt y u (highestIn u (y .run .size)) (larger (y .run .size) (highestIn u (y .run .size) + rows y))))
+    → P (rootIn y u)
+rooted-ways P y u small none some = root-ways P y u none
+    (λ can empty. subst P (bare-same y u empty) (some can (omega (arith, small, empty, highest-most u (y .run .size))))) some
 
 -- ---- Tables that have the same nodes
 
@@ -184,17 +224,6 @@ module _ (n : ℕ) (bytes : List ℕ) (y : ReadReached) (u : List NodeRecord) (r
       go true = sym (child-of (y .run .pair .second))
       go false = sym (child-of (y .run .last))
 
-  count-same : length o ≡ rows y
-  count-same = go (isTwo (contextOf (y .run .context)))
-    where
-      n-open : length (openList (y .opens)) ≡ deepOf (y .opens .depth)
-      n-open = open-length (y .opens .nodes) (deepOf (y .opens .depth))
-
-      go : (b : Bool) → length (cond b (pairOpen (y .run .pair) ∷ openList (y .opens)) (openList (y .opens)))
-          ≡ cond b (deepOf (y .opens .depth) + 1) (deepOf (y .opens .depth))
-      go true = omega (arith, n-open)
-      go false = n-open
-
   begun : 0 < lastIn (y .run) → length o + 1 ≤ node (tableOf u size) (lastIn (y .run)) .level
   begun = subst (λ (e : ℕ). 0 < e → length o + 1 ≤ node (tableOf u size) e .level) begun-same
       (λ p. omega (
@@ -212,7 +241,7 @@ module _ (n : ℕ) (bytes : List ℕ) (y : ReadReached) (u : List NodeRecord) (r
   ordered = stands-ordered n bytes (y .run) (y .opens) u stands
 
   enough : h + length o ≤ tableLimit
-  enough = omega (arith, fits, count-same)
+  enough = omega (arith, fits, count-same y)
 
   abbrev x : RootTo
   x = rootedAt y u h (larger size (h + length o))
@@ -246,7 +275,7 @@ module _ (n : ℕ) (bytes : List ℕ) (y : ReadReached) (u : List NodeRecord) (r
 
   -- with the count of open nodes as code has it
   by-count : (P : RootTo → Type 0) → P x → P (rootedAt y u h (larger size (h + rows y)))
-  by-count P = subst (λ (d : ℕ). P (rootedAt y u h (larger size (h + d)))) count-same
+  by-count P = subst (λ (d : ℕ). P (rootedAt y u h (larger size (h + d)))) (count-same y)
 
 -- ---- Loading ---------------------------------------------------------------------------------
 
@@ -290,7 +319,7 @@ module _ (n : ℕ) (bytes : List ℕ) (t : List NodeRecord) where
   load-ordered x called = subst (λ (x : LoadTo). Ordered (tableOf (x .table) (x .size))) (sym called)
       (load-ways (λ (x : LoadTo). Ordered (tableOf (x .table) (x .size))) (λ h. none-ordered t) (λ few h. none-ordered t)
       (λ few room. let r = reaches few room .stands in
-      root-ways (λ (x : RootTo). Ordered (tableOf (x .table) (x .size))) (z .reached) (z .table)
+      rooted-ways (λ (x : RootTo). Ordered (tableOf (x .table) (x .size))) (z .reached) (z .table) (r .kept .small)
       (stands-ordered n bytes (z .reached .run) (z .reached .opens) (z .table) r)
       (λ can fits. by-count n bytes (z .reached) (z .table) (reads few room) r can fits (λ (x : RootTo). Ordered (tableOf (x .table) (x .size)))
       (rooted-ordered n bytes (z .reached) (z .table) (reads few room) r can fits))))
@@ -311,7 +340,8 @@ module _ (n : ℕ) (bytes : List ℕ) (t : List NodeRecord) (x : LoadTo) (called
       → P x
   by-whole P k = subst P (sym called) (load-ways n bytes t (λ (x : LoadTo). x .whole ≡ true → P x)
       (λ h e. absurd (false≢true e)) (λ few h e. absurd (false≢true e))
-      (λ few room. root-ways (λ (x : RootTo). x .whole ≡ true → P (loadedAs y x)) y u (λ e. absurd (false≢true e))
+      (λ few room. rooted-ways (λ (x : RootTo). x .whole ≡ true → P (loadedAs y x)) y u (reaches n bytes t few room .stands .kept .small)
+      (λ e. absurd (false≢true e))
       (λ can fits e. k (reads n bytes t few room) (reaches n bytes t few room .stands) can fits))
       (ap (λ (x : LoadTo). x .whole) (sym called) ∙ whole))
 

@@ -9,7 +9,7 @@ use Prim.Native.Nat.{ℕ, zero, suc, _+_, _-_, _<_, _≤_}
 use native.Mathlib.Omega.{arith}
 use lib.Dec.{eqb, ltb}
 use lib.ListN.{length}
-use borrow.Author.Tests.{eqb-true, ltb-true, ltb-false}
+use borrow.Author.Tests.{eqb-true, ltb-true, ltb-false, le-ltb}
 use Rattle.theory_lists.specs.Lists.{decide-eq, decide-le}
 use Rattle.theory_reading.specs.Limits.{tableLimit}
 use Rattle.theory_reading.specs.Nodes.{child, Node, node, isChild}
@@ -242,6 +242,9 @@ top-deep u (x ∷ o) k e rows h = top-deep u o (k + 1) k (rows .1) (λ p. go x (
     go (T.inSecond a b) r = omega (arith, ap (λ (y : Node). y .level) r)
 
 -- ---- The table with the open nodes -----------------------------------------------------------
+
+pub larger-not : (z m : ℕ) → m ≤ z → larger z m ≡ z
+larger-not z m l = rw (le-ltb z m l) refl
 
 larger-left : (z m : ℕ) → z ≤ larger z m
 larger-left z m = go (ltb z m) refl

@@ -374,7 +374,7 @@ fn put_rows(t: &mut [NodeRecord], z: u32, o: &[[u32; 4]; OPEN_LIMIT], r: Reached
     put_spine(t, z, o, d, k, e)
 }
 
-// The open nodes get records, above all numbers that have a node, if there is room.
+// The number of the outermost node. The open nodes get records, above all numbers that have a node, if there is room.
 fn root(t: &mut [NodeRecord], o: &[[u32; 4]; OPEN_LIMIT], r: Reached) -> Rooting
     ensures { λ x. ⌜ rootingIn x (now (t .exit)) ≡ rootIn (reachedIn r (now (o .entry))) (now (t .entry)) ⌝ }
 {
@@ -385,6 +385,13 @@ fn root(t: &mut [NodeRecord], o: &[[u32; 4]; OPEN_LIMIT], r: Reached) -> Rooting
     }
     let m = q.context;
     let d = row_count(r.depth, m);
+    if d == 0 {
+        return Rooting {
+            size: z,
+            number: last_number(q),
+            whole: true,
+        };
+    }
     let h = highest(t, z);
     if TABLE_LIMIT < h as usize + d {
         return not_rooted(z);

@@ -1,5 +1,5 @@
 -- Generated: what callers cite of can_root.
--- From d3d4f4b232ba5a7b, as b581aa4d0d67504b.
+-- From 8029e4bfdc088cdd, as b581aa4d0d67504b.
 use Rattle.node_records.proofs.Tables.NodeRecord as NodeRecordT
 use Rattle.reader.proofs.Reached
 use Rattle.reader.proofs.Reached.Laws

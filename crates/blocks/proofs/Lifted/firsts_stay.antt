@@ -1,5 +1,5 @@
 -- Generated: what callers cite of firsts_stay.
--- From d3d4f4b232ba5a7b, as d6932ea62753645f.
+-- From 8029e4bfdc088cdd, as d6932ea62753645f.
 use Rattle.node_records.proofs.Tables.NodeRecord as NodeRecordT
 use borrow.Fn.Kinds
 use borrow.Kind.ShrSlice

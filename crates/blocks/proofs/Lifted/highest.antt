@@ -1,5 +1,5 @@
 -- Generated: what callers cite of highest.
--- From d3d4f4b232ba5a7b, as 9ae193a4dd7c6701.
+-- From 8029e4bfdc088cdd, as 9ae193a4dd7c6701.
 use Rattle.node_records.proofs.Tables.NodeRecord as NodeRecordT
 use borrow.Fn.Kinds
 use borrow.Kind.ShrSlice

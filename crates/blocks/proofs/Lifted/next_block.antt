@@ -1,5 +1,5 @@
 -- Generated: what callers cite of next_block.
--- From d3d4f4b232ba5a7b, as 15b7e094f4d25a97.
+-- From 8029e4bfdc088cdd, as 15b7e094f4d25a97.
 use Rattle.blocks.proofs.Block
 use Rattle.blocks.proofs.Block.Laws
 use Rattle.cursors.proofs.Cursor

@@ -29,7 +29,14 @@ last-stays-requires : tie.Need-last-stays-requires
 last-stays-requires c κs = search needs
 
 returns-2 : tie.Need-returns-2
-returns-2 c = can-stale (reachedIn (c .before .before .before .before .before .before .args .r) (c .before .before .before .before .before .before .args .o .now)) (c .before .before .before .before .before .before .args .t .now) (c .before .before .before .before .before .if1 .left) (sym (c .before .before .before .has-ended .ensures) ∙ c .before .before .if2 .taken) (sym (c .before .last-stays .ensures) ∙ not-true _ (c .if3 .taken))
+returns-2 c =
+    let c1 = c .before in
+    let c2 = c1 .before in
+    let c3 = c2 .before in
+    let c5 = c3 .before .before in
+    let a = c5 .before .args in
+    can-stale (reachedIn (a .r) (a .o .now)) (a .t .now) (c5 .if1 .left) (sym (c3 .has-ended .ensures) ∙ c2 .if2 .taken)
+    (sym (c1 .last-stays .ensures) ∙ not-true _ (c .if3 .taken))
 
 deep-of-requires : tie.Need-deep-of-requires
 deep-of-requires c κs = search needs
@@ -38,7 +45,15 @@ firsts-stay-requires : tie.Need-firsts-stay-requires
 firsts-stay-requires c κs = omega (arith, c .deep-of .ensures, deep-most (c .before .before .before .before .before .args .r .depth))
 
 returns-3 : tie.Need-returns-3
-returns-3 c = can-rest (reachedIn (c .before .before .before .before .before .before .args .r) (c .before .before .before .before .before .before .args .o .now)) (c .before .before .before .before .before .before .args .t .now) (c .before .before .before .before .before .if1 .left) (⊎-elim (λ w. inr (sym (w .1 .ensures) ∙ not-false _ (w .2 .left))) (λ w. inl (sym (c .before .before .before .has-ended .ensures) ∙ w .left)) (c .before .before .if2 .came)) (c .firsts-stay .result) (c .firsts-stay .ensures ∙ ap (λ (d : ℕ). firstsStay (tableOf (c .before .before .before .before .before .before .args .t .now) (c .before .before .before .before .before .before .args .r .run .size)) (opensOf (nodesIn (c .before .before .before .before .before .before .args .o .now)) d)) (c .before .deep-of .ensures))
+returns-3 c =
+    let c1 = c .before in
+    let c2 = c1 .before in
+    let c3 = c2 .before in
+    let c5 = c3 .before .before in
+    let a = c5 .before .args in
+    can-rest (reachedIn (a .r) (a .o .now)) (a .t .now) (c5 .if1 .left) (⊎-elim (λ w. inr (sym (w .1 .ensures) ∙ not-false _ (w .2 .left)))
+    (λ w. inl (sym (c3 .has-ended .ensures) ∙ w .left)) (c2 .if2 .came)) (c .firsts-stay .result)
+    (c .firsts-stay .ensures ∙ ap (λ (d : ℕ). firstsStay (tableOf (a .t .now) (a .r .run .size)) (opensOf (nodesIn (a .o .now)) d)) (c1 .deep-of .ensures))
 
 pub can-root-spec : {M : Type 1} → statement M
 can-root-spec = tie.close (tie.spec returns has-ended-requires last-stays-requires returns-2 deep-of-requires firsts-stay-requires returns-3)

@@ -16,10 +16,20 @@ is-context-requires : tie.Need-is-context-requires
 is-context-requires c κs = search needs
 
 returns-2 : tie.Need-returns-2
-returns-2 c = rw (sym (c .before .before .before .before .before .has-ended .ensures) ∙ not-false _ (c .before .before .before .before .if1 .left), sym (c .before .before .before .is-context .ensures) ∙ c .before .before .if2 .taken) refl
+returns-2 c =
+    let c2 = c .before .before in
+    let c3 = c2 .before in
+    let c4 = c3 .before in
+    let c5 = c4 .before in
+    rw (sym (c5 .has-ended .ensures) ∙ not-false _ (c4 .if1 .left), sym (c3 .is-context .ensures) ∙ c2 .if2 .taken) refl
 
 returns-3 : tie.Need-returns-3
-returns-3 c = rw (sym (c .before .before .before .before .has-ended .ensures) ∙ not-false _ (c .before .before .before .if1 .left), sym (c .before .before .is-context .ensures) ∙ c .before .if2 .left) refl
+returns-3 c =
+    let c1 = c .before in
+    let c2 = c1 .before in
+    let c3 = c2 .before in
+    let c4 = c3 .before in
+    rw (sym (c4 .has-ended .ensures) ∙ not-false _ (c3 .if1 .left), sym (c2 .is-context .ensures) ∙ c1 .if2 .left) refl
 
 pub last-number-spec : {M : Type 1} → statement M
 last-number-spec = tie.close (tie.spec has-ended-requires returns is-context-requires returns-2 returns-3)

@@ -15,7 +15,10 @@ record-as-requires : tie.Need-record-as-requires
 record-as-requires c κs = search needs
 
 returns : tie.Need-returns
-returns c = c .record-as .ensures ∙ ap₂ (λ (f k : ℕ). recordAs (c .before .before .before .args .i) f (c .before .before .before .args .e) k) (child-of (c .before .before .before .args .p .first)) (c .before .bit .ensures)
+returns c =
+    let c1 = c .before in
+    let a = c1 .before .before .args in
+    c .record-as .ensures ∙ ap₂ (λ (f k : ℕ). recordAs (a .i) f (a .e) k) (child-of (a .p .first)) (c1 .bit .ensures)
 
 pub pair-record-spec : {M : Type 1} → statement M
 pair-record-spec = tie.close (tie.spec bit-requires record-as-requires returns)

@@ -11,7 +11,11 @@ use Rattle.combiner.proofs.enter.Statement.{statement}
 use Rattle.combiner.proofs.enter.Proof.Tie as tie
 
 returns : tie.Need-returns
-returns c = enter-blind (c .before .before .before .args .v) (c .before .before .before .args .s .now) (blockIn (c .before .before .before .args .l .block) (c .before .before .before .args .o .now)) (loadIn (c .before .before .before .args .l) (c .before .before .before .args .t .now)) (begunFrom (c .before .before .before .args .n) (c .before .before .before .args .s .now) (c .before .before .before .args .o .now) (c .before .before .before .args .t .now)) (c .before .if1 .taken)
+returns c =
+    let c1 = c .before in
+    let a = c1 .before .before .args in
+    enter-blind (a .v) (a .s .now) (blockIn (a .l .block) (a .o .now)) (loadIn (a .l) (a .t .now)) (begunFrom (a .n) (a .s .now) (a .o .now) (a .t .now))
+    (c1 .if1 .taken)
 
 begin-requires : tie.Need-begin-requires
 begin-requires c κs = tt
@@ -20,10 +24,21 @@ same-length : tie.Need-same-length
 same-length c = search needs
 
 returns-2 : tie.Need-returns-2
-returns-2 c = enter-text (c .before .before .before .before .before .before .before .args .v) (c .before .before .before .before .before .before .before .args .s .now) (blockIn (c .before .before .before .before .before .before .before .args .l .block) (c .before .before .before .before .before .before .before .args .o .now)) (loadIn (c .before .before .before .before .before .before .before .args .l) (c .before .before .before .before .before .before .before .args .t .now)) (begunFrom (c .before .before .before .before .before .before .before .args .n) (c .before .before .before .before .before .before .before .args .s .now) (c .before .before .before .before .before .before .before .args .o .now) (c .before .before .before .before .before .before .before .args .t .now)) _ (c .before .before .before .before .before .if1 .left) (not-true (c .before .before .before .before .before .before .before .args .l .whole) (c .before .before .before .before .if2 .taken)) (c .before .begin .ensures)
+returns-2 c =
+    let c1 = c .before in
+    let c4 = c1 .before .before .before in
+    let c5 = c4 .before in
+    let a = c5 .before .before .args in
+    enter-text (a .v) (a .s .now) (blockIn (a .l .block) (a .o .now)) (loadIn (a .l) (a .t .now)) (begunFrom (a .n) (a .s .now) (a .o .now) (a .t .now)) _
+    (c5 .if1 .left) (not-true (a .l .whole) (c4 .if2 .taken)) (c1 .begin .ensures)
 
 returns-3 : tie.Need-returns-3
-returns-3 c = enter-root (c .before .before .before .before .args .v) (c .before .before .before .before .args .s .now) (blockIn (c .before .before .before .before .args .l .block) (c .before .before .before .before .args .o .now)) (loadIn (c .before .before .before .before .args .l) (c .before .before .before .before .args .t .now)) (begunFrom (c .before .before .before .before .args .n) (c .before .before .before .before .args .s .now) (c .before .before .before .before .args .o .now) (c .before .before .before .before .args .t .now)) (c .before .before .if1 .left) (not-false (c .before .before .before .before .args .l .whole) (c .before .if2 .left))
+returns-3 c =
+    let c1 = c .before in
+    let c2 = c1 .before in
+    let a = c2 .before .before .args in
+    enter-root (a .v) (a .s .now) (blockIn (a .l .block) (a .o .now)) (loadIn (a .l) (a .t .now)) (begunFrom (a .n) (a .s .now) (a .o .now) (a .t .now))
+    (c2 .if1 .left) (not-false (a .l .whole) (c1 .if2 .left))
 
 pub enter-spec : {M : Type 1} → statement M
 enter-spec = tie.close (tie.spec returns begin-requires same-length returns-2 returns-3)

@@ -15,10 +15,22 @@ differs-requires : tie.Need-differs-requires
 differs-requires c κs = search needs
 
 returns : tie.Need-returns
-returns c = later-point (c .before .before .before .before .before .before .args .x .now) (c .before .before .before .before .before .before .args .y .now) (c .before .before .before .has-point .result) (c .before .before .has-point2 .result) (c .before .differs .result) (c .before .before .before .has-point .ensures) (c .before .before .has-point2 .ensures) (c .before .differs .ensures) (c .if1 .taken)
+returns c =
+    let c1 = c .before in
+    let c2 = c1 .before in
+    let c3 = c2 .before in
+    let a = c3 .before .before .before .args in
+    later-point (a .x .now) (a .y .now) (c3 .has-point .result) (c2 .has-point2 .result) (c1 .differs .result) (c3 .has-point .ensures)
+    (c2 .has-point2 .ensures) (c1 .differs .ensures) (c .if1 .taken)
 
 returns-2 : tie.Need-returns-2
-returns-2 c = later-longer (c .before .before .before .before .before .before .args .x .now) (c .before .before .before .before .before .before .args .y .now) (c .before .before .before .has-point .result) (c .before .before .has-point2 .result) (c .before .differs .result) (c .before .before .before .has-point .ensures) (c .before .before .has-point2 .ensures) (c .before .differs .ensures) (c .if1 .left) _ refl
+returns-2 c =
+    let c1 = c .before in
+    let c2 = c1 .before in
+    let c3 = c2 .before in
+    let a = c3 .before .before .before .args in
+    later-longer (a .x .now) (a .y .now) (c3 .has-point .result) (c2 .has-point2 .result) (c1 .differs .result) (c3 .has-point .ensures)
+    (c2 .has-point2 .ensures) (c1 .differs .ensures) (c .if1 .left) _ refl
 
 pub goes-later-spec : {M : Type 1} → statement M
 goes-later-spec = tie.close (tie.spec has-point-requires has-point-requires-2 differs-requires returns returns-2)

@@ -8,7 +8,10 @@ opens-first-requires : tie.Need-opens-first-requires
 opens-first-requires c κs = tt
 
 returns : tie.Need-returns
-returns c = asked (opensFirst (c .before .before .args .op) false) (opensFirst (c .before .before .args .op) true) (c .before .opens-first .result) (c .before .opens-first .ensures) (c .if1 .taken)
+returns c =
+    let c1 = c .before in
+    let a = c1 .before .args in
+    asked (opensFirst (a .op) false) (opensFirst (a .op) true) (c1 .opens-first .result) (c1 .opens-first .ensures) (c .if1 .taken)
 
 opens-first-requires-2 : tie.Need-opens-first-requires-2
 opens-first-requires-2 c κs = tt

@@ -8,7 +8,10 @@ opens-second-requires : tie.Need-opens-second-requires
 opens-second-requires c κs = tt
 
 returns : tie.Need-returns
-returns c = asked (opensSecond (c .before .before .args .op) false) (opensSecond (c .before .before .args .op) true) (c .before .opens-second .result) (c .before .opens-second .ensures) (c .if1 .taken)
+returns c =
+    let c1 = c .before in
+    let a = c1 .before .args in
+    asked (opensSecond (a .op) false) (opensSecond (a .op) true) (c1 .opens-second .result) (c1 .opens-second .ensures) (c .if1 .taken)
 
 opens-second-requires-2 : tie.Need-opens-second-requires-2
 opens-second-requires-2 c κs = tt

@@ -17,7 +17,13 @@ same-length : tie.Need-same-length
 same-length c = search needs
 
 returns : tie.Need-returns
-returns c = beside-sought (c .before .before .before .before .before .before .before .args .n) (c .before .before .before .before .before .before .before .args .s .now) (c .before .before .before .before .before .before .before .args .w) (c .before .before .before .before .before .before .before .args .noes) (c .before .before .before .before .before .before .before .args .yeses) (c .before .before .before .before .before .before .before .args .t .now) (c .before .before .before .before .before .differs .result) (c .before .before .before .before .before .differs .ensures) (c .before .before .before .before .if1 .taken) _ _ (c .before .before .load-from .ensures)
+returns c =
+    let c2 = c .before .before in
+    let c4 = c2 .before .before in
+    let c5 = c4 .before in
+    let a = c5 .before .before .args in
+    beside-sought (a .n) (a .s .now) (a .w) (a .noes) (a .yeses) (a .t .now) (c5 .differs .result) (c5 .differs .ensures) (c4 .if1 .taken) _ _
+    (c2 .load-from .ensures)
 
 load-requires : tie.Need-load-requires
 load-requires c κs = search needs
@@ -29,7 +35,13 @@ same-length-2 : tie.Need-same-length-2
 same-length-2 c = search needs
 
 returns-2 : tie.Need-returns-2
-returns-2 c = beside-plain (c .before .before .before .before .before .before .before .args .n) (c .before .before .before .before .before .before .before .args .s .now) (c .before .before .before .before .before .before .before .args .w) (c .before .before .before .before .before .before .before .args .noes) (c .before .before .before .before .before .before .before .args .yeses) (c .before .before .before .before .before .before .before .args .t .now) (c .before .before .before .before .before .differs .result) (c .before .before .before .before .before .differs .ensures) (c .before .before .before .before .if1 .left) _ (c .before .before .load .ensures) _ (c .none-sought .ensures)
+returns-2 c =
+    let c2 = c .before .before in
+    let c4 = c2 .before .before in
+    let c5 = c4 .before in
+    let a = c5 .before .before .args in
+    beside-plain (a .n) (a .s .now) (a .w) (a .noes) (a .yeses) (a .t .now) (c5 .differs .result) (c5 .differs .ensures) (c4 .if1 .left) _ (c2 .load .ensures)
+    _ (c .none-sought .ensures)
 
 pub load-beside-spec : {M : Type 1} → statement M
 load-beside-spec = tie.close (tie.spec differs-requires load-from-requires same-length returns load-requires none-sought-requires same-length-2 returns-2)

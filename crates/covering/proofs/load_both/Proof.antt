@@ -35,7 +35,19 @@ same-length-2 : tie.Need-same-length-2
 same-length-2 c = search needs
 
 returns : tie.Need-returns
-returns c = both-first (c .before .before .before .before .before .before .before .before .before .before .before .before .before .before .before .before .args .n) (c .before .before .before .before .before .before .before .before .before .before .before .before .before .before .before .before .args .op) (c .before .before .before .before .before .before .before .before .before .before .before .before .before .before .before .before .args .x .now) (c .before .before .before .before .before .before .before .before .before .before .before .before .before .before .before .before .args .y .now) (c .before .before .before .before .before .before .before .before .before .before .before .before .before .before .before .before .args .t1 .now) (c .before .before .before .before .before .before .before .before .before .before .before .before .before .before .before .before .args .t2 .now) (c .before .before .before .before .before .before .before .before .before .before .before .before .before .goes-later .result) (c .before .before .before .before .before .before .before .before .before .before .before .before .before .goes-later .ensures) (loadIn (c .before .before .before .before .before .before .before .before .before .before .load .result) _) (c .before .before .before .before .before .before .before .covered-in .result) (c .before .before .before .before .before .before .opens-second .result) (c .before .before .before .before .before .opens-second2 .result) (besideOf (c .before .before .before .before .load-beside .result) _) (c .none-sought .result) (c .none-sought .ensures) (c .before .before .before .before .before .before .before .before .before .before .before .before .if1 .taken) (c .before .before .before .before .before .before .before .before .before .before .load .ensures) (c .before .before .before .before .before .before .before .covered-in .ensures) (c .before .before .before .before .before .before .opens-second .ensures) (c .before .before .before .before .before .opens-second2 .ensures) (c .before .before .before .before .load-beside .ensures)
+returns c =
+    let c4 = c .before .before .before .before in
+    let c5 = c4 .before in
+    let c6 = c5 .before in
+    let c7 = c6 .before in
+    let c10 = c7 .before .before .before in
+    let c12 = c10 .before .before in
+    let c13 = c12 .before in
+    let a = c13 .before .before .before .args in
+    both-first (a .n) (a .op) (a .x .now) (a .y .now) (a .t1 .now) (a .t2 .now) (c13 .goes-later .result) (c13 .goes-later .ensures)
+    (loadIn (c10 .load .result) _) (c7 .covered-in .result) (c6 .opens-second .result) (c5 .opens-second2 .result) (besideOf (c4 .load-beside .result) _)
+    (c .none-sought .result) (c .none-sought .ensures) (c12 .if1 .taken) (c10 .load .ensures) (c7 .covered-in .ensures) (c6 .opens-second .ensures)
+    (c5 .opens-second2 .ensures) (c4 .load-beside .ensures)
 
 load-requires-2 : tie.Need-load-requires-2
 load-requires-2 c κs = search needs
@@ -62,7 +74,22 @@ same-length-4 : tie.Need-same-length-4
 same-length-4 c = search needs
 
 returns-2 : tie.Need-returns-2
-returns-2 c = both-second (c .before .before .before .before .before .before .before .before .before .before .before .before .before .before .before .before .args .n) (c .before .before .before .before .before .before .before .before .before .before .before .before .before .before .before .before .args .op) (c .before .before .before .before .before .before .before .before .before .before .before .before .before .before .before .before .args .x .now) (c .before .before .before .before .before .before .before .before .before .before .before .before .before .before .before .before .args .y .now) (c .before .before .before .before .before .before .before .before .before .before .before .before .before .before .before .before .args .t1 .now) (c .before .before .before .before .before .before .before .before .before .before .before .before .before .before .before .before .args .t2 .now) (c .before .before .before .before .before .before .before .before .before .before .before .before .before .goes-later .result) (c .before .before .before .before .before .before .before .before .before .before .before .before .before .goes-later .ensures) (loadIn (c .before .before .before .before .before .before .before .before .before .before .load2 .result) _) (c .before .before .before .before .before .before .before .covered-in2 .result) (c .before .before .before .before .before .before .opens-first .result) (c .before .before .before .before .before .opens-first2 .result) (besideOf (c .before .before .before .before .load-beside2 .result) _) (c .none-sought2 .result) (c .none-sought2 .ensures) (c .before .before .before .before .before .before .before .before .before .before .before .before .if1 .left) (c .before .before .before .before .before .before .before .before .before .before .load2 .ensures) (c .before .before .before .before .before .before .before .covered-in2 .ensures) (c .before .before .before .before .before .before .opens-first .ensures) (c .before .before .before .before .before .opens-first2 .ensures) (c .before .before .before .before .load-beside2 .ensures)
+returns-2 c =
+    let c4 = c .before .before .before .before in
+    let c5 = c4 .before in
+    let c6 = c5 .before in
+    let c7 = c6 .before in
+    let c10 = c7 .before .before .before in
+    let c12 = c10 .before .before in
+    let c13 = c12 .before in
+    let a = c13 .before .before .before .args in
+    both-second (a .n) (a .op) (a .x .now) (a .y .now) (a .t1 .now) (a .t2 .now) (c13 .goes-later .result) (c13 .goes-later .ensures)
+    (loadIn (c10 .load2 .result) _) (c7 .covered-in2 .result) (c6 .opens-first .result) (c5 .opens-first2 .result) (besideOf (c4 .load-beside2 .result) _)
+    (c .none-sought2 .result) (c .none-sought2 .ensures) (c12 .if1 .left) (c10 .load2 .ensures) (c7 .covered-in2 .ensures) (c6 .opens-first .ensures)
+    (c5 .opens-first2 .ensures) (c4 .load-beside2 .ensures)
 
 pub load-both-spec : {M : Type 1} → statement M
-load-both-spec = tie.close (tie.spec goes-later-requires load-requires covered-in-requires opens-second-requires opens-second-requires-2 load-beside-requires none-sought-requires same-length same-length-2 returns load-requires-2 covered-in-requires-2 opens-first-requires opens-first-requires-2 load-beside-requires-2 none-sought-requires-2 same-length-3 same-length-4 returns-2)
+load-both-spec =
+    tie.close (tie.spec goes-later-requires load-requires covered-in-requires opens-second-requires opens-second-requires-2 load-beside-requires
+    none-sought-requires same-length same-length-2 returns load-requires-2 covered-in-requires-2 opens-first-requires opens-first-requires-2
+    load-beside-requires-2 none-sought-requires-2 same-length-3 same-length-4 returns-2)

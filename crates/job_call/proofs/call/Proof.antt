@@ -36,4 +36,6 @@ returns c = let a = c .before .before .before .before .before .before .before .b
     (c .before .before .before .before .before .before .before .before .before .before .no-writer-record .ensures) _ (c .before .before .before .before .before .combine .ensures)
 
 pub call-spec : {M : Type 1} → statement M
-call-spec = tie.close (tie.spec no-record-requires no-record-requires-2 no-writer-record-requires slice-aggregate-combine slice-aggregate-combine-2 slice-aggregate-combine-3 combine-requires same-length returns)
+call-spec =
+    tie.close (tie.spec no-record-requires no-record-requires-2 no-writer-record-requires slice-aggregate-combine slice-aggregate-combine-2
+    slice-aggregate-combine-3 combine-requires same-length returns)

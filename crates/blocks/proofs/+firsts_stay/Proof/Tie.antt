@@ -1,5 +1,5 @@
 -- Generated: how the theorem of firsts_stay, which calls itself, closes.
--- From d3d4f4b232ba5a7b, as 33bc4e84985ee226.
+-- From 8029e4bfdc088cdd, as 33bc4e84985ee226.
 use Prim.Native.Nat.{ℕ, _<_}
 use borrow.Fn.Kinds.{In}
 use borrow.Fn.PlainCycle

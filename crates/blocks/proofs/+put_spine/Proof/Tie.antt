@@ -1,5 +1,5 @@
 -- Generated: how the theorem of put_spine, which calls itself, closes.
--- From d3d4f4b232ba5a7b, as 6ab4bd4ab3878f66.
+-- From 8029e4bfdc088cdd, as 6ab4bd4ab3878f66.
 use Prim.Native.Nat.{ℕ, _<_}
 use borrow.Fn.Kinds.{In}
 use borrow.Fn.PlainCycle

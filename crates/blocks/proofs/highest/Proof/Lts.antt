@@ -1,5 +1,5 @@
 -- Generated: the derivation of a body.
--- From d3d4f4b232ba5a7b, as aa2002b2e522cb83.
+-- From 8029e4bfdc088cdd, as aa2002b2e522cb83.
 use Prim.Native.Nat
 use Rattle.node_records.proofs.NodeRecord
 use Rattle.node_records.proofs.NodeRecord.Laws

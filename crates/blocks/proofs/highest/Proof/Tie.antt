@@ -1,5 +1,5 @@
 -- Generated: the needs of highest at its contract, and how its theorem closes.
--- From d3d4f4b232ba5a7b, as 64bdd7ef4df17cce.
+-- From 8029e4bfdc088cdd, as 64bdd7ef4df17cce.
 use borrow.Fn.Run
 use borrow.Fn.Written
 use contract.Running.{givenOf, tablesOf}

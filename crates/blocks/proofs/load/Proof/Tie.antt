@@ -1,5 +1,5 @@
 -- Generated: the needs of load at its contract, and how its theorem closes.
--- From d3d4f4b232ba5a7b, as 196e40035756466f.
+-- From 8029e4bfdc088cdd, as 196e40035756466f.
 use borrow.Fn.Run
 use borrow.Fn.Written
 use contract.Running.{givenOf, tablesOf}

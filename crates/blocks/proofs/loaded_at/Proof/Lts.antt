@@ -1,5 +1,5 @@
 -- Generated: the derivation of a body.
--- From d3d4f4b232ba5a7b, as 2c14ae327d95ed47.
+-- From 8029e4bfdc088cdd, as 2c14ae327d95ed47.
 use Prim.Native.Nat
 use Rattle.answers.proofs.Checked
 use Rattle.answers.proofs.Checked.Laws

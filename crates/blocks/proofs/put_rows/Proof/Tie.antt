@@ -1,5 +1,5 @@
 -- Generated: the needs of put_rows at its contract, and how its theorem closes.
--- From d3d4f4b232ba5a7b, as f0cccf494add2c2d.
+-- From 8029e4bfdc088cdd, as f0cccf494add2c2d.
 use borrow.Fn.Run
 use borrow.Fn.Written
 use contract.Running.{givenOf, tablesOf}
