@@ -19,7 +19,7 @@ use Rattle.theory_reading.specs.Covered.{grown-on, grown-count, trace-covered}
 use Rattle.theory_reading.specs.TableWalk.{tableWalk, tied-on}
 use Rattle.theory_reading.specs.Passing.{startTrace}
 use Rattle.theory_reading.specs.Settled.{never-some, trace-onward}
-use Rattle.theory_reading.specs.Reaching.{At, at-next, at-fault, at-end, at-grows, at-most, at-passes}
+use Rattle.theory_reading.specs.Reaching.{At, at-next, at-fault, at-end, at-grows, at-passes}
 use Rattle.theory_reading.specs.Aligned.{Multiple, at-nested, at-aligned}
 use Rattle.theory_reading.specs.Lasting.{Lasts, Ordered, lasts-refl, lasts-trans, at-ordered, at-lasts, at-sits}
 use Rattle.elements.specs.Abstraction.{contextOf, causeOf}

@@ -44,17 +44,7 @@ use Rattle.node_records.specs.declared.NodeRecord.{NodeRecord}
 
 -- ---- What is made of what the loop reaches ---------------------------------------------------
 
--- where a node has just ended the size has been read
-ended-later : (m : T.Context) → ended m ≡ true → isStart m ≡ false
-ended-later T.start e = absurd (false≢true e)
-ended-later T.lead e = refl
-ended-later T.begins e = refl
-ended-later T.afterDigit e = refl
-ended-later T.afterTwo e = refl
-ended-later T.afterOne e = refl
-ended-later T.over e = refl
-
--- so it has after two children
+-- after two children a node has just ended
 two-ended : (m : T.Context) → isTwo m ≡ true → ended m ≡ true
 two-ended T.start e = absurd (false≢true e)
 two-ended T.lead e = absurd (false≢true e)

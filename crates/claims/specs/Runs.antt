@@ -1,12 +1,12 @@
 -- What a run of combining, or a call of writing, that is not refused is: its limits, its streams without fault, its answer and its written bytes.
 -- Assumes nothing.
-use mathlib.Core.Path.{_≡_, refl, sym, ap, ap₂, _∙_, subst, subst⁻¹}
+use mathlib.Core.Path.{_≡_, refl, sym, ap, _∙_, subst, subst⁻¹}
 use mathlib.Core.Logic.{inr}
 use mathlib.Core.Bool.{Bool, true, false, cond}
 use mathlib.Core.List.{List, [], _∷_, _++_}
 use mathlib.Core.Option.{none}
 use Prim.{tt}
-use Prim.Native.Nat.{ℕ, _≤_, _<_, _^_, min}
+use Prim.Native.Nat.{ℕ, _≤_, _<_, _^_}
 use native.Mathlib.Omega.{arith}
 use lib.Dec.{ltb, eqb}
 use lib.ListN.{length, take}
@@ -19,7 +19,7 @@ use Rattle.theory_reading.specs.Reading.{reading}
 use Rattle.theory_reading.specs.Deciding.{Decision, undecided, decided, decision}
 use Rattle.theory_reading.specs.Calls.{verdictOf, decide}
 use Rattle.theory_reading.specs.CallLaws.{decide-decision}
-use Rattle.theory_reading.specs.Covered.{covered, covered-decided, covered-most, covered-grows, decision-stands}
+use Rattle.theory_reading.specs.Covered.{covered, covered-most, decision-stands}
 use Rattle.theory_writing.specs.Run.{operate, decisions, joint, runCovered, orNo, runText, runOf, writtenBytes, outputAfter, whole, inputEnded, outputFull}
 use Rattle.theory_writing.specs.Run.{Answer, answerOf}
 use Rattle.theory_writing.specs.Grows.{run-stable}

@@ -1,9 +1,9 @@
 -- The covered count that code comes to is the run's: the least word that is not settled, or 2^n. Assumes nothing.
-use mathlib.Core.Path.{_≡_, refl, sym, ap, ap₂, _∙_, subst, subst⁻¹}
+use mathlib.Core.Path.{_≡_, refl, sym, ap, ap₂, _∙_, subst⁻¹}
 use mathlib.Core.Logic.{_⊎_, inl, inr, ⊎-elim}
 use mathlib.Core.Bool.{Bool, true, false, cond, not, _&&_, true≢false, false≢true}
 use mathlib.Core.List.{List, [], _∷_}
-use Prim.Native.Nat.{ℕ, _+_, _-_, _<_, _≤_, _^_}
+use Prim.Native.Nat.{ℕ, _-_, _<_, _≤_, _^_}
 use native.Mathlib.Omega.{arith}
 use lib.Dec.{eqb, ltb, leb}
 use lib.ListN.{length}
@@ -19,7 +19,7 @@ use Rattle.theory_writing.specs.TwoInputs.{opens, Ends, Reaches, Asks, covered-
 use Rattle.theory_combining.specs.Entering.{ignoresFirst, ignoresSecond, first-alike, second-alike}
 use Rattle.blocks.specs.Load.{LoadTo, load}
 use Rattle.blocks.specs.LoadLaws.{load-length}
-use Rattle.finder.specs.LeastDecided.{isValue, leastDecided, decided-value, least-below, least-hits}
+use Rattle.finder.specs.LeastDecided.{isValue, leastDecided, least-below, least-hits}
 use Rattle.finder.specs.TextSearch.{SearchTo, searchText, text-within, nodes-least}
 use Rattle.covering.specs.Covering.{opensFirst, opensSecond, noneSought, goesLater, coveredOf, foundBeside, BothTo, loadBoth}
 use Rattle.covering.specs.Covering.{searchBy, searchIn, reachBy, reachIn, CoveredTo, coveredBy, coveredIn}

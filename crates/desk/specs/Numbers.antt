@@ -2,7 +2,6 @@
 use mathlib.Core.Path.{_≡_, ap, _∙_}
 use mathlib.Core.List.{List}
 use Prim.Native.Nat.{ℕ}
-use lib.ListN.{replicate}
 use Rattle.theory_reading.specs.Causes.{Result, refused, done, causeRow}
 use Rattle.theory_writing.specs.Run as R
 use Rattle.theory_writing.specs.Calls as W

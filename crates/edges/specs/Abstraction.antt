@@ -1,6 +1,5 @@
 -- How code holds an input at an edge. Assumes nothing.
 use mathlib.Core.List.{List}
-use Prim.Native.Nat.{ℕ}
 use Rattle.theory_applying.specs.Applying.{Source}
 use Rattle.work_table.specs.TableLaws.{tableOf}
 use Rattle.edges.specs.declared.TableEdge.{TableEdge}

@@ -8,7 +8,7 @@ use native.Mathlib.Omega.{arith}
 use lib.Dec.{ltb, eqb}
 use borrow.Author.Tests.{ne-eqb, eq-eqb, lt-ltb, le-ltb, ltb-true, ltb-false}
 use Rattle.theory_lists.specs.Lists.{differ, decide-le, decide-eq}
-use Rattle.theory_reading.specs.Nodes.{Node, node, isChild}
+use Rattle.theory_reading.specs.Nodes.{Node, isChild}
 use Rattle.theory_reading.specs.Deciding.{options, Decision, undecided, decided, complemented}
 use Rattle.theory_reading.specs.Calls.{verdictOf, isAdmitted}
 use Rattle.theory_reading.specs.Words.{options-low, options-high}
@@ -16,7 +16,6 @@ use Rattle.theory_reading.specs.Lasting.{Ordered}
 use Rattle.theory_reading.specs.TableWalk.{tableWalk}
 use Rattle.node_records.specs.Edges.{firstEdge, secondEdge}
 use Rattle.node_records.specs.Words.{someYes, firstChild, secondChild, someBelow}
-use Rattle.node_records.specs.Records.{noRecord}
 use Rattle.node_records.specs.declared.Edge.{Edge}
 use Rattle.node_records.specs.declared.NodeRecord.{NodeRecord}
 use Rattle.work_table.specs.Table.{getIn, get-above}

@@ -26,9 +26,8 @@ use Rattle.checker.specs.CheckCorrect.{halted-reads}
 use Rattle.blocks.specs.BlockLaws.{stands-all}
 use Rattle.blocks.specs.Load.{LoadTo, load}
 use Rattle.blocks.specs.LoadLaws.{load-shows, load-ordered, load-held, load-deep}
-use Rattle.finder.specs.LeastDecided.{isValue, value-decided, leastDecided, least-below, least-unique}
+use Rattle.finder.specs.LeastDecided.{isValue, value-decided, leastDecided, least-unique}
 use Rattle.finder.specs.Search.{turnedEdge, fromIn}
-use Rattle.finder.specs.SearchSteps.{from-most}
 use Rattle.finder.specs.SearchLaws.{Least, yes, Sits, from-yes, turned-sits, turned-yes}
 use Rattle.finder.specs.Seeking.{Seeks}
 use Rattle.finder.specs.FindCorrect.{seeks-cleared}
@@ -98,12 +97,6 @@ module _ (n : ℕ) (bytes : List ℕ) (w : ℕ) (v : Bool) (t : List NodeRecord)
     unfolding searchText
     text-within = rw (le-ltb optionLimit n few, le-ltb (length t) tableLimit room, lt-leb (2 ^ n) w l) refl
 
-    -- It is no more than the number of all words.
-    pub text-most : searchText n bytes w v t .word ≤ 2 ^ n
-    text-most =
-        let b = least-below (decision n bytes) v (covered n bytes - w) w in
-        subst (λ (x : SearchTo). x .word ≤ 2 ^ n) (sym text-within) (omega (arith, b .1 .0, l, covered-most n bytes))
-
     -- r, k, u: what the search reaches, its word, and the table then
     module _ (r : ReadReached) (k : ℕ) (u : List NodeRecord) (h : Seeks n bytes w v r k u t) where
       -- where reading has halted none is decided so
@@ -162,10 +155,6 @@ module _ (n : ℕ) (t : List NodeRecord) (z : ℕ) (e : Edge) (w : ℕ) (v : Boo
   pub nodes-within : n ≤ optionLimit → w < 2 ^ n → fromIn n t z 1 (turnedEdge (not v) e) w ≡ searchNodes n t z e w v
   unfolding searchNodes
   nodes-within few l = rw (le-ltb optionLimit n few, lt-leb (2 ^ n) w l) refl
-
-  -- It is no more than the number of all words.
-  pub nodes-most : n ≤ optionLimit → w < 2 ^ n → searchNodes n t z e w v ≤ 2 ^ n
-  nodes-most few l = subst (λ (k : ℕ). k ≤ 2 ^ n) (nodes-within few l) (from-most n t z 1 (turnedEdge (not v) e) w l)
 
 -- x: what loading a stream comes to, which is whole; THE WORD FOUND IN ITS TABLE is the one that the stream has, if it covers that.
 module _ (n : ℕ) (bytes : List ℕ) (t : List NodeRecord) (x : LoadTo) (called : x ≡ load n bytes t) (whole : x .whole ≡ true) where

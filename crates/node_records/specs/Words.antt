@@ -1,6 +1,5 @@
 -- What a record says of the words below its node: whether some is yes, and whether some is no. Assumes nothing.
 use mathlib.Core.Bool.{Bool, true, false, cond, not, _||_}
-use Prim.Native.Nat.{ℕ}
 use lib.Dec.{eqb}
 use Rattle.theory_lists.specs.Lists.{differ}
 use Rattle.node_records.specs.declared.Edge.{Edge}

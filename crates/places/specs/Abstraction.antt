@@ -1,5 +1,4 @@
 -- How code holds a place and a step. Assumes nothing.
-use Prim.Native.Nat.{_-_}
 use Rattle.theory_reading.specs.Element as T
 use Rattle.places.specs.declared.Place.{Place}
 use Rattle.places.specs.declared.Stepped.{Stepped}

@@ -15,7 +15,6 @@ use Rattle.reader.specs.declared.Iteration.{Iteration}
 use Rattle.reader.specs.Advance.{lowOf, opensTo, Iterates}
 use Rattle.reader.specs.Iterating.{iteration-ahead}
 use Rattle.reader.specs.Iterating.{Iterated, iterationIn, iteration-made}
-use Rattle.reader.specs.OpenCells.{ReadReached}
 use Rattle.reader.specs.ReadOn.{ReadTo, readOn, read-past, read-goes, read-halts}
 use Rattle.reader.specs.RunOn.{goalTo, goal-fits, runOn, run-past, run-goes, run-halts}
 use Rattle.node_records.specs.declared.NodeRecord.{NodeRecord}

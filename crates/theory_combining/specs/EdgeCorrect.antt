@@ -120,8 +120,3 @@ module _ {BlockReader : Type 0} (deepOf : BlockReader → ℕ) (sourceOf : Block
 pub and-none : (b : Bool) → b ≡ (b && true)
 and-none true = refl
 and-none false = refl
-
--- of two, the second is not in its text
-pub no-other : (b : Bool) → not b ≡ not (b || false)
-no-other true = refl
-no-other false = refl

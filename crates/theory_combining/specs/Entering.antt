@@ -28,7 +28,6 @@ use Rattle.theory_applying.specs.Merging.{mergeIn}
 use Rattle.theory_applying.specs.MergeLaws.{merge-wrote}
 use Rattle.work_table.specs.TableLaws.{tableOf}
 use Rattle.blocks.specs.Blocks.{ReadBlock}
-use Rattle.blocks.specs.BlockLaws.{none-ordered}
 use Rattle.blocks.specs.Load.{LoadTo, load}
 use Rattle.theory_combining.specs.BlockReaders.{BlockReader, deepOf, sourceOf, endedOf, nextReader, begunOperand}
 use Rattle.theory_combining.specs.BlockReaderLaws.{heldOf, held-may, Reads, Ends, stream-laws}
@@ -88,10 +87,6 @@ pub record EntersWith (v : Bool) (b : ReadBlock) (x : LoadTo) (u : List NodeReco
   pub blind : v ≡ true → Ordered (tableOf u (b .cursor .run .size))
   pub size : v ≡ false → x .whole ≡ true → b .cursor .run .size ≡ x .size
   pub kept : v ≡ false → x .whole ≡ true → u ≡ x .table
-
--- a table of which no record counts is ordered
-pub blind-none : (b : ReadBlock) (u : List NodeRecord) → b .cursor .run .size ≡ 0 → Ordered (tableOf u (b .cursor .run .size))
-blind-none b u e = subst⁻¹ (λ (z : ℕ). Ordered (tableOf u z)) e (none-ordered u)
 
 -- as what it enters: no, if it is not asked; what its table shows, or its text
 abbrev enters : ℕ → List ℕ → LoadTo → Bool → Bool → ℕ → Bool

@@ -5,18 +5,13 @@ use mathlib.Core.Bool.{Bool, true, false, cond}
 use mathlib.Core.List.{List}
 use Prim.Native.Nat.{ℕ, zero, suc, _+_, _-_, _≤_, _<_}
 use native.Mathlib.Omega.{arith}
-use lib.Dec.{eqb}
 use borrow.Author.Tests.{eq-eqb, ne-eqb, lt-ltb, le-ltb}
 use Rattle.theory_writing.specs.Links.{stops}
 use Rattle.theory_engine.specs.Cells.{cell}
-use Rattle.writer_records.specs.Fields.{levelField, firstField, secondField, complementField, parentsField, queueField, bucketField}
+use Rattle.writer_records.specs.Fields.{parentsField, queueField, bucketField}
 use Rattle.theory_engine.specs.Recycling.{Lane, lane, linkIn, unlinkIn, freeOf, fitsAt, searchIn, fewerIn, moreIn, orphanIn, orphansIn}
 use Rattle.theory_engine.specs.Recycling.{releaseIn, adoptIn, placeIn, storeIn, nextIn}
 use Rattle.node_records.specs.declared.WriterRecord.{WriterRecord}
-
--- a cell of records that are still the same
-pub cell-got : (t u : List WriterRecord) (j k g : ℕ) → g ≡ cell u j k → u ≡ t → g ≡ cell t j k
-cell-got t u j k g e d = e ∙ ap (λ (x : List WriterRecord). cell x j k) d
 
 -- ---- The number to reuse ---------------------------------------------------------------------
 
@@ -49,19 +44,6 @@ module _ (t : List WriterRecord) (z f size a b : ℕ) where
   next-free h = rw (le-ltb z size h) refl
 
 -- ---- Looking up ------------------------------------------------------------------------------
-
-module _ (t : List WriterRecord) (k i a b c : ℕ) where
-  pub fits-level : cell t levelField k ≢ i → false ≡ fitsAt t k i a b c
-  fits-level d = rw (ne-eqb (cell t levelField k) i d) refl
-
-  pub fits-first : cell t levelField k ≡ i → cell t firstField k ≢ a → false ≡ fitsAt t k i a b c
-  fits-first e d = rw (eq-eqb (cell t levelField k) i e, ne-eqb (cell t firstField k) a d) refl
-
-  pub fits-second : cell t levelField k ≡ i → cell t firstField k ≡ a → cell t secondField k ≢ b → false ≡ fitsAt t k i a b c
-  fits-second e f d = rw (eq-eqb (cell t levelField k) i e, eq-eqb (cell t firstField k) a f, ne-eqb (cell t secondField k) b d) refl
-
-  pub fits-last : cell t levelField k ≡ i → cell t firstField k ≡ a → cell t secondField k ≡ b → eqb (cell t complementField k) c ≡ fitsAt t k i a b c
-  fits-last e f g = rw (eq-eqb (cell t levelField k) i e, eq-eqb (cell t firstField k) a f, eq-eqb (cell t secondField k) b g) refl
 
 module _ (t : List WriterRecord) where
   pub search-none : (m k i a b c : ℕ) → m ≡ 0 → 0 ≡ searchIn t m k i a b c

@@ -29,5 +29,4 @@ pub mod NextWord
 pub mod Reaching
 pub mod Aligned
 pub mod Lasting
-pub mod Rooted
 pub mod Spine

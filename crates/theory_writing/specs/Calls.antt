@@ -1,7 +1,7 @@
 -- The calls that write (document 01, "The written stream"; "Turned down"): for every input the answer, and what each lent slice holds
 -- afterwards. Assumes nothing.
 use mathlib.Core.Path.{_≡_}
-use mathlib.Core.Bool.{Bool, false}
+use mathlib.Core.Bool.{Bool}
 use mathlib.Core.List.{List, [], _∷_, map}
 use Prim.Native.Nat.{ℕ, suc, _/_, _%_, _^_}
 use lib.Dec.{ltb, leb, eqb}

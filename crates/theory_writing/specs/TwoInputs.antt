@@ -1,14 +1,14 @@
 -- The covered count of a run over two inputs, from where each of them ends: the least word from the shorter's end on that the longer decides so that the
 -- result is open, or the longer's end. Assumes nothing.
-use mathlib.Core.Path.{_≡_, refl, sym, ap, ap₂, _∙_}
+use mathlib.Core.Path.{_≡_, refl, ap, ap₂, _∙_}
 use mathlib.Core.Logic.{⊎-elim}
 use mathlib.Core.Bool.{Bool, true, false, true≢false, false≢true}
 use mathlib.Core.List.{[], _∷_, List}
-use Prim.Native.Nat.{ℕ, _+_, _≤_, _<_, _^_}
+use Prim.Native.Nat.{ℕ, _≤_, _<_, _^_}
 use native.Mathlib.Omega.{arith}
 use Rattle.theory_lists.specs.Lists.{differ, decide-le}
 use Rattle.theory_reading.specs.Deciding.{Decision, undecided, decided}
-use Rattle.theory_writing.specs.Run.{Input, agreed, outcome, joint, runCovered}
+use Rattle.theory_writing.specs.Run.{Input, agreed, outcome, runCovered}
 use Rattle.theory_writing.specs.Inputs.{DecidedAt, runCovered-is}
 
 -- ---- The outcome on two decisions ------------------------------------------------------------

@@ -1,7 +1,6 @@
 -- With a search, or without. Assumes nothing.
 mod Lts
 mod Tie
-use Rattle.blocks.specs.Load.{loadIn}
 use Rattle.covering.specs.Covering.{beside-sought, beside-plain}
 use borrow.Author.Needs.{needs}
 use Rattle.covering.proofs.load_beside.Statement.{statement}

@@ -2,7 +2,7 @@
 -- Every record is cleared. Assumes nothing.
 mod Lts
 mod Tie
-use mathlib.Core.Path.{refl, ap, _∙_}
+use mathlib.Core.Path.{refl, ap}
 use mathlib.Core.Bool.{true}
 use Prim.Native.Nat.{_≤_}
 use native.Mathlib.Omega.{arith}

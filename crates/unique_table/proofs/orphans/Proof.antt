@@ -8,7 +8,6 @@ use Rattle.unique_table.proofs.orphans.Proof.Tie as tie
 use mathlib.Core.Path.{ap, _∙_}
 use mathlib.Core.List.{List}
 use Rattle.node_records.specs.declared.WriterRecord.{WriterRecord}
-use Prim.Native.Nat.{ℕ}
 use Rattle.theory_engine.specs.Recycling.{orphanIn, fewerIn}
 use Rattle.theory_engine.specs.RecyclingCorrect.{orphans-same, orphans-other}
 

@@ -7,7 +7,7 @@ use Rattle.work_table.specs.Table.{countedRecord, count-put, count-above
 use Rattle.node_records.specs.declared.NodeRecord.{NodeRecord}
 use Rattle.record_tables.specs.Entries.{putEntry}
 use native.Mathlib.Omega.{arith}
-use mathlib.Core.Path.{_≡_, ap, _∙_}
+use mathlib.Core.Path.{ap, _∙_}
 use Rattle.work_table.proofs.count.Statement.{statement}
 use Rattle.work_table.proofs.count.Proof.Tie as tie
 

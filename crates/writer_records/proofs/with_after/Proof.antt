@@ -1,6 +1,5 @@
 -- The lane decides which of two fields changes.
 -- Assumes nothing.
-use mathlib.Core.Path.{refl}
 use Rattle.writer_records.proofs.with_after.Statement.{statement}
 use Rattle.writer_records.proofs.with_after.Tie as tie
 use borrow.Author.Needs.{needs}
