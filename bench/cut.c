@@ -103,6 +103,17 @@ static void constant_rule(text *to, bool half)
     add(to, half ? "0)." : ".");
 }
 
+/* A node of a few bytes, in a table of the largest size. */
+static void small_rule(text *to, const char *node)
+{
+    char size[16];
+    snprintf(size, sizeof size, "%d\n", RULE_RECORDS);
+    to->length = 0;
+    add(to, size);
+    add(to, node);
+    add(to, ".");
+}
+
 /* ---- Measuring */
 
 /* One call; gives the covered count. */
@@ -176,6 +187,11 @@ int main(void)
         constant_rule(&cut[i], false);
     }
     measure_all("constants");
+    for (i = 0; i < 2; i++) {
+        small_rule(&whole[i], "((0(0~0):1):2(1~0):3):4");
+        small_rule(&cut[i], "(((0(0~0):1):2(1~0):3):4(3~2):5):6");
+    }
+    measure_all("small");
     printf("the largest ratio of all operators: %.2f\n", largest);
     return 0;
 }

@@ -1,5 +1,5 @@
 -- Generated: what callers cite of the lifted functions.
--- From 8029e4bfdc088cdd, as 25475254cc72d855.
+-- From 4631d260fcc5882c, as 25475254cc72d855.
 pub mod next_block
 pub mod stays
 pub mod first_stays

@@ -4,7 +4,7 @@ use mathlib.Core.Path.{_≡_, refl, sym, ap, ap₂, _∙_}
 use mathlib.Core.Logic.{_⊎_, ⊎-elim}
 use mathlib.Core.Bool.{Bool, true, false, cond, not, _&&_, _||_}
 use mathlib.Core.List.{List, _∷_}
-use Prim.Native.Nat.{ℕ, _+_, _<_, _≤_}
+use Prim.Native.Nat.{ℕ, _+_, _-_, _<_, _≤_}
 use native.Mathlib.Omega.{arith}
 use lib.Dec.{eqb, ltb}
 use lib.ListN.{length, replicate}
@@ -120,7 +120,7 @@ rootedAt y t h z = record {
 abbrev pub larger : ℕ → ℕ → ℕ
 larger z m = cond (ltb z m) m z
 
--- h: the highest number that has a node
+-- h: no number above it has a node
 abbrev pub rootAbove : ReadReached → List NodeRecord → ℕ → RootTo
 rootAbove y t h =
     let d = rowCount (y .opens .depth) (contextOf (y .run .context)) in
@@ -130,12 +130,15 @@ rootAbove y t h =
 abbrev pub rootedBare : ReadReached → List NodeRecord → RootTo
 rootedBare y t = record { whole = true; size = y .run .size; number = lastIn (y .run); table = t }
 
+-- the number above which d open nodes get records: so many numbers are left above it, unless one of them has a node
+abbrev pub lastBelow : ReadReached → List NodeRecord → ℕ → ℕ
+lastBelow y t d = highestIn t (tableLimit - d) (y .run .size)
+
 -- The open nodes get records, above all numbers that have a node, if there is room.
 unfoldable pub rootIn : ReadReached → List NodeRecord → RootTo
 rootIn y t =
-    cond (canRoot y t)
-    (cond (eqb (rowCount (y .opens .depth) (contextOf (y .run .context))) 0) (rootedBare y t) (rootAbove y t (highestIn t (y .run .size))))
-    (unrooted (y .run .size) t)
+    let d = rowCount (y .opens .depth) (contextOf (y .run .context)) in
+    cond (canRoot y t) (cond (eqb d 0) (rootedBare y t) (rootAbove y t (lastBelow y t d))) (unrooted (y .run .size) t)
 
 -- what is made of what the loop reaches; x: the number that stands for it
 abbrev pub loadedAs : ReadReached → RootTo → LoadTo
@@ -221,16 +224,19 @@ module _ (y : ReadReached) (t : List NodeRecord) where
   root-bare d de can none e ee =
       rw (sym can, eq-eqb counted 0 (sym de ∙ none)) (ap (λ (e : ℕ). record { whole = true; size = y .run .size; number = e; table = t }) ee)
 
-  -- h: the highest number that has a node
-  module _ (h d : ℕ) (he : h ≡ highestIn t (y .run .size)) (de : d ≡ counted) (can : true ≡ canRoot y t) (some : d ≡ 0 → ⊥) where
+  -- h: no number above it has a node
+  module _ (h d : ℕ) (he : h ≡ lastBelow y t d) (de : d ≡ counted) (can : true ≡ canRoot y t) (some : d ≡ 0 → ⊥) where
+    below : h ≡ lastBelow y t counted
+    below = he ∙ ap (lastBelow y t) de
+
     real : eqb counted 0 ≡ false
     real = ne-eqb counted 0 (λ e. some (de ∙ e))
 
     pub root-full : (x : RootTo) → tableLimit < h + d → x ≡ unrooted (y .run .size) t → x ≡ rootIn y t
     unfolding rootIn
     root-full x l e =
-        let q : ltb tableLimit (highestIn t (y .run .size) + counted) ≡ true
-        = lt-ltb tableLimit (highestIn t (y .run .size) + counted) (omega (arith, l, he, de)) in
+        let q : ltb tableLimit (lastBelow y t counted + counted) ≡ true
+        = lt-ltb tableLimit (lastBelow y t counted + counted) (omega (arith, l, below, de)) in
         rw (sym can, real, q) e
 
     -- z: the size; m, u: the number of the outermost node, and the table
@@ -239,13 +245,13 @@ module _ (y : ReadReached) (t : List NodeRecord) where
         → record { whole = true; size = z; number = m; table = u } ≡ rootIn y t
     unfolding rootIn
     root-done l z ze m u p =
-        let q : ltb tableLimit (highestIn t (y .run .size) + counted) ≡ false
-        = le-ltb tableLimit (highestIn t (y .run .size) + counted) (omega (arith, l, he, de)) in
-        let s : z ≡ larger (y .run .size) (highestIn t (y .run .size) + counted) = ze
-        ∙ ap₂ (λ (h d : ℕ). larger (y .run .size) (h + d)) he de in
+        let q : ltb tableLimit (lastBelow y t counted + counted) ≡ false
+        = le-ltb tableLimit (lastBelow y t counted + counted) (omega (arith, l, below, de)) in
+        let s : z ≡ larger (y .run .size) (lastBelow y t counted + counted) = ze
+        ∙ ap₂ (λ (h d : ℕ). larger (y .run .size) (h + d)) below de in
         rw (sym can, real, q) (ap₂ (λ (u : List NodeRecord) (m : ℕ). record { whole = true; size = z; number = m; table = u }) (p .0) (p .1)
-        ∙ ap (λ (h : ℕ). rootedAt y t h z) he
-        ∙ ap (rootedAt y t (highestIn t (y .run .size))) s)
+        ∙ ap (λ (h : ℕ). rootedAt y t h z) below
+        ∙ ap (rootedAt y t (lastBelow y t counted)) s)
 
   -- ---- The records
 

@@ -5,7 +5,7 @@ use mathlib.Core.Logic.{⊎-elim}
 use mathlib.Core.Bool.{Bool, true, false, cond, not, _&&_, _||_, false≢true}
 use mathlib.Core.List.{List, [], _∷_}
 use Prim.{tt}
-use Prim.Native.Nat.{ℕ, suc, _+_, _<_, _≤_, _^_}
+use Prim.Native.Nat.{ℕ, suc, _+_, _-_, _<_, _≤_, _^_}
 use native.Mathlib.Omega.{arith}
 use lib.Dec.{eqb, ltb}
 use lib.ListN.{length}
@@ -34,9 +34,9 @@ use Rattle.reader.specs.Loop.{firstOpens, Stands, stands-first, ReachedBy}
 use Rattle.checker.specs.CheckCorrect.{checkedBy, Reads, all-reads, check-options, check-table, check-correct}
 use Rattle.reader.specs.ReadOn.{ReadTo, readAll, read-length, read-reaches}
 use Rattle.blocks.specs.BlockLaws.{none-node, none-ordered, stands-ordered}
-use Rattle.blocks.specs.Spine.{staysIn, highestIn, spineAt}
+use Rattle.blocks.specs.Spine.{staysIn, spineAt}
 use Rattle.blocks.specs.SpineLaws.{highest-most, larger-not, spine-length, spine-ordered, spine-worded, spine-extends, spine-has, spine-deep}
-use Rattle.blocks.specs.Load.{LoadTo, RootTo, unrooted, pairOpen, rowsIn, rowCount, canRoot, lastIn, rootedAt, rootedBare, larger, rootIn}
+use Rattle.blocks.specs.Load.{LoadTo, RootTo, unrooted, pairOpen, rowsIn, rowCount, canRoot, lastIn, rootedAt, rootedBare, larger, lastBelow, rootIn}
 use Rattle.blocks.specs.Load.{refusedLoad, loadedAs, loadOf, load}
 use Rattle.blocks.specs.Load.{load-options, load-table, load-on}
 use Rattle.elements.specs.declared.Ref as K
@@ -95,15 +95,15 @@ can-says y u = go (y .faulty) (ended m) refl (isTwo m) refl (staysIn u z (y .run
 -- the ways of rooting
 root-ways : (P : RootTo → Type 0) (y : ReadReached) (u : List NodeRecord) → P (unrooted (y .run .size) u)
     → (CanRoot y u → rows y ≡ 0 → P (rootedBare y u))
-    → (CanRoot y u → highestIn u (y .run .size) + rows y ≤ tableLimit
-    → P (rootedAt y u (highestIn u (y .run .size)) (larger (y .run .size) (highestIn u (y .run .size) + rows y))))
+    → (CanRoot y u → lastBelow y u (rows y) + rows y ≤ tableLimit
+    → P (rootedAt y u (lastBelow y u (rows y)) (larger (y .run .size) (lastBelow y u (rows y) + rows y))))
     → P (rootIn y u)
 unfolding rootIn
-root-ways P y u none bare some = go (canRoot y u) refl (eqb (rows y) 0) refl (ltb tableLimit (highestIn u (y .run .size) + rows y)) refl
+root-ways P y u none bare some = go (canRoot y u) refl (eqb (rows y) 0) refl (ltb tableLimit (lastBelow y u (rows y) + rows y)) refl
   where
-    go : (a : Bool) → canRoot y u ≡ a → (e : Bool) → eqb (rows y) 0 ≡ e → (b : Bool) → ltb tableLimit (highestIn u (y .run .size) + rows y) ≡ b
+    go : (a : Bool) → canRoot y u ≡ a → (e : Bool) → eqb (rows y) 0 ≡ e → (b : Bool) → ltb tableLimit (lastBelow y u (rows y) + rows y) ≡ b
         → P (cond a (cond e (rootedBare y u) (cond b (unrooted (y .run .size) u)
-        (rootedAt y u (highestIn u (y .run .size)) (larger (y .run .size) (highestIn u (y .run .size) + rows y)))))
+        (rootedAt y u (lastBelow y u (rows y)) (larger (y .run .size) (lastBelow y u (rows y) + rows y)))))
         (unrooted (y .run .size) u))
     go true i true k b j = bare (can-says y u i) (eqb-true (rows y) 0 k)
     go true i false k true j = none
@@ -112,7 +112,7 @@ root-ways P y u none bare some = go (canRoot y u) refl (eqb (rows y) 0) refl (lt
 
 root-length : (y : ReadReached) (u : List NodeRecord) → length (rootIn y u .table) ≡ length u
 root-length y u = root-ways (λ (x : RootTo). length (x .table) ≡ length u) y u refl (λ can none. refl)
-    (λ can fits. spine-length (larger (y .run .size) (highestIn u (y .run .size) + rows y)) (rowsIn y) u (highestIn u (y .run .size) + 1)
+    (λ can fits. spine-length (larger (y .run .size) (lastBelow y u (rows y) + rows y)) (rowsIn y) u (lastBelow y u (rows y) + 1)
     (lastIn (y .run)))
 
 count-same : (y : ReadReached) → length (rowsIn y) ≡ rows y
@@ -128,16 +128,16 @@ count-same y = go (isTwo (contextOf (y .run .context)))
 
 -- where no node is open nothing is put into the table
 bare-same : (y : ReadReached) (u : List NodeRecord) → rows y ≡ 0
-    → rootedAt y u (highestIn u (y .run .size)) (larger (y .run .size) (highestIn u (y .run .size) + rows y)) ≡ rootedBare y u
+    → rootedAt y u (lastBelow y u (rows y)) (larger (y .run .size) (lastBelow y u (rows y) + rows y)) ≡ rootedBare y u
 bare-same y u none =
-    let size : larger (y .run .size) (highestIn u (y .run .size) + rows y) ≡ y .run .size
-    = larger-not (y .run .size) (highestIn u (y .run .size) + rows y) (omega (arith, none, highest-most u (y .run .size))) in
-    ap (rootedAt y u (highestIn u (y .run .size))) size
+    let size : larger (y .run .size) (lastBelow y u (rows y) + rows y) ≡ y .run .size
+    = larger-not (y .run .size) (lastBelow y u (rows y) + rows y) (omega (arith, none, highest-most u (tableLimit - rows y) (y .run .size))) in
+    ap (rootedAt y u (lastBelow y u (rows y))) size
     ∙ ap (λ (o : List T.Open). record {
       whole = true;
       size = y .run .size;
-      number = spineNumber o (highestIn u (y .run .size) + 1) (lastIn (y .run));
-      table = spineAt u (y .run .size) o (highestIn u (y .run .size) + 1) (lastIn (y .run));
+      number = spineNumber o (lastBelow y u (rows y) + 1) (lastIn (y .run));
+      table = spineAt u (y .run .size) o (lastBelow y u (rows y) + 1) (lastIn (y .run));
     }) (empty (rowsIn y) (count-same y ∙ none))
   where
     empty : (o : List T.Open) → length o ≡ 0 → o ≡ []
@@ -146,11 +146,11 @@ bare-same y u none =
 
 -- ways of a table that is no larger than the limit
 rooted-ways : (P : RootTo → Type 0) (y : ReadReached) (u : List NodeRecord) → y .run .size ≤ tableLimit → P (unrooted (y .run .size) u)
-    → (CanRoot y u → highestIn u (y .run .size) + rows y ≤ tableLimit
-    → P (rootedAt y u (highestIn u (y .run .size)) (larger (y .run .size) (highestIn u (y .run .size) + rows y))))
+    → (CanRoot y u → lastBelow y u (rows y) + rows y ≤ tableLimit
+    → P (rootedAt y u (lastBelow y u (rows y)) (larger (y .run .size) (lastBelow y u (rows y) + rows y))))
     → P (rootIn y u)
 rooted-ways P y u small none some = root-ways P y u none
-    (λ can empty. subst P (bare-same y u empty) (some can (omega (arith, small, empty, highest-most u (y .run .size))))) some
+    (λ can empty. subst P (bare-same y u empty) (some can (omega (arith, small, empty, highest-most u (tableLimit - rows y) (y .run .size))))) some
 
 -- ---- Tables that have the same nodes
 
@@ -175,7 +175,7 @@ module _ (t u : List Node) (same : (k : ℕ) → node t k ≡ node u k) where
 
 -- y, u: what the loop reaches at the end of the stream, and the table after it
 module _ (n : ℕ) (bytes : List ℕ) (y : ReadReached) (u : List NodeRecord) (read : Reads n bytes y u) (stands : Stands n bytes (y .run) (y .opens) u)
-    (can : CanRoot y u) (fits : highestIn u (y .run .size) + rows y ≤ tableLimit) where
+    (can : CanRoot y u) (fits : lastBelow y u (rows y) + rows y ≤ tableLimit) where
   abbrev s : State
   s = stateAt (y .run) (y .opens) u
 
@@ -186,7 +186,7 @@ module _ (n : ℕ) (bytes : List ℕ) (y : ReadReached) (u : List NodeRecord) (r
   o = rowsIn y
 
   abbrev h : ℕ
-  h = highestIn u size
+  h = lastBelow y u (rows y)
 
   state-same : reading n bytes .state ≡ s
   state-same = ap (λ (r : Reading). r .state) (read .same)
@@ -237,21 +237,21 @@ module _ (n : ℕ) (bytes : List ℕ) (y : ReadReached) (u : List NodeRecord) (r
   x = rootedAt y u h (larger size (h + length o))
 
   rooted-ordered : Ordered (tableOf (x .table) (x .size))
-  rooted-ordered = spine-ordered u size (stands .kept .room) (stands .kept .small) (stands .kept .held) ordered o (lastIn (y .run)) begun firsts enough
+  rooted-ordered = spine-ordered u size (tableLimit - rows y) (stands .kept .room) (stands .kept .small) (stands .kept .held) ordered o (lastIn (y .run)) begun firsts enough
 
   rooted-worded : Worded (x .table) (x .size)
-  rooted-worded = spine-worded u size (stands .kept .room) (stands .kept .small) (stands .kept .held) ordered o (lastIn (y .run)) begun firsts enough
+  rooted-worded = spine-worded u size (tableLimit - rows y) (stands .kept .room) (stands .kept .small) (stands .kept .held) ordered o (lastIn (y .run)) begun firsts enough
 
   rooted-deep : 0 < x .number → 1 ≤ node (tableOf (x .table) (x .size)) (x .number) .level
-  rooted-deep = spine-deep u size (stands .kept .room) (stands .kept .small) (stands .kept .held) ordered o (lastIn (y .run)) begun firsts enough
+  rooted-deep = spine-deep u size (tableLimit - rows y) (stands .kept .room) (stands .kept .small) (stands .kept .held) ordered o (lastIn (y .run)) begun firsts enough
 
   rooted-extends : Extends (s .table) (tableOf (x .table) (x .size))
   rooted-extends k p =
-      spine-extends u size (stands .kept .room) (stands .kept .small) (stands .kept .held) ordered o (lastIn (y .run)) begun firsts enough k
+      spine-extends u size (tableLimit - rows y) (stands .kept .room) (stands .kept .small) (stands .kept .held) ordered o (lastIn (y .run)) begun firsts enough k
       (subst (λ (x : Node). 0 < x .level) (table-same k) p) ∙ sym (table-same k)
 
   rooted-has : SpineIn (tableOf (x .table) (x .size)) o (h + 1) (lastIn (y .run))
-  rooted-has = spine-has u size (stands .kept .room) (stands .kept .small) (stands .kept .held) ordered o (lastIn (y .run)) begun firsts enough
+  rooted-has = spine-has u size (tableLimit - rows y) (stands .kept .room) (stands .kept .small) (stands .kept .held) ordered o (lastIn (y .run)) begun firsts enough
 
   rooted-shows : (w : ℕ) → Shows (decision n bytes w)
       (complemented (y .run .complement) (tableWalk (tableOf (x .table) (x .size)) 1 (x .number) (options n w)))
@@ -325,8 +325,8 @@ module _ (n : ℕ) (bytes : List ℕ) (t : List NodeRecord) (x : LoadTo) (called
   -- what holds of what was read, where the table has it
   by-whole : (P : LoadTo → Type 0)
       → (Reads n bytes y u → Stands n bytes (y .run) (y .opens) u → CanRoot y u
-      → highestIn u (y .run .size) + rows y ≤ tableLimit
-      → P (loadedAs y (rootedAt y u (highestIn u (y .run .size)) (larger (y .run .size) (highestIn u (y .run .size) + rows y)))))
+      → lastBelow y u (rows y) + rows y ≤ tableLimit
+      → P (loadedAs y (rootedAt y u (lastBelow y u (rows y)) (larger (y .run .size) (lastBelow y u (rows y) + rows y)))))
       → P x
   by-whole P k = subst P (sym called) (load-ways n bytes t (λ (x : LoadTo). x .whole ≡ true → P x)
       (λ h e. absurd (false≢true e)) (λ few h e. absurd (false≢true e))

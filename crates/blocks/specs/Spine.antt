@@ -4,7 +4,7 @@ use mathlib.Core.Bool.{Bool, true, false, cond, not, _&&_}
 use mathlib.Core.List.{List, [], _∷_}
 use Prim.Native.Nat.{ℕ, zero, suc, _+_, _-_}
 use native.Mathlib.Omega.{arith}
-use lib.Dec.{eqb}
+use lib.Dec.{eqb, ltb}
 use lib.ListN.{length, getD}
 use borrow.Author.Tests.{eq-eqb, ne-eqb}
 use Rattle.theory_reading.specs.Nodes.{Node, child}
@@ -29,10 +29,10 @@ use Rattle.node_records.specs.declared.NodeRecord.{NodeRecord}
 abbrev pub staysIn : List NodeRecord → ℕ → Ref → Bool
 staysIn t z a = eqb (getIn t z (a .number) .stamp) (a .stamp)
 
--- the highest number up to z that has a node, 0 if none has
-abbrev pub highestIn : List NodeRecord → ℕ → ℕ
-highestIn t zero = 0
-highestIn t (suc k) = cond (eqb (entryAt noRecord t (suc k) .level) 0) (highestIn t k) (suc k)
+-- the highest number up to z that has a node, or is not above f; 0 if there is none
+abbrev pub highestIn : List NodeRecord → ℕ → ℕ → ℕ
+highestIn t f zero = 0
+highestIn t f (suc k) = cond (ltb f (suc k) && eqb (entryAt noRecord t (suc k) .level) 0) (highestIn t f k) (suc k)
 
 -- a record of level i with the children f and e; c: whether the edge to the second is complemented
 abbrev pub recordAs : ℕ → ℕ → ℕ → ℕ → NodeRecord

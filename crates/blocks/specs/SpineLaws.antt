@@ -2,15 +2,15 @@
 -- there are there still, and the open nodes have their rows. Assumes nothing.
 use mathlib.Core.Path.{_≡_, refl, sym, ap, _∙_, subst, subst⁻¹}
 use mathlib.Core.Logic.{⊎-elim}
-use mathlib.Core.Bool.{Bool, true, false, cond}
+use mathlib.Core.Bool.{Bool, true, false, cond, _&&_}
 use mathlib.Core.List.{List, [], _∷_}
 use Prim.{Unit, tt}
 use Prim.Native.Nat.{ℕ, zero, suc, _+_, _-_, _<_, _≤_}
 use native.Mathlib.Omega.{arith}
 use lib.Dec.{eqb, ltb}
 use lib.ListN.{length}
-use borrow.Author.Tests.{eqb-true, ltb-true, ltb-false, le-ltb}
-use Rattle.theory_lists.specs.Lists.{decide-eq, decide-le}
+use borrow.Author.Tests.{eqb-true, eq-eqb, ne-eqb, ltb-true, ltb-false, lt-ltb, le-ltb}
+use Rattle.theory_lists.specs.Lists.{and-r, decide-eq, decide-le}
 use Rattle.theory_reading.specs.Limits.{tableLimit}
 use Rattle.theory_reading.specs.Nodes.{child, Node, node, isChild}
 use Rattle.theory_reading.specs.Element as T
@@ -26,42 +26,47 @@ use Rattle.node_records.specs.declared.NodeRecord.{NodeRecord}
 
 -- ---- The highest number ----------------------------------------------------------------------
 
-module _ (t : List NodeRecord) where
-  pub highest-most : (z : ℕ) → highestIn t z ≤ z
+module _ (t : List NodeRecord) (f : ℕ) where
+  -- the number k is above f and has no node
+  abbrev passed : ℕ → Bool
+  passed k = ltb f k && eqb (entryAt noRecord t k .level) 0
+
+  pub highest-most : (z : ℕ) → highestIn t f z ≤ z
   highest-most zero = omega arith
-  highest-most (suc z) = go (eqb (entryAt noRecord t (suc z) .level) 0) (highest-most z)
+  highest-most (suc z) = go (passed (suc z)) (highest-most z)
     where
-      go : (b : Bool) → highestIn t z ≤ z → cond b (highestIn t z) (suc z) ≤ suc z
+      go : (b : Bool) → highestIn t f z ≤ z → cond b (highestIn t f z) (suc z) ≤ suc z
       go true h = omega (arith, h)
       go false h = omega arith
 
   -- above it no number has a node
-  pub highest-above : (z k : ℕ) → highestIn t z < k → k ≤ z → entryAt noRecord t k .level ≡ 0
+  pub highest-above : (z k : ℕ) → highestIn t f z < k → k ≤ z → entryAt noRecord t k .level ≡ 0
   highest-above zero k = λ l h. absurd (omega (arith, l, h))
-  highest-above (suc z) k = go (eqb (entryAt noRecord t (suc z) .level) 0) refl (highest-above z k)
+  highest-above (suc z) k = go (passed (suc z)) refl (highest-above z k)
     where
-      go : (b : Bool) → eqb (entryAt noRecord t (suc z) .level) 0 ≡ b → (highestIn t z < k → k ≤ z → entryAt noRecord t k .level ≡ 0)
-          → cond b (highestIn t z) (suc z) < k → k ≤ suc z → entryAt noRecord t k .level ≡ 0
+      go : (b : Bool) → passed (suc z) ≡ b → (highestIn t f z < k → k ≤ z → entryAt noRecord t k .level ≡ 0)
+          → cond b (highestIn t f z) (suc z) < k → k ≤ suc z → entryAt noRecord t k .level ≡ 0
       go true e ih l h = ⊎-elim
-          (λ (i : k ≡ suc z). ap (λ (k : ℕ). entryAt noRecord t k .level) i ∙ eqb-true (entryAt noRecord t (suc z) .level) 0 e)
+          (λ (i : k ≡ suc z). ap (λ (k : ℕ). entryAt noRecord t k .level) i
+          ∙ eqb-true (entryAt noRecord t (suc z) .level) 0 (and-r (ltb f (suc z)) (eqb (entryAt noRecord t (suc z) .level) 0) e))
           (λ (n : k ≡ suc z → ⊥). ih l (omega (arith, n, h)))
           (decide-eq k (suc z))
       go false e ih l h = absurd (omega (arith, l, h))
 
-  -- One step of the search: the number has a node, or it goes on below.
-  pub highest-here : (k : ℕ) → (k ≡ 0 → ⊥) → (entryAt noRecord t k .level ≡ 0 → ⊥) → k ≡ highestIn t k
-  highest-here zero n h = absurd (n refl)
-  highest-here (suc k) n h = go (eqb (entryAt noRecord t (suc k) .level) 0) refl
-    where
-      go : (b : Bool) → eqb (entryAt noRecord t (suc k) .level) 0 ≡ b → suc k ≡ cond b (highestIn t k) (suc k)
-      go true e = absurd (h (eqb-true (entryAt noRecord t (suc k) .level) 0 e))
-      go false e = refl
+  -- One step of the search: it ends at a number that is not above f, or has a node; or it goes on below.
+  pub highest-low : (k : ℕ) → k ≤ f → k ≡ highestIn t f k
+  highest-low zero l = refl
+  highest-low (suc k) l = rw (le-ltb f (suc k) l) refl
 
-  pub highest-next : (k : ℕ) → (k ≡ 0 → ⊥) → entryAt noRecord t k .level ≡ 0 → highestIn t (k - 1) ≡ highestIn t k
-  highest-next zero n h = absurd (n refl)
-  highest-next (suc k) n h =
+  pub highest-here : (k : ℕ) → f < k → (entryAt noRecord t k .level ≡ 0 → ⊥) → k ≡ highestIn t f k
+  highest-here zero l h = absurd (omega (arith, l))
+  highest-here (suc k) l h = rw (lt-ltb f (suc k) l, ne-eqb (entryAt noRecord t (suc k) .level) 0 h) refl
+
+  pub highest-next : (k : ℕ) → f < k → entryAt noRecord t k .level ≡ 0 → highestIn t f (k - 1) ≡ highestIn t f k
+  highest-next zero l h = absurd (omega (arith, l))
+  highest-next (suc k) l h =
       let e : suc k - 1 ≡ k = omega arith in
-      ap (highestIn t) e ∙ sym (ap (λ (l : ℕ). cond (eqb l 0) (highestIn t k) (suc k)) h)
+      ap (highestIn t f) e ∙ rw (lt-ltb f (suc k) l, eq-eqb (entryAt noRecord t (suc k) .level) 0 h) refl
 
 -- ---- One record more -------------------------------------------------------------------------
 
@@ -275,12 +280,12 @@ larger-one z m k h l = go (ltb z m) h
     go true h = absurd (omega (arith, h, l))
     go false h = h
 
--- t: the table of z numbers, as reading left it; o: the open nodes; e: what the innermost has begun with
-module _ (t : List NodeRecord) (z : ℕ) (room : tableLimit ≤ length t) (size : z ≤ tableLimit) (held : Held t z) (ordered : Ordered (tableOf t z))
+-- t: the table of z numbers, as reading left it; o: the open nodes; e: what the innermost has begun with; f: down to where a number with a node is sought
+module _ (t : List NodeRecord) (z f : ℕ) (room : tableLimit ≤ length t) (size : z ≤ tableLimit) (held : Held t z) (ordered : Ordered (tableOf t z))
     (o : List T.Open) (e : ℕ) (begun : 0 < e → length o + 1 ≤ node (tableOf t z) e .level) (firsts : FirstsDeep (tableOf t z) o)
-    (fits : highestIn t z + length o ≤ tableLimit) where
+    (fits : highestIn t f z + length o ≤ tableLimit) where
   abbrev h : ℕ
-  h = highestIn t z
+  h = highestIn t f z
 
   abbrev y : ℕ
   y = larger z (h + length o)
@@ -289,7 +294,7 @@ module _ (t : List NodeRecord) (z : ℕ) (room : tableLimit ≤ length t) (size 
   v = spineAt t y o (h + 1) e
 
   low : h ≤ z
-  low = highest-most t z
+  low = highest-most t f z
 
   wide : z ≤ y
   wide = larger-left z (h + length o)
@@ -297,7 +302,7 @@ module _ (t : List NodeRecord) (z : ℕ) (room : tableLimit ≤ length t) (size 
   -- above h no number up to the size has a node
   free : (k : ℕ) → h < k → getIn t z k .level ≡ 0
   free k l = ⊎-elim
-      (λ (s : k ≤ z). ap (λ (x : NodeRecord). x .level) (sym (get-entry t z k s)) ∙ highest-above t z k l s)
+      (λ (s : k ≤ z). ap (λ (x : NodeRecord). x .level) (sym (get-entry t z k s)) ∙ highest-above t f z k l s)
       (λ (s : z < k). ap (λ (x : NodeRecord). x .level) (sym (get-above t z k s)))
       (decide-le k z)
 
@@ -386,7 +391,7 @@ module _ (t : List NodeRecord) (z : ℕ) (room : tableLimit ≤ length t) (size 
         p,
         i,
         ap (λ (x : NodeRecord). x .level) (sym (get-entry t y k s)),
-        highest-above t z k (omega (arith, l)) (larger-one z (h + length o) k s (omega (arith, l))),
+        highest-above t f z k (omega (arith, l)) (larger-one z (h + length o) k s (omega (arith, l))),
       ))
       (λ (s : y < k). omega (arith, p, i, ap (λ (x : NodeRecord). x .level) (get-above t y k s)))
       (decide-le k y)))

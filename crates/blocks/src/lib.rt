@@ -172,19 +172,19 @@ fn firsts_stay(t: &[NodeRecord], z: u32, o: &[[u32; 4]; OPEN_LIMIT], d: usize) -
     firsts_stay(t, z, o, d - 1)
 }
 
-// The highest number up to z that has a node, 0 if none has.
-fn highest(t: &[NodeRecord], z: u32) -> u32
-    ensures { λ x. ⌜ x ≡ highestIn (now (t .entry)) z ⌝ }
+// The highest number up to z that has a node, or is not above f.
+fn highest(t: &[NodeRecord], f: u32, z: u32) -> u32
+    ensures { λ x. ⌜ x ≡ highestIn (now (t .entry)) f z ⌝ }
 {
     let mut k = z;
-    while k != 0 {
+    while f < k {
         let x = get_record(t, k);
         if x.level != 0 {
             return k;
         }
         k -= 1;
     }
-    0
+    k
 }
 
 // A record of level i with the children f and e; c: 1 if the edge to the second is complemented, 0 if not
@@ -392,7 +392,7 @@ fn root(t: &mut [NodeRecord], o: &[[u32; 4]; OPEN_LIMIT], r: Reached) -> Rooting
             whole: true,
         };
     }
-    let h = highest(t, z);
+    let h = highest(t, (TABLE_LIMIT - d) as u32, z);
     if TABLE_LIMIT < h as usize + d {
         return not_rooted(z);
     }

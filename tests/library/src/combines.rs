@@ -3,7 +3,7 @@
 //! stream and in both, many options, then random ones.
 
 use crate::case::{Call, Case, Combine};
-use crate::streams::{changed, long_stream, stream_of, valid};
+use crate::streams::{changed, long_stream, raised, stream_of, valid};
 use std::collections::BTreeSet;
 use walk::limits::{LEAST_RECORDS, MOST_SIZE};
 use walk::random::Random;
@@ -174,7 +174,7 @@ impl Combines {
     /// Both streams cut at every byte, each pair of cuts with some operator.
     fn every_two_cuts(&mut self) {
         let n = 1 + self.random.below(5) as u32;
-        let whole = [(); 2].map(|()| self.short(n, 40));
+        let whole = [(); 2].map(|()| self.to_cut(n, 40));
         for one in 0..=whole[0].len() {
             for two in 0..=whole[1].len() {
                 let streams = [whole[0][..one].to_vec(), whole[1][..two].to_vec()];
@@ -187,7 +187,7 @@ impl Combines {
     /// Each stream cut at every byte, the other whole or cut too.
     fn every_cut(&mut self) {
         let n = 1 + self.random.below(5) as u32;
-        let whole = [(); 2].map(|()| self.short(n, 90));
+        let whole = [(); 2].map(|()| self.to_cut(n, 90));
         for index in 0..2 {
             for end in 0..=whole[index].len() {
                 let mut streams = whole.clone();
@@ -323,6 +323,16 @@ impl Combines {
             if stream.len() <= most {
                 return stream;
             }
+        }
+    }
+
+    /// A short one that is to be cut: some have the last numbers of the largest table, where the nodes that are open at
+    /// the end may find no room.
+    fn to_cut(&mut self, n: u32, most: usize) -> Vec<u8> {
+        let stream = self.short(n, most);
+        match self.random.below(3) {
+            0 => raised(&mut self.random, &stream),
+            _ => stream,
         }
     }
 

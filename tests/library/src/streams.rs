@@ -47,6 +47,29 @@ pub fn changed(random: &mut Random, mut stream: Vec<u8>) -> Vec<u8> {
     stream
 }
 
+/// A valid stream with other numbers, alike in their order: the highest is the last of the largest table, or one
+/// of those before it.
+pub fn raised(random: &mut Random, stream: &[u8]) -> Vec<u8> {
+    let text = String::from_utf8_lossy(stream);
+    let (_, node) = text.split_once('\n').unwrap_or_default();
+    let numbers = || node.split(|c: char| !c.is_ascii_digit());
+    let highest = numbers().filter_map(|digits| digits.parse().ok()).max();
+    let more = MOST_SIZE - highest.unwrap_or(0).min(MOST_SIZE);
+    let more = more - random.below(4).min(more);
+    let mut rest = node;
+    let mut bytes = format!("{MOST_SIZE}\n");
+    for digits in numbers() {
+        bytes.push_str(&match digits.parse::<u64>() {
+            Ok(number) if number > 0 => (number + more).to_string(),
+            _ => digits.to_string(),
+        });
+        rest = &rest[digits.len()..];
+        bytes.extend(rest.chars().take(1));
+        rest = rest.get(1..).unwrap_or_default();
+    }
+    bytes.into_bytes()
+}
+
 /// A stream of some thousand bytes, with its option count.
 pub fn long_stream(random: &mut Random) -> (u32, Vec<u8>) {
     let n = 8 + random.below(5) as u32;

@@ -1,5 +1,5 @@
 -- Generated: what callers cite of can_root.
--- From 8029e4bfdc088cdd, as b581aa4d0d67504b.
+-- From 4631d260fcc5882c, as b581aa4d0d67504b.
 use Rattle.node_records.proofs.Tables.NodeRecord as NodeRecordT
 use Rattle.reader.proofs.Reached
 use Rattle.reader.proofs.Reached.Laws

@@ -1,5 +1,5 @@
 -- Generated: what callers cite of highest.
--- From 8029e4bfdc088cdd, as 9ae193a4dd7c6701.
+-- From 4631d260fcc5882c, as 4538ff4b322a63ce.
 use Rattle.node_records.proofs.Tables.NodeRecord as NodeRecordT
 use borrow.Fn.Kinds
 use borrow.Kind.ShrSlice
@@ -18,7 +18,7 @@ use Rattle.blocks.proofs.highest as own
 use mathlib.Core.Path as Path'
 
 abbrev pub ps : List.List (Kinds.PK 1)
-ps = List._∷_ (ShrSlice.pShrS NodeRecordT.row 0 tt) (List._∷_ (Kinds.pNum Syntax.w32) List.[])
+ps = List._∷_ (ShrSlice.pShrS NodeRecordT.row 0 tt) (List._∷_ (Kinds.pNum Syntax.w32) (List._∷_ (Kinds.pNum Syntax.w32) List.[]))
 abbrev pub r : Kinds.RK 1
 r = Kinds.rNum Syntax.w32
 abbrev pub Ghost : Type 0

@@ -1,5 +1,5 @@
 -- Generated: what callers cite of last_stays.
--- From 8029e4bfdc088cdd, as f9edc225fecd67f7.
+-- From 4631d260fcc5882c, as f9edc225fecd67f7.
 use Rattle.cursors.proofs.Run
 use Rattle.cursors.proofs.Run.Laws
 use Rattle.node_records.proofs.Tables.NodeRecord as NodeRecordT

@@ -50,6 +50,15 @@ returns-2 c =
     root-bare (reachedIn (a .r) (a .o .now)) (a .t .now) (c2 .row-count .result) (c2 .row-count .ensures)
     (sym (not-false _ (c3 .if1 .left)) ∙ c4 .can-root .ensures) (c1 .if2 .taken) _ (c .last-number .ensures)
 
+sub-highest : tie.Need-sub-highest
+sub-highest c =
+    let c2 = c .before .before in
+    let a = c2 .before .before .before .before .before .args in
+    omega (arith, c2 .row-count .ensures, count-most (a .r .depth) (contextOf (a .r .run .context)))
+
+cast-highest : tie.Need-cast-highest
+cast-highest c = search needs
+
 highest-requires : tie.Need-highest-requires
 highest-requires c κs = search needs
 
@@ -117,5 +126,5 @@ returns-4 c =
 pub root-spec : {M : Type 1} → statement M
 root-spec =
     tie.close (tie.spec can-root-requires not-rooted-requires same-length returns row-count-requires last-number-requires same-length-2 returns-2
-    highest-requires cast-if3 add-if3 not-rooted-requires-2 same-length-3 returns-3 cast-larger add-larger larger-requires add-put-rows put-rows-requires
+    sub-highest cast-highest highest-requires cast-if3 add-if3 not-rooted-requires-2 same-length-3 returns-3 cast-larger add-larger larger-requires add-put-rows put-rows-requires
     same-length-4 returns-4)

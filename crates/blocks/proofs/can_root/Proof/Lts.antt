@@ -1,5 +1,5 @@
 -- Generated: the derivation of a body.
--- From 8029e4bfdc088cdd, as 7dd434355104627d.
+-- From 4631d260fcc5882c, as 7dd434355104627d.
 use Prim.Native.Nat
 use Rattle.cursors.proofs.Run
 use Rattle.cursors.proofs.Run.Laws

@@ -1,5 +1,5 @@
 -- Generated: the derivation of a body.
--- From 8029e4bfdc088cdd, as 40c2595313b535a9.
+-- From 4631d260fcc5882c, as 40c2595313b535a9.
 use Prim.Native.Nat
 use Rattle.cursors.proofs.Pair
 use Rattle.cursors.proofs.Pair.Laws

@@ -1,5 +1,5 @@
 -- Generated: the derivation of a body.
--- From 8029e4bfdc088cdd, as df41136ec1cf1485.
+-- From 4631d260fcc5882c, as df41136ec1cf1485.
 use Prim.Native.Nat
 use Rattle.blocks.proofs.Loaded
 use Rattle.blocks.proofs.Loaded.Laws

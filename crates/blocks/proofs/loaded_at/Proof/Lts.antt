@@ -1,5 +1,5 @@
 -- Generated: the derivation of a body.
--- From 8029e4bfdc088cdd, as 2c14ae327d95ed47.
+-- From 4631d260fcc5882c, as 2c14ae327d95ed47.
 use Prim.Native.Nat
 use Rattle.answers.proofs.Checked
 use Rattle.answers.proofs.Checked.Laws

@@ -1,5 +1,5 @@
 -- Generated: the derivation of a body.
--- From 8029e4bfdc088cdd, as ff2b9947de5d6d27.
+-- From 4631d260fcc5882c, as ff2b9947de5d6d27.
 use Prim.Native.Nat
 use Rattle.cursors.proofs.Pair
 use Rattle.cursors.proofs.Pair.Laws

@@ -1,5 +1,5 @@
 -- Generated: the derivation of a body.
--- From 8029e4bfdc088cdd, as ac3ba73bda099689.
+-- From 4631d260fcc5882c, as ac3ba73bda099689.
 use Prim.Native.Nat
 use Rattle.node_records.proofs.NodeRecord
 use Rattle.node_records.proofs.NodeRecord.Laws

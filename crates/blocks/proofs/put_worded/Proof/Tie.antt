@@ -1,5 +1,5 @@
 -- Generated: the needs of put_worded at its contract, and how its theorem closes.
--- From 8029e4bfdc088cdd, as fe8d23bbd561bf16.
+-- From 4631d260fcc5882c, as fe8d23bbd561bf16.
 use borrow.Fn.Run
 use borrow.Fn.Written
 use contract.Running.{givenOf, tablesOf}

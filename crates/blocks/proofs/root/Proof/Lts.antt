@@ -1,5 +1,5 @@
 -- Generated: the derivation of a body.
--- From 8029e4bfdc088cdd, as db6c3e0475fb671d.
+-- From 4631d260fcc5882c, as f9bdb774d01e8bd5.
 use Prim.Native.Nat
 use Rattle.blocks.proofs.Rooting
 use Rattle.blocks.proofs.Rooting.Laws
@@ -164,9 +164,9 @@ e17 = (17, Rows.any-gone y7)
 abbrev e18 : Row.Entry
 e18 = (18, Rows.any-gone y3)
 abbrev e19 : Row.Entry
-e19 = (19, Rows.any-gone y3)
+e19 = (19, Rows.any-gone y0)
 abbrev e20 : Row.Entry
-e20 = (20, Rows.any-gone y0)
+e20 = (20, Rows.any-gone y3)
 abbrev e21 : Row.Entry
 e21 = (21, Rows.any-gone y0)
 abbrev e22 : Row.Entry
@@ -201,14 +201,16 @@ abbrev e0b : Row.Entry
 e0b = (0, Rows.whole (Declared'.row (Apart.apartT Rooting.the-type)))
 abbrev e1b : Row.Entry
 e1b = (1, Reshare.mslice-owedS NodeRecordT.row y11 0 3 Row.off)
-abbrev e8a : Row.Entry
-e8a = (8, Rows.sc-here (Row.sInt Syntax.w32))
+abbrev e17a : Row.Entry
+e17a = (17, Rows.sslice NodeRecordT.row y6 3)
 abbrev e18a : Row.Entry
 e18a = (18, Rows.sc-here (Row.sInt Syntax.w64))
 abbrev e19a : Row.Entry
-e19a = (19, Rows.sc-here (Row.sInt Syntax.w64))
+e19a = (19, Rows.sc-here (Row.sInt Syntax.w32))
+abbrev e8a : Row.Entry
+e8a = (8, Rows.sc-here (Row.sInt Syntax.w32))
 abbrev e20a : Row.Entry
-e20a = (20, Rows.sc-here (Row.sInt Syntax.w32))
+e20a = (20, Rows.sc-here (Row.sInt Syntax.w64))
 abbrev e21a : Row.Entry
 e21a = (21, Rows.sc-here (Row.sInt Syntax.w32))
 abbrev e9a : Row.Entry
@@ -235,7 +237,7 @@ r = Value.rVal record { ty = Declared'.row Rooting.the-type; one = Path'.refl; v
     𝓤 H A W; makes = Laws'6.makes Rooting.the-type Laws.the-plain 𝓤 H A; in-mem = Local.mem-whole 𝓤 H A W (Declared'.row Rooting.the-type); of-mem =
     Local.whole-mem 𝓤 H A W (Declared'.row Rooting.the-type) }
 abbrev pub xs : List Syntax.Ty
-xs = y5 ∷ y0 ∷ y4 ∷ y3 ∷ y0 ∷ y0 ∷ y0 ∷ Syntax.tyBool ∷ y6 ∷ y7 ∷ Syntax.tyBool ∷ y0 ∷ y6 ∷ y7 ∷ y3 ∷ y3 ∷ y0 ∷ y0 ∷ y8 ∷ y9 ∷ []
+xs = y5 ∷ y0 ∷ y4 ∷ y3 ∷ y0 ∷ y0 ∷ y0 ∷ Syntax.tyBool ∷ y6 ∷ y7 ∷ Syntax.tyBool ∷ y0 ∷ y6 ∷ y7 ∷ y3 ∷ y0 ∷ y3 ∷ y0 ∷ y8 ∷ y9 ∷ []
 abbrev pub m : Nat.ℕ
 m = 3
 abbrev pub ps·0 : List (Kinds.PK 2)
@@ -272,7 +274,7 @@ ps·3 = (Value.pVal record { ty = Declared'.row Run.the-type; one = Path'.refl; 
 abbrev pub r·3 : Kinds.RK 0
 r·3 = Num.rNum Syntax.w32
 abbrev pub ps·4 : List (Kinds.PK 1)
-ps·4 = (ShrSlice.pShrS NodeRecordT.row 0 tt) ∷ (Num.pNum Syntax.w32) ∷ []
+ps·4 = (ShrSlice.pShrS NodeRecordT.row 0 tt) ∷ (Num.pNum Syntax.w32) ∷ (Num.pNum Syntax.w32) ∷ []
 abbrev pub r·4 : Kinds.RK 1
 r·4 = Num.rNum Syntax.w32
 abbrev pub ps·5 : List (Kinds.PK 0)
@@ -341,96 +343,105 @@ b21 = Syntax.assign (Syntax.place 16 []) (Syntax.addrOf (Syntax.place 1 ((Syntax
 abbrev b22 : Syntax.Body
 b22 = Syntax.assign (Syntax.place 17 []) (Syntax.aggregate ((Syntax.copy (Syntax.place 16 [])) ∷ (Syntax.copy (Syntax.place 1 ((Syntax.field 1) ∷ []))) ∷ []))
 abbrev b23 : Syntax.Body
-b23 = Syntax.call "blocks::highest" ((Syntax.copy (Syntax.place 17 [])) ∷ (Syntax.copy (Syntax.place 5 [])) ∷ []) (Syntax.place 8 [])
+b23 = Syntax.assign (Syntax.place 18 []) (Syntax.op2 (Syntax.sub Syntax.unsigned) (Syntax.int Syntax.w64 768) (Syntax.copy (Syntax.place 7 [])))
 abbrev b24 : Syntax.Body
-b24 = Syntax.assign (Syntax.place 18 []) (Syntax.op1 (Syntax.cast Syntax.unsigned Syntax.unsigned Syntax.w64) (Syntax.copy (Syntax.place 8 [])))
+b24 = Syntax.assign (Syntax.place 19 []) (Syntax.op1 (Syntax.cast Syntax.unsigned Syntax.unsigned Syntax.w32) (Syntax.copy (Syntax.place 18 [])))
 abbrev b25 : Syntax.Body
-b25 = Syntax.assign (Syntax.place 19 []) (Syntax.op2 (Syntax.add Syntax.unsigned) (Syntax.copy (Syntax.place 18 [])) (Syntax.copy (Syntax.place 7 [])))
+b25 = Syntax.call "blocks::highest" ((Syntax.copy (Syntax.place 17 [])) ∷ (Syntax.copy (Syntax.place 19 [])) ∷ (Syntax.copy (Syntax.place 5 [])) ∷ [])
+    (Syntax.place 8 [])
 abbrev b26 : Syntax.Body
-b26 = Syntax.assign (Syntax.place 14 []) (Syntax.op2 (Syntax.lt Syntax.unsigned) (Syntax.int Syntax.w64 768) (Syntax.copy (Syntax.place 19 [])))
+b26 = Syntax.assign (Syntax.place 18 []) (Syntax.op1 (Syntax.cast Syntax.unsigned Syntax.unsigned Syntax.w64) (Syntax.copy (Syntax.place 8 [])))
 abbrev b27 : Syntax.Body
-b27 = Syntax.call "blocks::not_rooted" ((Syntax.copy (Syntax.place 5 [])) ∷ []) (Syntax.place 0 [])
+b27 = Syntax.assign (Syntax.place 20 []) (Syntax.op2 (Syntax.add Syntax.unsigned) (Syntax.copy (Syntax.place 18 [])) (Syntax.copy (Syntax.place 7 [])))
 abbrev b28 : Syntax.Body
-b28 = Syntax.return
+b28 = Syntax.assign (Syntax.place 14 []) (Syntax.op2 (Syntax.lt Syntax.unsigned) (Syntax.int Syntax.w64 768) (Syntax.copy (Syntax.place 20 [])))
 abbrev b29 : Syntax.Body
-b29 = Syntax.seq b27 b28
+b29 = Syntax.call "blocks::not_rooted" ((Syntax.copy (Syntax.place 5 [])) ∷ []) (Syntax.place 0 [])
 abbrev b30 : Syntax.Body
-b30 = Syntax.skip
+b30 = Syntax.return
 abbrev b31 : Syntax.Body
-b31 = Syntax.cond (Syntax.copy (Syntax.place 14 [])) b29 b30
+b31 = Syntax.seq b29 b30
 abbrev b32 : Syntax.Body
-b32 = Syntax.assign (Syntax.place 20 []) (Syntax.op1 (Syntax.cast Syntax.unsigned Syntax.unsigned Syntax.w32) (Syntax.copy (Syntax.place 7 [])))
+b32 = Syntax.skip
 abbrev b33 : Syntax.Body
-b33 = Syntax.assign (Syntax.place 21 []) (Syntax.op2 (Syntax.add Syntax.unsigned) (Syntax.copy (Syntax.place 8 [])) (Syntax.copy (Syntax.place 20 [])))
+b33 = Syntax.cond (Syntax.copy (Syntax.place 14 [])) b31 b32
 abbrev b34 : Syntax.Body
-b34 = Syntax.call "blocks::larger" ((Syntax.copy (Syntax.place 5 [])) ∷ (Syntax.copy (Syntax.place 21 [])) ∷ []) (Syntax.place 9 [])
+b34 = Syntax.assign (Syntax.place 19 []) (Syntax.op1 (Syntax.cast Syntax.unsigned Syntax.unsigned Syntax.w32) (Syntax.copy (Syntax.place 7 [])))
 abbrev b35 : Syntax.Body
-b35 = Syntax.assign (Syntax.place 22 []) (Syntax.addrOf (Syntax.place 1 ((Syntax.field 0) ∷ (Syntax.deref NodeRecordT.value) ∷ [])))
+b35 = Syntax.assign (Syntax.place 21 []) (Syntax.op2 (Syntax.add Syntax.unsigned) (Syntax.copy (Syntax.place 8 [])) (Syntax.copy (Syntax.place 19 [])))
 abbrev b36 : Syntax.Body
-b36 = Syntax.assign (Syntax.place 23 []) (Syntax.aggregate ((Syntax.copy (Syntax.place 22 [])) ∷ (Syntax.copy (Syntax.place 1 ((Syntax.field 1) ∷ []))) ∷ []))
+b36 = Syntax.call "blocks::larger" ((Syntax.copy (Syntax.place 5 [])) ∷ (Syntax.copy (Syntax.place 21 [])) ∷ []) (Syntax.place 9 [])
 abbrev b37 : Syntax.Body
-b37 = Syntax.assign (Syntax.place 20 []) (Syntax.op2 (Syntax.add Syntax.unsigned) (Syntax.copy (Syntax.place 8 [])) (Syntax.int Syntax.w32 1))
+b37 = Syntax.assign (Syntax.place 22 []) (Syntax.addrOf (Syntax.place 1 ((Syntax.field 0) ∷ (Syntax.deref NodeRecordT.value) ∷ [])))
 abbrev b38 : Syntax.Body
-b38 = Syntax.call "blocks::put_rows" ((Syntax.copy (Syntax.place 23 [])) ∷ (Syntax.copy (Syntax.place 9 [])) ∷ (Syntax.copy (Syntax.place 2 [])) ∷
-    (Syntax.copy (Syntax.place 3 [])) ∷ (Syntax.copy (Syntax.place 20 [])) ∷ []) (Syntax.place 10 [])
+b38 = Syntax.assign (Syntax.place 23 []) (Syntax.aggregate ((Syntax.copy (Syntax.place 22 [])) ∷ (Syntax.copy (Syntax.place 1 ((Syntax.field 1) ∷ []))) ∷ []))
 abbrev b39 : Syntax.Body
-b39 = Syntax.assign (Syntax.place 0 []) (Syntax.aggregate ((Syntax.copy (Syntax.place 9 [])) ∷ (Syntax.copy (Syntax.place 10 [])) ∷ Syntax.opdTrue ∷ []))
+b39 = Syntax.assign (Syntax.place 19 []) (Syntax.op2 (Syntax.add Syntax.unsigned) (Syntax.copy (Syntax.place 8 [])) (Syntax.int Syntax.w32 1))
 abbrev b40 : Syntax.Body
-b40 = Syntax.return
+b40 = Syntax.call "blocks::put_rows" ((Syntax.copy (Syntax.place 23 [])) ∷ (Syntax.copy (Syntax.place 9 [])) ∷ (Syntax.copy (Syntax.place 2 [])) ∷
+    (Syntax.copy (Syntax.place 3 [])) ∷ (Syntax.copy (Syntax.place 19 [])) ∷ []) (Syntax.place 10 [])
 abbrev b41 : Syntax.Body
-b41 = Syntax.seq b39 b40
+b41 = Syntax.assign (Syntax.place 0 []) (Syntax.aggregate ((Syntax.copy (Syntax.place 9 [])) ∷ (Syntax.copy (Syntax.place 10 [])) ∷ Syntax.opdTrue ∷ []))
 abbrev b42 : Syntax.Body
-b42 = Syntax.seq b38 b41
+b42 = Syntax.return
 abbrev b43 : Syntax.Body
-b43 = Syntax.seq b37 b42
+b43 = Syntax.seq b41 b42
 abbrev b44 : Syntax.Body
-b44 = Syntax.seq b36 b43
+b44 = Syntax.seq b40 b43
 abbrev b45 : Syntax.Body
-b45 = Syntax.seq b35 b44
+b45 = Syntax.seq b39 b44
 abbrev b46 : Syntax.Body
-b46 = Syntax.seq b34 b45
+b46 = Syntax.seq b38 b45
 abbrev b47 : Syntax.Body
-b47 = Syntax.seq b33 b46
+b47 = Syntax.seq b37 b46
 abbrev b48 : Syntax.Body
-b48 = Syntax.seq b32 b47
+b48 = Syntax.seq b36 b47
 abbrev b49 : Syntax.Body
-b49 = Syntax.seq b31 b48
+b49 = Syntax.seq b35 b48
 abbrev b50 : Syntax.Body
-b50 = Syntax.seq b26 b49
+b50 = Syntax.seq b34 b49
 abbrev b51 : Syntax.Body
-b51 = Syntax.seq b25 b50
+b51 = Syntax.seq b33 b50
 abbrev b52 : Syntax.Body
-b52 = Syntax.seq b24 b51
+b52 = Syntax.seq b28 b51
 abbrev b53 : Syntax.Body
-b53 = Syntax.seq b23 b52
+b53 = Syntax.seq b27 b52
 abbrev b54 : Syntax.Body
-b54 = Syntax.seq b22 b53
+b54 = Syntax.seq b26 b53
 abbrev b55 : Syntax.Body
-b55 = Syntax.seq b21 b54
+b55 = Syntax.seq b25 b54
 abbrev b56 : Syntax.Body
-b56 = Syntax.seq b20 b55
+b56 = Syntax.seq b24 b55
 abbrev b57 : Syntax.Body
-b57 = Syntax.seq b13 b56
+b57 = Syntax.seq b23 b56
 abbrev b58 : Syntax.Body
-b58 = Syntax.seq b12 b57
+b58 = Syntax.seq b22 b57
 abbrev b59 : Syntax.Body
-b59 = Syntax.seq b11 b58
+b59 = Syntax.seq b21 b58
 abbrev b60 : Syntax.Body
-b60 = Syntax.seq b10 b59
+b60 = Syntax.seq b20 b59
 abbrev b61 : Syntax.Body
-b61 = Syntax.seq b5 b60
+b61 = Syntax.seq b13 b60
 abbrev b62 : Syntax.Body
-b62 = Syntax.seq b4 b61
+b62 = Syntax.seq b12 b61
 abbrev b63 : Syntax.Body
-b63 = Syntax.seq b3 b62
+b63 = Syntax.seq b11 b62
 abbrev b64 : Syntax.Body
-b64 = Syntax.seq b2 b63
+b64 = Syntax.seq b10 b63
 abbrev b65 : Syntax.Body
-b65 = Syntax.seq b1 b64
+b65 = Syntax.seq b5 b64
 abbrev b66 : Syntax.Body
-b66 = Syntax.seq b0 b65
+b66 = Syntax.seq b4 b65
+abbrev b67 : Syntax.Body
+b67 = Syntax.seq b3 b66
+abbrev b68 : Syntax.Body
+b68 = Syntax.seq b2 b67
+abbrev b69 : Syntax.Body
+b69 = Syntax.seq b1 b68
+abbrev b70 : Syntax.Body
+b70 = Syntax.seq b0 b69
 abbrev pub body : Syntax.Body
-body = b66
+body = b70
 abbrev pub Claims : Type 1
 Claims = Kinds.In 2 ps·0 × Kinds.Out 2 ps·0 r·0 × Kinds.In 0 ps·1 × Kinds.Out 0 ps·1 r·1 × Kinds.In 0 ps·2 × Kinds.Out 0 ps·2 r·2 × Kinds.In 0 ps·3 ×
     Kinds.Out 0 ps·3 r·3 × Kinds.In 1 ps·4 × Kinds.Out 1 ps·4 r·4 × Kinds.In 0 ps·5 × Kinds.Out 0 ps·5 r·5 × Kinds.In 2 ps·6 × Kinds.Out 2 ps·6 r·6
@@ -499,65 +510,71 @@ t30 = e0 ∷ e1b ∷ e2 ∷ e3 ∷ e4 ∷ e5a ∷ e6 ∷ e7a ∷ e8 ∷ e9 ∷ e
 abbrev pub t31 : List Row.Entry
 t31 = (16, Relend.ssptr NodeRecordT.row y6 3) ∷ e17 ∷ e18 ∷ e19 ∷ e20 ∷ e21 ∷ e22 ∷ e23 ∷ []
 abbrev pub t32 : List Row.Entry
-t32 = e16 ∷ (17, Rows.sslice NodeRecordT.row y6 3) ∷ e18 ∷ e19 ∷ e20 ∷ e21 ∷ e22 ∷ e23 ∷ []
+t32 = e16 ∷ e17a ∷ e18 ∷ e19 ∷ e20 ∷ e21 ∷ e22 ∷ e23 ∷ []
 abbrev pub t33 : List Row.Entry
-t33 = e0 ∷ e1b ∷ e2 ∷ e3 ∷ e4 ∷ e5a ∷ e6 ∷ e7a ∷ e8a ∷ e9 ∷ e10 ∷ e11 ∷ e12 ∷ e13 ∷ e14 ∷ e15 ∷ []
+t33 = e16 ∷ e17a ∷ e18a ∷ e19 ∷ e20 ∷ e21 ∷ e22 ∷ e23 ∷ []
 abbrev pub t34 : List Row.Entry
-t34 = e0 ∷ e1 ∷ e2 ∷ e3 ∷ e4 ∷ e5a ∷ e6 ∷ e7a ∷ e8a ∷ e9 ∷ e10 ∷ e11 ∷ e12 ∷ e13 ∷ e14 ∷ e15 ∷ []
+t34 = e16 ∷ e17a ∷ e18a ∷ e19a ∷ e20 ∷ e21 ∷ e22 ∷ e23 ∷ []
 abbrev pub t35 : List Row.Entry
-t35 = e16 ∷ e17 ∷ e18a ∷ e19 ∷ e20 ∷ e21 ∷ e22 ∷ e23 ∷ []
+t35 = e16 ∷ e17a ∷ e18 ∷ e19a ∷ e20 ∷ e21 ∷ e22 ∷ e23 ∷ []
 abbrev pub t36 : List Row.Entry
-t36 = e16 ∷ e17 ∷ e18a ∷ e19a ∷ e20 ∷ e21 ∷ e22 ∷ e23 ∷ []
+t36 = e0 ∷ e1b ∷ e2 ∷ e3 ∷ e4 ∷ e5a ∷ e6 ∷ e7a ∷ e8a ∷ e9 ∷ e10 ∷ e11 ∷ e12 ∷ e13 ∷ e14 ∷ e15 ∷ []
 abbrev pub t37 : List Row.Entry
 t37 = e16 ∷ e17 ∷ e18 ∷ e19a ∷ e20 ∷ e21 ∷ e22 ∷ e23 ∷ []
 abbrev pub t38 : List Row.Entry
-t38 = e0 ∷ e1 ∷ e2 ∷ e3 ∷ e4 ∷ e5a ∷ e6 ∷ e7a ∷ e8a ∷ e9 ∷ e10 ∷ e11 ∷ e12 ∷ e13 ∷ e14a ∷ e15 ∷ []
+t38 = e0 ∷ e1 ∷ e2 ∷ e3 ∷ e4 ∷ e5a ∷ e6 ∷ e7a ∷ e8a ∷ e9 ∷ e10 ∷ e11 ∷ e12 ∷ e13 ∷ e14 ∷ e15 ∷ []
 abbrev pub t39 : List Row.Entry
-t39 = e0 ∷ e1 ∷ e2 ∷ e3a ∷ e4 ∷ e5a ∷ e6 ∷ e7a ∷ e8a ∷ e9 ∷ e10 ∷ e11 ∷ e12 ∷ e13 ∷ e14a ∷ e15 ∷ []
+t39 = e16 ∷ e17 ∷ e18a ∷ e19 ∷ e20 ∷ e21 ∷ e22 ∷ e23 ∷ []
 abbrev pub t40 : List Row.Entry
-t40 = e0 ∷ e1 ∷ e2 ∷ e3a ∷ e4 ∷ e5a ∷ e6 ∷ e7a ∷ e8a ∷ e9 ∷ e10 ∷ e11 ∷ e12 ∷ e13 ∷ e14 ∷ e15 ∷ []
+t40 = e16 ∷ e17 ∷ e18a ∷ e19 ∷ e20a ∷ e21 ∷ e22 ∷ e23 ∷ []
 abbrev pub t41 : List Row.Entry
-t41 = e0a ∷ e1 ∷ e2 ∷ e3a ∷ e4 ∷ e5a ∷ e6 ∷ e7a ∷ e8a ∷ e9 ∷ e10 ∷ e11 ∷ e12 ∷ e13 ∷ e14 ∷ e15 ∷ []
+t41 = e16 ∷ e17 ∷ e18 ∷ e19 ∷ e20a ∷ e21 ∷ e22 ∷ e23 ∷ []
 abbrev pub t42 : List Row.Entry
-t42 = e0a ∷ e1 ∷ e2 ∷ e3a ∷ e4 ∷ e5 ∷ e6 ∷ e7a ∷ e8a ∷ e9 ∷ e10 ∷ e11 ∷ e12 ∷ e13 ∷ e14 ∷ e15 ∷ []
+t42 = e0 ∷ e1 ∷ e2 ∷ e3 ∷ e4 ∷ e5a ∷ e6 ∷ e7a ∷ e8a ∷ e9 ∷ e10 ∷ e11 ∷ e12 ∷ e13 ∷ e14a ∷ e15 ∷ []
 abbrev pub t43 : List Row.Entry
-t43 = e0a ∷ e1 ∷ e2 ∷ e3a ∷ e4 ∷ e5 ∷ e6 ∷ e7 ∷ e8a ∷ e9 ∷ e10 ∷ e11 ∷ e12 ∷ e13 ∷ e14 ∷ e15 ∷ []
+t43 = e0 ∷ e1 ∷ e2 ∷ e3a ∷ e4 ∷ e5a ∷ e6 ∷ e7a ∷ e8a ∷ e9 ∷ e10 ∷ e11 ∷ e12 ∷ e13 ∷ e14a ∷ e15 ∷ []
 abbrev pub t44 : List Row.Entry
-t44 = e16 ∷ e17 ∷ e18 ∷ e19 ∷ e20a ∷ e21 ∷ e22 ∷ e23 ∷ []
+t44 = e0 ∷ e1 ∷ e2 ∷ e3a ∷ e4 ∷ e5a ∷ e6 ∷ e7a ∷ e8a ∷ e9 ∷ e10 ∷ e11 ∷ e12 ∷ e13 ∷ e14 ∷ e15 ∷ []
 abbrev pub t45 : List Row.Entry
-t45 = e16 ∷ e17 ∷ e18 ∷ e19 ∷ e20a ∷ e21a ∷ e22 ∷ e23 ∷ []
+t45 = e0a ∷ e1 ∷ e2 ∷ e3a ∷ e4 ∷ e5a ∷ e6 ∷ e7a ∷ e8a ∷ e9 ∷ e10 ∷ e11 ∷ e12 ∷ e13 ∷ e14 ∷ e15 ∷ []
 abbrev pub t46 : List Row.Entry
-t46 = e16 ∷ e17 ∷ e18 ∷ e19 ∷ e20 ∷ e21a ∷ e22 ∷ e23 ∷ []
+t46 = e0a ∷ e1 ∷ e2 ∷ e3a ∷ e4 ∷ e5 ∷ e6 ∷ e7a ∷ e8a ∷ e9 ∷ e10 ∷ e11 ∷ e12 ∷ e13 ∷ e14 ∷ e15 ∷ []
 abbrev pub t47 : List Row.Entry
-t47 = e0 ∷ e1 ∷ e2 ∷ e3 ∷ e4 ∷ e5a ∷ e6 ∷ e7a ∷ e8a ∷ e9a ∷ e10 ∷ e11 ∷ e12 ∷ e13 ∷ e14 ∷ e15 ∷ []
+t47 = e0a ∷ e1 ∷ e2 ∷ e3a ∷ e4 ∷ e5 ∷ e6 ∷ e7 ∷ e8a ∷ e9 ∷ e10 ∷ e11 ∷ e12 ∷ e13 ∷ e14 ∷ e15 ∷ []
 abbrev pub t48 : List Row.Entry
-t48 = e0 ∷ e1c ∷ e2 ∷ e3 ∷ e4 ∷ e5a ∷ e6 ∷ e7a ∷ e8a ∷ e9a ∷ e10 ∷ e11 ∷ e12 ∷ e13 ∷ e14 ∷ e15 ∷ []
+t48 = e16 ∷ e17 ∷ e18 ∷ e19a ∷ e20 ∷ e21a ∷ e22 ∷ e23 ∷ []
 abbrev pub t49 : List Row.Entry
-t49 = e16 ∷ e17 ∷ e18 ∷ e19 ∷ e20 ∷ e21 ∷ (22, Relend.msptr NodeRecordT.row y8 4) ∷ e23 ∷ []
+t49 = e16 ∷ e17 ∷ e18 ∷ e19 ∷ e20 ∷ e21a ∷ e22 ∷ e23 ∷ []
 abbrev pub t50 : List Row.Entry
-t50 = e16 ∷ e17 ∷ e18 ∷ e19 ∷ e20 ∷ e21 ∷ e22 ∷ e23a ∷ []
+t50 = e0 ∷ e1 ∷ e2 ∷ e3 ∷ e4 ∷ e5a ∷ e6 ∷ e7a ∷ e8a ∷ e9a ∷ e10 ∷ e11 ∷ e12 ∷ e13 ∷ e14 ∷ e15 ∷ []
 abbrev pub t51 : List Row.Entry
-t51 = e16 ∷ e17 ∷ e18 ∷ e19 ∷ e20a ∷ e21 ∷ e22 ∷ e23a ∷ []
+t51 = e0 ∷ e1c ∷ e2 ∷ e3 ∷ e4 ∷ e5a ∷ e6 ∷ e7a ∷ e8a ∷ e9a ∷ e10 ∷ e11 ∷ e12 ∷ e13 ∷ e14 ∷ e15 ∷ []
 abbrev pub t52 : List Row.Entry
-t52 = e0 ∷ e1c ∷ e2 ∷ e3 ∷ e4 ∷ e5a ∷ e6 ∷ e7a ∷ e8a ∷ e9a ∷ e10a ∷ e11 ∷ e12 ∷ e13 ∷ e14 ∷ e15 ∷ []
+t52 = e16 ∷ e17 ∷ e18 ∷ e19 ∷ e20 ∷ e21 ∷ (22, Relend.msptr NodeRecordT.row y8 4) ∷ e23 ∷ []
 abbrev pub t53 : List Row.Entry
-t53 = e16 ∷ e17 ∷ e18 ∷ e19 ∷ e20a ∷ e21 ∷ e22 ∷ e23b ∷ []
+t53 = e16 ∷ e17 ∷ e18 ∷ e19 ∷ e20 ∷ e21 ∷ e22 ∷ e23a ∷ []
 abbrev pub t54 : List Row.Entry
-t54 = e0 ∷ e1c ∷ e2 ∷ e3a ∷ e4 ∷ e5a ∷ e6 ∷ e7a ∷ e8a ∷ e9a ∷ e10a ∷ e11 ∷ e12 ∷ e13 ∷ e14 ∷ e15 ∷ []
+t54 = e16 ∷ e17 ∷ e18 ∷ e19a ∷ e20 ∷ e21 ∷ e22 ∷ e23a ∷ []
 abbrev pub t55 : List Row.Entry
-t55 = e16 ∷ e17 ∷ e18 ∷ e19 ∷ e20 ∷ e21 ∷ e22 ∷ e23b ∷ []
+t55 = e0 ∷ e1c ∷ e2 ∷ e3 ∷ e4 ∷ e5a ∷ e6 ∷ e7a ∷ e8a ∷ e9a ∷ e10a ∷ e11 ∷ e12 ∷ e13 ∷ e14 ∷ e15 ∷ []
 abbrev pub t56 : List Row.Entry
-t56 = e0 ∷ e1 ∷ e2 ∷ e3a ∷ e4 ∷ e5a ∷ e6 ∷ e7a ∷ e8a ∷ e9a ∷ e10a ∷ e11 ∷ e12 ∷ e13 ∷ e14 ∷ e15 ∷ []
+t56 = e16 ∷ e17 ∷ e18 ∷ e19a ∷ e20 ∷ e21 ∷ e22 ∷ e23b ∷ []
 abbrev pub t57 : List Row.Entry
-t57 = e0b ∷ e1 ∷ e2 ∷ e3a ∷ e4 ∷ e5a ∷ e6 ∷ e7a ∷ e8a ∷ e9a ∷ e10a ∷ e11 ∷ e12 ∷ e13 ∷ e14 ∷ e15 ∷ []
+t57 = e0 ∷ e1c ∷ e2 ∷ e3a ∷ e4 ∷ e5a ∷ e6 ∷ e7a ∷ e8a ∷ e9a ∷ e10a ∷ e11 ∷ e12 ∷ e13 ∷ e14 ∷ e15 ∷ []
 abbrev pub t58 : List Row.Entry
-t58 = e0b ∷ e1 ∷ e2 ∷ e3a ∷ e4 ∷ e5 ∷ e6 ∷ e7a ∷ e8a ∷ e9a ∷ e10a ∷ e11 ∷ e12 ∷ e13 ∷ e14 ∷ e15 ∷ []
+t58 = e16 ∷ e17 ∷ e18 ∷ e19 ∷ e20 ∷ e21 ∷ e22 ∷ e23b ∷ []
 abbrev pub t59 : List Row.Entry
-t59 = e0b ∷ e1 ∷ e2 ∷ e3a ∷ e4 ∷ e5 ∷ e6 ∷ e7 ∷ e8a ∷ e9a ∷ e10a ∷ e11 ∷ e12 ∷ e13 ∷ e14 ∷ e15 ∷ []
+t59 = e0 ∷ e1 ∷ e2 ∷ e3a ∷ e4 ∷ e5a ∷ e6 ∷ e7a ∷ e8a ∷ e9a ∷ e10a ∷ e11 ∷ e12 ∷ e13 ∷ e14 ∷ e15 ∷ []
 abbrev pub t60 : List Row.Entry
-t60 = e0b ∷ e1 ∷ e2 ∷ e3a ∷ e4 ∷ e5 ∷ e6 ∷ e7 ∷ e8 ∷ e9a ∷ e10a ∷ e11 ∷ e12 ∷ e13 ∷ e14 ∷ e15 ∷ []
+t60 = e0b ∷ e1 ∷ e2 ∷ e3a ∷ e4 ∷ e5a ∷ e6 ∷ e7a ∷ e8a ∷ e9a ∷ e10a ∷ e11 ∷ e12 ∷ e13 ∷ e14 ∷ e15 ∷ []
 abbrev pub t61 : List Row.Entry
-t61 = e0b ∷ e1 ∷ e2 ∷ e3a ∷ e4 ∷ e5 ∷ e6 ∷ e7 ∷ e8 ∷ e9 ∷ e10a ∷ e11 ∷ e12 ∷ e13 ∷ e14 ∷ e15 ∷ []
+t61 = e0b ∷ e1 ∷ e2 ∷ e3a ∷ e4 ∷ e5 ∷ e6 ∷ e7a ∷ e8a ∷ e9a ∷ e10a ∷ e11 ∷ e12 ∷ e13 ∷ e14 ∷ e15 ∷ []
+abbrev pub t62 : List Row.Entry
+t62 = e0b ∷ e1 ∷ e2 ∷ e3a ∷ e4 ∷ e5 ∷ e6 ∷ e7 ∷ e8a ∷ e9a ∷ e10a ∷ e11 ∷ e12 ∷ e13 ∷ e14 ∷ e15 ∷ []
+abbrev pub t63 : List Row.Entry
+t63 = e0b ∷ e1 ∷ e2 ∷ e3a ∷ e4 ∷ e5 ∷ e6 ∷ e7 ∷ e8 ∷ e9a ∷ e10a ∷ e11 ∷ e12 ∷ e13 ∷ e14 ∷ e15 ∷ []
+abbrev pub t64 : List Row.Entry
+t64 = e0b ∷ e1 ∷ e2 ∷ e3a ∷ e4 ∷ e5 ∷ e6 ∷ e7 ∷ e8 ∷ e9 ∷ e10a ∷ e11 ∷ e12 ∷ e13 ∷ e14 ∷ e15 ∷ []
 abbrev pub O0 : Typed.Outs
 O0 = record { next = Option.none; exits = []; returns = Option.some (cx t2 t1) }
 abbrev pub O1 : Typed.Outs
@@ -565,7 +582,7 @@ O1 = Typed.withNext (Option.some (cx t4 t1)) O0
 abbrev pub O2 : Typed.Outs
 O2 = Typed.withNext (Option.some (cx t20 t1)) O0
 abbrev pub O3 : Typed.Outs
-O3 = Typed.withNext (Option.some (cx t34 t1)) O0
+O3 = Typed.withNext (Option.some (cx t38 t1)) O0
 module _ (claims· : Claims) where
   abbrev s0 : (bs : List Nat.ℕ) → Typed.Both (cx t0 t1) (cx t3 t1)
   s0 = λ bs. WayStmt.k-way-copy-out (cx t0 t1) (Row.out 3 ((cx t0 t1) .locals)) (λ u. Row.drop 3 ((cx t0 t1) .locals) u) 4 (Rows.whole (Declared'.row
@@ -641,83 +658,94 @@ module _ (claims· : Claims) where
   abbrev s35 : (bs : List Nat.ℕ) → Typed.Asks (cx t30 t31) (cx t30 t32)
   s35 = λ bs. Relend.k-sl-aggregate NodeRecordT.row (Relend.asShr NodeRecordT.row) (cx t30 t31) 16 17 3 y6 y6 (λ x. x) (Scalar.oFld 1 ((Syntax.field 1) ∷ [])
       y3 8 λ v. Shared.lenV (v .0))
-  abbrev s36 : (bs : List Nat.ℕ) → Typed.Both (cx t30 t32) (cx t33 t32)
-  s36 = λ bs. Call.callB ps·4 r·4 (claims· .8) (claims· .9) (cx t30 t32) (record { pos = 17; ty = y6; ref = λ x. x }, (Num.vAt 5 λ x. x, tt)) 8 (3 ∷ []) y0
-  abbrev s37 : (bs : List Nat.ℕ) → Typed.Mo (cx t33 t32) → Typed.Mo (cx t33 t1)
-  s37 = λ bs. Scalar.n-room (cx t33 t32) 17 y7
-  abbrev s39 : (bs : List Nat.ℕ) → Typed.Mo (cx t33 t1) → Typed.Mo (cx t34 t1)
-  s39 = λ bs. Reshare.n-back-sl-shr NodeRecordT.row (cx t33 t1) 1 0 3 y11 Row.off λ x. x
-  abbrev s41 : (bs : List Nat.ℕ) → Typed.Asks (cx t34 t1) (cx t34 t35)
-  s41 = λ bs. Scalar.k-op1 (cx t34 t1) (Syntax.cast Syntax.unsigned Syntax.unsigned Syntax.w64) (Scalar.oAt 8 y0 (Row.valS (Row.sInt Syntax.w32))) 18
+  abbrev s36 : (bs : List Nat.ℕ) → Typed.Asks (cx t30 t32) (cx t30 t33)
+  s36 = λ bs. Scalar.k-op2 (cx t30 t32) (Syntax.sub Syntax.unsigned) (Scalar.oInt Syntax.w64 768) (Scalar.oAt 7 y3 (Row.valS (Row.sInt Syntax.w64))) 18
       (Rows.sc-here (Row.sInt Syntax.w64)) (Row.sInt Syntax.w64 .of)
-  abbrev s42 : (bs : List Nat.ℕ) → Typed.Asks (cx t34 t35) (cx t34 t36)
-  s42 = λ bs. Scalar.k-op2 (cx t34 t35) (Syntax.add Syntax.unsigned) (Scalar.oAt 18 y3 (Row.valS (Row.sInt Syntax.w64))) (Scalar.oAt 7 y3 (Row.valS (Row.sInt
-      Syntax.w64))) 19 (Rows.sc-here (Row.sInt Syntax.w64)) (Row.sInt Syntax.w64 .of)
-  abbrev s43 : (bs : List Nat.ℕ) → Typed.Mo (cx t34 t36) → Typed.Mo (cx t34 t37)
-  s43 = λ bs. Scalar.n-room (cx t34 t36) 18 y3
-  abbrev s44 : (bs : List Nat.ℕ) → Typed.Asks (cx t34 t37) (cx t38 t37)
-  s44 = λ bs. Scalar.k-op2 (cx t34 t37) (Syntax.lt Syntax.unsigned) (Scalar.oInt Syntax.w64 768) (Scalar.oAt 19 y3 (Row.valS (Row.sInt Syntax.w64))) 14
+  abbrev s37 : (bs : List Nat.ℕ) → Typed.Asks (cx t30 t33) (cx t30 t34)
+  s37 = λ bs. Scalar.k-op1 (cx t30 t33) (Syntax.cast Syntax.unsigned Syntax.unsigned Syntax.w32) (Scalar.oAt 18 y3 (Row.valS (Row.sInt Syntax.w64))) 19
+      (Rows.sc-here (Row.sInt Syntax.w32)) (Row.sInt Syntax.w32 .of)
+  abbrev s38 : (bs : List Nat.ℕ) → Typed.Mo (cx t30 t34) → Typed.Mo (cx t30 t35)
+  s38 = λ bs. Scalar.n-room (cx t30 t34) 18 y3
+  abbrev s39 : (bs : List Nat.ℕ) → Typed.Both (cx t30 t35) (cx t36 t35)
+  s39 = λ bs. Call.callB ps·4 r·4 (claims· .8) (claims· .9) (cx t30 t35) (record { pos = 17; ty = y6; ref = λ x. x }, (Num.vAt 19 λ x. x, (Num.vAt 5 λ x. x,
+      tt))) 8 (3 ∷ []) y0
+  abbrev s40 : (bs : List Nat.ℕ) → Typed.Mo (cx t36 t35) → Typed.Mo (cx t36 t37)
+  s40 = λ bs. Scalar.n-room (cx t36 t35) 17 y7
+  abbrev s41 : (bs : List Nat.ℕ) → Typed.Mo (cx t36 t37) → Typed.Mo (cx t36 t1)
+  s41 = λ bs. Scalar.n-room (cx t36 t37) 19 y0
+  abbrev s43 : (bs : List Nat.ℕ) → Typed.Mo (cx t36 t1) → Typed.Mo (cx t38 t1)
+  s43 = λ bs. Reshare.n-back-sl-shr NodeRecordT.row (cx t36 t1) 1 0 3 y11 Row.off λ x. x
+  abbrev s45 : (bs : List Nat.ℕ) → Typed.Asks (cx t38 t1) (cx t38 t39)
+  s45 = λ bs. Scalar.k-op1 (cx t38 t1) (Syntax.cast Syntax.unsigned Syntax.unsigned Syntax.w64) (Scalar.oAt 8 y0 (Row.valS (Row.sInt Syntax.w32))) 18
+      (Rows.sc-here (Row.sInt Syntax.w64)) (Row.sInt Syntax.w64 .of)
+  abbrev s46 : (bs : List Nat.ℕ) → Typed.Asks (cx t38 t39) (cx t38 t40)
+  s46 = λ bs. Scalar.k-op2 (cx t38 t39) (Syntax.add Syntax.unsigned) (Scalar.oAt 18 y3 (Row.valS (Row.sInt Syntax.w64))) (Scalar.oAt 7 y3 (Row.valS (Row.sInt
+      Syntax.w64))) 20 (Rows.sc-here (Row.sInt Syntax.w64)) (Row.sInt Syntax.w64 .of)
+  abbrev s47 : (bs : List Nat.ℕ) → Typed.Mo (cx t38 t40) → Typed.Mo (cx t38 t41)
+  s47 = λ bs. Scalar.n-room (cx t38 t40) 18 y3
+  abbrev s48 : (bs : List Nat.ℕ) → Typed.Asks (cx t38 t41) (cx t42 t41)
+  s48 = λ bs. Scalar.k-op2 (cx t38 t41) (Syntax.lt Syntax.unsigned) (Scalar.oInt Syntax.w64 768) (Scalar.oAt 20 y3 (Row.valS (Row.sInt Syntax.w64))) 14
       (Rows.sc-here Row.sBool) (Row.sBool .of)
-  abbrev s45 : (bs : List Nat.ℕ) → Typed.Mo (cx t38 t37) → Typed.Mo (cx t38 t1)
-  s45 = λ bs. Scalar.n-room (cx t38 t37) 19 y3
-  abbrev s46 : (bs : List Nat.ℕ) → Typed.Mo (cx t38 t1) → Typed.Mo (cx t39 t1)
-  s46 = λ bs. Scalar.n-room (cx t38 t1) 3 y16
-  abbrev s47 : (bs : List Nat.ℕ) → Typed.Mo (cx t39 t1) → Typed.Mo (cx t40 t1)
-  s47 = λ bs. Scalar.n-room (cx t39 t1) 14 Syntax.tyBool
-  abbrev s48 : (bs : List Nat.ℕ) → Typed.Both (cx t40 t1) (cx t41 t1)
-  s48 = λ bs. Call.callB ps·1 r·1 (claims· .2) (claims· .3) (cx t40 t1) (Num.vAt 5 λ x. x, tt) 0 [] y10
-  abbrev s49 : (bs : List Nat.ℕ) → Typed.Mo (cx t41 t1) → Typed.Mo (cx t42 t1)
-  s49 = λ bs. Scalar.n-room (cx t41 t1) 5 y0
+  abbrev s49 : (bs : List Nat.ℕ) → Typed.Mo (cx t42 t41) → Typed.Mo (cx t42 t1)
+  s49 = λ bs. Scalar.n-room (cx t42 t41) 20 y3
   abbrev s50 : (bs : List Nat.ℕ) → Typed.Mo (cx t42 t1) → Typed.Mo (cx t43 t1)
-  s50 = λ bs. Scalar.n-room (cx t42 t1) 7 y3
-  abbrev s51 : (bs : List Nat.ℕ) → Typed.Mo (cx t43 t1) → Typed.Mo (cx t2 t1)
-  s51 = λ bs. Scalar.n-room (cx t43 t1) 8 y0
-  abbrev s52 : (bs : List Nat.ℕ) → Typed.Mo (cx t38 t1) → Typed.Mo (cx t34 t1)
-  s52 = λ bs. Scalar.n-room (cx t38 t1) 14 Syntax.tyBool
-  abbrev s53 : (bs : List Nat.ℕ) → Typed.Asks (cx t34 t1) (cx t34 t44)
-  s53 = λ bs. Scalar.k-op1 (cx t34 t1) (Syntax.cast Syntax.unsigned Syntax.unsigned Syntax.w32) (Scalar.oAt 7 y3 (Row.valS (Row.sInt Syntax.w64))) 20
+  s50 = λ bs. Scalar.n-room (cx t42 t1) 3 y16
+  abbrev s51 : (bs : List Nat.ℕ) → Typed.Mo (cx t43 t1) → Typed.Mo (cx t44 t1)
+  s51 = λ bs. Scalar.n-room (cx t43 t1) 14 Syntax.tyBool
+  abbrev s52 : (bs : List Nat.ℕ) → Typed.Both (cx t44 t1) (cx t45 t1)
+  s52 = λ bs. Call.callB ps·1 r·1 (claims· .2) (claims· .3) (cx t44 t1) (Num.vAt 5 λ x. x, tt) 0 [] y10
+  abbrev s53 : (bs : List Nat.ℕ) → Typed.Mo (cx t45 t1) → Typed.Mo (cx t46 t1)
+  s53 = λ bs. Scalar.n-room (cx t45 t1) 5 y0
+  abbrev s54 : (bs : List Nat.ℕ) → Typed.Mo (cx t46 t1) → Typed.Mo (cx t47 t1)
+  s54 = λ bs. Scalar.n-room (cx t46 t1) 7 y3
+  abbrev s55 : (bs : List Nat.ℕ) → Typed.Mo (cx t47 t1) → Typed.Mo (cx t2 t1)
+  s55 = λ bs. Scalar.n-room (cx t47 t1) 8 y0
+  abbrev s56 : (bs : List Nat.ℕ) → Typed.Mo (cx t42 t1) → Typed.Mo (cx t38 t1)
+  s56 = λ bs. Scalar.n-room (cx t42 t1) 14 Syntax.tyBool
+  abbrev s57 : (bs : List Nat.ℕ) → Typed.Asks (cx t38 t1) (cx t38 t37)
+  s57 = λ bs. Scalar.k-op1 (cx t38 t1) (Syntax.cast Syntax.unsigned Syntax.unsigned Syntax.w32) (Scalar.oAt 7 y3 (Row.valS (Row.sInt Syntax.w64))) 19
       (Rows.sc-here (Row.sInt Syntax.w32)) (Row.sInt Syntax.w32 .of)
-  abbrev s54 : (bs : List Nat.ℕ) → Typed.Asks (cx t34 t44) (cx t34 t45)
-  s54 = λ bs. Scalar.k-op2 (cx t34 t44) (Syntax.add Syntax.unsigned) (Scalar.oAt 8 y0 (Row.valS (Row.sInt Syntax.w32))) (Scalar.oAt 20 y0 (Row.valS (Row.sInt
+  abbrev s58 : (bs : List Nat.ℕ) → Typed.Asks (cx t38 t37) (cx t38 t48)
+  s58 = λ bs. Scalar.k-op2 (cx t38 t37) (Syntax.add Syntax.unsigned) (Scalar.oAt 8 y0 (Row.valS (Row.sInt Syntax.w32))) (Scalar.oAt 19 y0 (Row.valS (Row.sInt
       Syntax.w32))) 21 (Rows.sc-here (Row.sInt Syntax.w32)) (Row.sInt Syntax.w32 .of)
-  abbrev s55 : (bs : List Nat.ℕ) → Typed.Mo (cx t34 t45) → Typed.Mo (cx t34 t46)
-  s55 = λ bs. Scalar.n-room (cx t34 t45) 20 y0
-  abbrev s56 : (bs : List Nat.ℕ) → Typed.Both (cx t34 t46) (cx t47 t46)
-  s56 = λ bs. Call.callB ps·5 r·5 (claims· .10) (claims· .11) (cx t34 t46) (Num.vAt 5 λ x. x, (Num.vAt 21 λ x. x, tt)) 9 [] y0
-  abbrev s57 : (bs : List Nat.ℕ) → Typed.Mo (cx t47 t46) → Typed.Mo (cx t47 t1)
-  s57 = λ bs. Scalar.n-room (cx t47 t46) 21 y0
-  abbrev s59 : (bs : List Nat.ℕ) → Typed.Gives (cx t47 t1) (cx t48 t49)
-  s59 = λ bs. Relend.k-sl-relend NodeRecordT.row (cx t47 t1) 1 22 0 4 y11 y8 Row.off λ x. x
-  abbrev s60 : (bs : List Nat.ℕ) → Typed.Asks (cx t48 t49) (cx t48 t50)
-  s60 = λ bs. Relend.k-sl-aggregate NodeRecordT.row (Relend.asMut NodeRecordT.row) (cx t48 t49) 22 23 4 y8 y8 (λ x. x) (Scalar.oFld 1 ((Syntax.field 1) ∷ [])
+  abbrev s59 : (bs : List Nat.ℕ) → Typed.Mo (cx t38 t48) → Typed.Mo (cx t38 t49)
+  s59 = λ bs. Scalar.n-room (cx t38 t48) 19 y0
+  abbrev s60 : (bs : List Nat.ℕ) → Typed.Both (cx t38 t49) (cx t50 t49)
+  s60 = λ bs. Call.callB ps·5 r·5 (claims· .10) (claims· .11) (cx t38 t49) (Num.vAt 5 λ x. x, (Num.vAt 21 λ x. x, tt)) 9 [] y0
+  abbrev s61 : (bs : List Nat.ℕ) → Typed.Mo (cx t50 t49) → Typed.Mo (cx t50 t1)
+  s61 = λ bs. Scalar.n-room (cx t50 t49) 21 y0
+  abbrev s63 : (bs : List Nat.ℕ) → Typed.Gives (cx t50 t1) (cx t51 t52)
+  s63 = λ bs. Relend.k-sl-relend NodeRecordT.row (cx t50 t1) 1 22 0 4 y11 y8 Row.off λ x. x
+  abbrev s64 : (bs : List Nat.ℕ) → Typed.Asks (cx t51 t52) (cx t51 t53)
+  s64 = λ bs. Relend.k-sl-aggregate NodeRecordT.row (Relend.asMut NodeRecordT.row) (cx t51 t52) 22 23 4 y8 y8 (λ x. x) (Scalar.oFld 1 ((Syntax.field 1) ∷ [])
       y3 8 λ v. Shared.lenV (v .0))
-  abbrev s61 : (bs : List Nat.ℕ) → Typed.Asks (cx t48 t50) (cx t48 t51)
-  s61 = λ bs. Scalar.k-op2 (cx t48 t50) (Syntax.add Syntax.unsigned) (Scalar.oAt 8 y0 (Row.valS (Row.sInt Syntax.w32))) (Scalar.oInt Syntax.w32 1) 20
+  abbrev s65 : (bs : List Nat.ℕ) → Typed.Asks (cx t51 t53) (cx t51 t54)
+  s65 = λ bs. Scalar.k-op2 (cx t51 t53) (Syntax.add Syntax.unsigned) (Scalar.oAt 8 y0 (Row.valS (Row.sInt Syntax.w32))) (Scalar.oInt Syntax.w32 1) 19
       (Rows.sc-here (Row.sInt Syntax.w32)) (Row.sInt Syntax.w32 .of)
-  abbrev s62 : (bs : List Nat.ℕ) → Typed.Both (cx t48 t51) (cx t52 t53)
-  s62 = λ bs. Call.callB ps·6 r·6 (claims· .12) (claims· .13) (cx t48 t51) (record { pos = 23; ty = y8; ref = λ x. x }, (Num.vAt 9 λ x. x, (record { pos = 2;
-      ty = y14; ref = λ x. x }, (record { pos = 3; st = []; d = 0; at = λ x. x }, (Num.vAt 20 λ x. x, tt))))) 10 (4 ∷ 1 ∷ []) y0
-  abbrev s63 : (bs : List Nat.ℕ) → Typed.Mo (cx t52 t53) → Typed.Mo (cx t54 t53)
-  s63 = λ bs. Scalar.n-room (cx t52 t53) 3 y16
-  abbrev s64 : (bs : List Nat.ℕ) → Typed.Mo (cx t54 t53) → Typed.Mo (cx t54 t55)
-  s64 = λ bs. Scalar.n-room (cx t54 t53) 20 y0
-  abbrev s66 : (bs : List Nat.ℕ) → Typed.Both (cx t54 t55) (cx t56 t1)
-  s66 = λ bs. Relend.k-back-sl NodeRecordT.row (cx t54 t55) 23 1 0 4 y11 y8 Row.off (λ x. x) λ x. x
-  abbrev s68 : (bs : List Nat.ℕ) → Typed.Mo (cx t56 t1) → Typed.Mo (cx t57 t1)
-  s68 = λ bs. Make.n-struct-make (Apart.apartT Rooting.the-type) (cx t56 t1) 0 λ m. (m .1 .1 .1 .1 .1 .1 .1 .1 .1 .0, (m .1 .1 .1 .1 .1 .1 .1 .1 .1 .1 .0,
+  abbrev s66 : (bs : List Nat.ℕ) → Typed.Both (cx t51 t54) (cx t55 t56)
+  s66 = λ bs. Call.callB ps·6 r·6 (claims· .12) (claims· .13) (cx t51 t54) (record { pos = 23; ty = y8; ref = λ x. x }, (Num.vAt 9 λ x. x, (record { pos = 2;
+      ty = y14; ref = λ x. x }, (record { pos = 3; st = []; d = 0; at = λ x. x }, (Num.vAt 19 λ x. x, tt))))) 10 (4 ∷ 1 ∷ []) y0
+  abbrev s67 : (bs : List Nat.ℕ) → Typed.Mo (cx t55 t56) → Typed.Mo (cx t57 t56)
+  s67 = λ bs. Scalar.n-room (cx t55 t56) 3 y16
+  abbrev s68 : (bs : List Nat.ℕ) → Typed.Mo (cx t57 t56) → Typed.Mo (cx t57 t58)
+  s68 = λ bs. Scalar.n-room (cx t57 t56) 19 y0
+  abbrev s70 : (bs : List Nat.ℕ) → Typed.Both (cx t57 t58) (cx t59 t1)
+  s70 = λ bs. Relend.k-back-sl NodeRecordT.row (cx t57 t58) 23 1 0 4 y11 y8 Row.off (λ x. x) λ x. x
+  abbrev s72 : (bs : List Nat.ℕ) → Typed.Mo (cx t59 t1) → Typed.Mo (cx t60 t1)
+  s72 = λ bs. Make.n-struct-make (Apart.apartT Rooting.the-type) (cx t59 t1) 0 λ m. (m .1 .1 .1 .1 .1 .1 .1 .1 .1 .0, (m .1 .1 .1 .1 .1 .1 .1 .1 .1 .1 .0,
       (Bool'.true, tt)))
-  abbrev s69 : (bs : List Nat.ℕ) → Typed.Mo (cx t57 t1) → Typed.Mo (cx t58 t1)
-  s69 = λ bs. Scalar.n-room (cx t57 t1) 5 y0
-  abbrev s70 : (bs : List Nat.ℕ) → Typed.Mo (cx t58 t1) → Typed.Mo (cx t59 t1)
-  s70 = λ bs. Scalar.n-room (cx t58 t1) 7 y3
-  abbrev s71 : (bs : List Nat.ℕ) → Typed.Mo (cx t59 t1) → Typed.Mo (cx t60 t1)
-  s71 = λ bs. Scalar.n-room (cx t59 t1) 8 y0
-  abbrev s72 : (bs : List Nat.ℕ) → Typed.Mo (cx t60 t1) → Typed.Mo (cx t61 t1)
-  s72 = λ bs. Scalar.n-room (cx t60 t1) 9 y0
-  abbrev s73 : (bs : List Nat.ℕ) → Typed.Mo (cx t61 t1) → Typed.Mo (cx t28 t1)
-  s73 = λ bs. Scalar.n-room (cx t61 t1) 10 y0
-  abbrev s74 : (bs : List Nat.ℕ) → Typed.Mo (cx t28 t1) → Typed.Mo (cx t2 t1)
-  s74 = λ bs. AtSlots.n-as-by (cx t28 t1) 0 (Rows.whole (Declared'.row Rooting.the-type)) λ v. Rooting.struct .make v tt
+  abbrev s73 : (bs : List Nat.ℕ) → Typed.Mo (cx t60 t1) → Typed.Mo (cx t61 t1)
+  s73 = λ bs. Scalar.n-room (cx t60 t1) 5 y0
+  abbrev s74 : (bs : List Nat.ℕ) → Typed.Mo (cx t61 t1) → Typed.Mo (cx t62 t1)
+  s74 = λ bs. Scalar.n-room (cx t61 t1) 7 y3
+  abbrev s75 : (bs : List Nat.ℕ) → Typed.Mo (cx t62 t1) → Typed.Mo (cx t63 t1)
+  s75 = λ bs. Scalar.n-room (cx t62 t1) 8 y0
+  abbrev s76 : (bs : List Nat.ℕ) → Typed.Mo (cx t63 t1) → Typed.Mo (cx t64 t1)
+  s76 = λ bs. Scalar.n-room (cx t63 t1) 9 y0
+  abbrev s77 : (bs : List Nat.ℕ) → Typed.Mo (cx t64 t1) → Typed.Mo (cx t28 t1)
+  s77 = λ bs. Scalar.n-room (cx t64 t1) 10 y0
+  abbrev s78 : (bs : List Nat.ℕ) → Typed.Mo (cx t28 t1) → Typed.Mo (cx t2 t1)
+  s78 = λ bs. AtSlots.n-as-by (cx t28 t1) 0 (Rows.whole (Declared'.row Rooting.the-type)) λ v. Rooting.struct .make v tt
   module _ (Pre· : (κs : Lifetimes.Lfts 2) → Kinds.Dens κs ps → Type 0) (Post· : (κs : Lifetimes.Lfts 2) → (a : Kinds.Dens κs ps) → Kinds.Plain 2 ps r κs)
       where
     module _ (M : Type 1) where
@@ -779,134 +807,142 @@ module _ (claims· : Claims) where
       at23 = λ bs. Scalar.Φcond (cx t19 t1) O2 11 (λ x. x) (at19 bs) (at22 bs)
       abbrev at24 : (bs : List Nat.ℕ) → Typed.TF (cx t2 t1) O3
       at24 = λ bs. Typed.atRet O3
-      abbrev at25 : (bs : List Nat.ℕ) → Typed.TF (cx t43 t1) O3
-      at25 = λ bs. λ Ψ. Typed.pass (cx t43 t1) (cx t2 t1) (s51 bs) (at24 bs Ψ)
-      abbrev at26 : (bs : List Nat.ℕ) → Typed.TF (cx t42 t1) O3
-      at26 = λ bs. λ Ψ. Typed.pass (cx t42 t1) (cx t43 t1) (s50 bs) (at25 bs Ψ)
-      abbrev at27 : (bs : List Nat.ℕ) → Typed.TF (cx t41 t1) O3
-      at27 = λ bs. λ Ψ. Typed.pass (cx t41 t1) (cx t42 t1) (s49 bs) (at26 bs Ψ)
-      abbrev at28 : (bs : List Nat.ℕ) → Typed.TF (cx t40 t1) O3
-      at28 = λ bs. λ Ψ. Typed.both (s48 bs) (at27 bs Ψ)
-      abbrev at29 : (bs : List Nat.ℕ) → Typed.TF (cx t39 t1) O3
-      at29 = λ bs. λ Ψ. Typed.pass (cx t39 t1) (cx t40 t1) (s47 bs) (at28 bs Ψ)
-      abbrev at30 : (bs : List Nat.ℕ) → Typed.TF (cx t38 t1) O3
-      at30 = λ bs. λ Ψ. Typed.pass (cx t38 t1) (cx t39 t1) (s46 bs) (at29 bs Ψ)
-      abbrev at31 : (bs : List Nat.ℕ) → Typed.TF (cx t34 t1) O3
+      abbrev at25 : (bs : List Nat.ℕ) → Typed.TF (cx t47 t1) O3
+      at25 = λ bs. λ Ψ. Typed.pass (cx t47 t1) (cx t2 t1) (s55 bs) (at24 bs Ψ)
+      abbrev at26 : (bs : List Nat.ℕ) → Typed.TF (cx t46 t1) O3
+      at26 = λ bs. λ Ψ. Typed.pass (cx t46 t1) (cx t47 t1) (s54 bs) (at25 bs Ψ)
+      abbrev at27 : (bs : List Nat.ℕ) → Typed.TF (cx t45 t1) O3
+      at27 = λ bs. λ Ψ. Typed.pass (cx t45 t1) (cx t46 t1) (s53 bs) (at26 bs Ψ)
+      abbrev at28 : (bs : List Nat.ℕ) → Typed.TF (cx t44 t1) O3
+      at28 = λ bs. λ Ψ. Typed.both (s52 bs) (at27 bs Ψ)
+      abbrev at29 : (bs : List Nat.ℕ) → Typed.TF (cx t43 t1) O3
+      at29 = λ bs. λ Ψ. Typed.pass (cx t43 t1) (cx t44 t1) (s51 bs) (at28 bs Ψ)
+      abbrev at30 : (bs : List Nat.ℕ) → Typed.TF (cx t42 t1) O3
+      at30 = λ bs. λ Ψ. Typed.pass (cx t42 t1) (cx t43 t1) (s50 bs) (at29 bs Ψ)
+      abbrev at31 : (bs : List Nat.ℕ) → Typed.TF (cx t38 t1) O3
       at31 = λ bs. Typed.atNext O3
-      abbrev at32 : (bs : List Nat.ℕ) → Typed.TF (cx t38 t1) O3
-      at32 = λ bs. λ Ψ. Typed.pass (cx t38 t1) (cx t34 t1) (s52 bs) (at31 bs Ψ)
-      abbrev at33 : (bs : List Nat.ℕ) → Typed.TF (cx t38 t1) O3
-      at33 = λ bs. Scalar.Φcond (cx t38 t1) O3 14 (λ x. x) (at30 bs) (at32 bs)
-      abbrev at34 : (bs : List Nat.ℕ) → Typed.TF (cx t38 t37) O3
-      at34 = λ bs. λ Ψ. Typed.pass (cx t38 t37) (cx t38 t1) (s45 bs) (at33 bs Ψ)
+      abbrev at32 : (bs : List Nat.ℕ) → Typed.TF (cx t42 t1) O3
+      at32 = λ bs. λ Ψ. Typed.pass (cx t42 t1) (cx t38 t1) (s56 bs) (at31 bs Ψ)
+      abbrev at33 : (bs : List Nat.ℕ) → Typed.TF (cx t42 t1) O3
+      at33 = λ bs. Scalar.Φcond (cx t42 t1) O3 14 (λ x. x) (at30 bs) (at32 bs)
+      abbrev at34 : (bs : List Nat.ℕ) → Typed.TF (cx t42 t41) O3
+      at34 = λ bs. λ Ψ. Typed.pass (cx t42 t41) (cx t42 t1) (s49 bs) (at33 bs Ψ)
       abbrev at35 : (bs : List Nat.ℕ) → Typed.TF (cx t2 t1) O0
       at35 = λ bs. Typed.atRet O0
       abbrev at36 : (bs : List Nat.ℕ) → Typed.TF (cx t28 t1) O0
-      at36 = λ bs. λ Ψ. Typed.pass (cx t28 t1) (cx t2 t1) (s74 bs) (at35 bs Ψ)
-      abbrev at37 : (bs : List Nat.ℕ) → Typed.TF (cx t61 t1) O0
-      at37 = λ bs. λ Ψ. Typed.pass (cx t61 t1) (cx t28 t1) (s73 bs) (at36 bs Ψ)
-      abbrev at38 : (bs : List Nat.ℕ) → Typed.TF (cx t60 t1) O0
-      at38 = λ bs. λ Ψ. Typed.pass (cx t60 t1) (cx t61 t1) (s72 bs) (at37 bs Ψ)
-      abbrev at39 : (bs : List Nat.ℕ) → Typed.TF (cx t59 t1) O0
-      at39 = λ bs. λ Ψ. Typed.pass (cx t59 t1) (cx t60 t1) (s71 bs) (at38 bs Ψ)
-      abbrev at40 : (bs : List Nat.ℕ) → Typed.TF (cx t58 t1) O0
-      at40 = λ bs. λ Ψ. Typed.pass (cx t58 t1) (cx t59 t1) (s70 bs) (at39 bs Ψ)
-      abbrev at41 : (bs : List Nat.ℕ) → Typed.TF (cx t57 t1) O0
-      at41 = λ bs. λ Ψ. Typed.pass (cx t57 t1) (cx t58 t1) (s69 bs) (at40 bs Ψ)
-      abbrev at42 : (bs : List Nat.ℕ) → Typed.TF (cx t56 t1) O0
-      at42 = λ bs. λ Ψ. Typed.pass (cx t56 t1) (cx t57 t1) (s68 bs) (at41 bs Ψ)
-      abbrev at43 : (bs : List Nat.ℕ) → Typed.TF (cx t56 t1) O0
+      at36 = λ bs. λ Ψ. Typed.pass (cx t28 t1) (cx t2 t1) (s78 bs) (at35 bs Ψ)
+      abbrev at37 : (bs : List Nat.ℕ) → Typed.TF (cx t64 t1) O0
+      at37 = λ bs. λ Ψ. Typed.pass (cx t64 t1) (cx t28 t1) (s77 bs) (at36 bs Ψ)
+      abbrev at38 : (bs : List Nat.ℕ) → Typed.TF (cx t63 t1) O0
+      at38 = λ bs. λ Ψ. Typed.pass (cx t63 t1) (cx t64 t1) (s76 bs) (at37 bs Ψ)
+      abbrev at39 : (bs : List Nat.ℕ) → Typed.TF (cx t62 t1) O0
+      at39 = λ bs. λ Ψ. Typed.pass (cx t62 t1) (cx t63 t1) (s75 bs) (at38 bs Ψ)
+      abbrev at40 : (bs : List Nat.ℕ) → Typed.TF (cx t61 t1) O0
+      at40 = λ bs. λ Ψ. Typed.pass (cx t61 t1) (cx t62 t1) (s74 bs) (at39 bs Ψ)
+      abbrev at41 : (bs : List Nat.ℕ) → Typed.TF (cx t60 t1) O0
+      at41 = λ bs. λ Ψ. Typed.pass (cx t60 t1) (cx t61 t1) (s73 bs) (at40 bs Ψ)
+      abbrev at42 : (bs : List Nat.ℕ) → Typed.TF (cx t59 t1) O0
+      at42 = λ bs. λ Ψ. Typed.pass (cx t59 t1) (cx t60 t1) (s72 bs) (at41 bs Ψ)
+      abbrev at43 : (bs : List Nat.ℕ) → Typed.TF (cx t59 t1) O0
       at43 = λ bs. λ Ψ. at42 bs Ψ
-      abbrev at44 : (bs : List Nat.ℕ) → Typed.TF (cx t54 t55) O0
-      at44 = λ bs. λ Ψ. Typed.both (s66 bs) (at43 bs Ψ)
-      abbrev at45 : (bs : List Nat.ℕ) → Typed.TF (cx t54 t55) O0
+      abbrev at44 : (bs : List Nat.ℕ) → Typed.TF (cx t57 t58) O0
+      at44 = λ bs. λ Ψ. Typed.both (s70 bs) (at43 bs Ψ)
+      abbrev at45 : (bs : List Nat.ℕ) → Typed.TF (cx t57 t58) O0
       at45 = λ bs. λ Ψ. at44 bs Ψ
-      abbrev at46 : (bs : List Nat.ℕ) → Typed.TF (cx t54 t53) O0
-      at46 = λ bs. λ Ψ. Typed.pass (cx t54 t53) (cx t54 t55) (s64 bs) (at45 bs Ψ)
-      abbrev at47 : (bs : List Nat.ℕ) → Typed.TF (cx t52 t53) O0
-      at47 = λ bs. λ Ψ. Typed.pass (cx t52 t53) (cx t54 t53) (s63 bs) (at46 bs Ψ)
-      abbrev at48 : (bs : List Nat.ℕ) → Typed.TF (cx t48 t51) O0
-      at48 = λ bs. λ Ψ. Typed.both (s62 bs) (at47 bs Ψ)
-      abbrev at49 : (bs : List Nat.ℕ) → Typed.TF (cx t48 t50) O0
-      at49 = λ bs. λ Ψ. Typed.ask (s61 bs) (at48 bs Ψ)
-      abbrev at50 : (bs : List Nat.ℕ) → Typed.TF (cx t48 t49) O0
-      at50 = λ bs. λ Ψ. Typed.ask (s60 bs) (at49 bs Ψ)
-      abbrev at51 : (bs : List Nat.ℕ) → Typed.TF (cx t47 t1) O0
-      at51 = λ bs. λ Ψ. Typed.give (s59 bs) (at50 bs Ψ)
-      abbrev at52 : (bs : List Nat.ℕ) → Typed.TF (cx t47 t1) O0
+      abbrev at46 : (bs : List Nat.ℕ) → Typed.TF (cx t57 t56) O0
+      at46 = λ bs. λ Ψ. Typed.pass (cx t57 t56) (cx t57 t58) (s68 bs) (at45 bs Ψ)
+      abbrev at47 : (bs : List Nat.ℕ) → Typed.TF (cx t55 t56) O0
+      at47 = λ bs. λ Ψ. Typed.pass (cx t55 t56) (cx t57 t56) (s67 bs) (at46 bs Ψ)
+      abbrev at48 : (bs : List Nat.ℕ) → Typed.TF (cx t51 t54) O0
+      at48 = λ bs. λ Ψ. Typed.both (s66 bs) (at47 bs Ψ)
+      abbrev at49 : (bs : List Nat.ℕ) → Typed.TF (cx t51 t53) O0
+      at49 = λ bs. λ Ψ. Typed.ask (s65 bs) (at48 bs Ψ)
+      abbrev at50 : (bs : List Nat.ℕ) → Typed.TF (cx t51 t52) O0
+      at50 = λ bs. λ Ψ. Typed.ask (s64 bs) (at49 bs Ψ)
+      abbrev at51 : (bs : List Nat.ℕ) → Typed.TF (cx t50 t1) O0
+      at51 = λ bs. λ Ψ. Typed.give (s63 bs) (at50 bs Ψ)
+      abbrev at52 : (bs : List Nat.ℕ) → Typed.TF (cx t50 t1) O0
       at52 = λ bs. λ Ψ. at51 bs Ψ
-      abbrev at53 : (bs : List Nat.ℕ) → Typed.TF (cx t47 t46) O0
-      at53 = λ bs. λ Ψ. Typed.pass (cx t47 t46) (cx t47 t1) (s57 bs) (at52 bs Ψ)
-      abbrev at54 : (bs : List Nat.ℕ) → Typed.TF (cx t34 t46) O0
-      at54 = λ bs. λ Ψ. Typed.both (s56 bs) (at53 bs Ψ)
-      abbrev at55 : (bs : List Nat.ℕ) → Typed.TF (cx t34 t45) O0
-      at55 = λ bs. λ Ψ. Typed.pass (cx t34 t45) (cx t34 t46) (s55 bs) (at54 bs Ψ)
-      abbrev at56 : (bs : List Nat.ℕ) → Typed.TF (cx t34 t44) O0
-      at56 = λ bs. λ Ψ. Typed.ask (s54 bs) (at55 bs Ψ)
-      abbrev at57 : (bs : List Nat.ℕ) → Typed.TF (cx t34 t1) O0
-      at57 = λ bs. λ Ψ. Typed.ask (s53 bs) (at56 bs Ψ)
-      abbrev at58 : (bs : List Nat.ℕ) → Typed.TF (cx t38 t37) O0
-      at58 = λ bs. λ Ψ. at34 bs (Typed.wantNext (cx t34 t1) O0 (at57 bs Ψ) Ψ)
-      abbrev at59 : (bs : List Nat.ℕ) → Typed.TF (cx t34 t37) O0
-      at59 = λ bs. λ Ψ. Typed.ask (s44 bs) (at58 bs Ψ)
-      abbrev at60 : (bs : List Nat.ℕ) → Typed.TF (cx t34 t36) O0
-      at60 = λ bs. λ Ψ. Typed.pass (cx t34 t36) (cx t34 t37) (s43 bs) (at59 bs Ψ)
-      abbrev at61 : (bs : List Nat.ℕ) → Typed.TF (cx t34 t35) O0
-      at61 = λ bs. λ Ψ. Typed.ask (s42 bs) (at60 bs Ψ)
-      abbrev at62 : (bs : List Nat.ℕ) → Typed.TF (cx t34 t1) O0
-      at62 = λ bs. λ Ψ. Typed.ask (s41 bs) (at61 bs Ψ)
-      abbrev at63 : (bs : List Nat.ℕ) → Typed.TF (cx t34 t1) O0
+      abbrev at53 : (bs : List Nat.ℕ) → Typed.TF (cx t50 t49) O0
+      at53 = λ bs. λ Ψ. Typed.pass (cx t50 t49) (cx t50 t1) (s61 bs) (at52 bs Ψ)
+      abbrev at54 : (bs : List Nat.ℕ) → Typed.TF (cx t38 t49) O0
+      at54 = λ bs. λ Ψ. Typed.both (s60 bs) (at53 bs Ψ)
+      abbrev at55 : (bs : List Nat.ℕ) → Typed.TF (cx t38 t48) O0
+      at55 = λ bs. λ Ψ. Typed.pass (cx t38 t48) (cx t38 t49) (s59 bs) (at54 bs Ψ)
+      abbrev at56 : (bs : List Nat.ℕ) → Typed.TF (cx t38 t37) O0
+      at56 = λ bs. λ Ψ. Typed.ask (s58 bs) (at55 bs Ψ)
+      abbrev at57 : (bs : List Nat.ℕ) → Typed.TF (cx t38 t1) O0
+      at57 = λ bs. λ Ψ. Typed.ask (s57 bs) (at56 bs Ψ)
+      abbrev at58 : (bs : List Nat.ℕ) → Typed.TF (cx t42 t41) O0
+      at58 = λ bs. λ Ψ. at34 bs (Typed.wantNext (cx t38 t1) O0 (at57 bs Ψ) Ψ)
+      abbrev at59 : (bs : List Nat.ℕ) → Typed.TF (cx t38 t41) O0
+      at59 = λ bs. λ Ψ. Typed.ask (s48 bs) (at58 bs Ψ)
+      abbrev at60 : (bs : List Nat.ℕ) → Typed.TF (cx t38 t40) O0
+      at60 = λ bs. λ Ψ. Typed.pass (cx t38 t40) (cx t38 t41) (s47 bs) (at59 bs Ψ)
+      abbrev at61 : (bs : List Nat.ℕ) → Typed.TF (cx t38 t39) O0
+      at61 = λ bs. λ Ψ. Typed.ask (s46 bs) (at60 bs Ψ)
+      abbrev at62 : (bs : List Nat.ℕ) → Typed.TF (cx t38 t1) O0
+      at62 = λ bs. λ Ψ. Typed.ask (s45 bs) (at61 bs Ψ)
+      abbrev at63 : (bs : List Nat.ℕ) → Typed.TF (cx t38 t1) O0
       at63 = λ bs. λ Ψ. at62 bs Ψ
-      abbrev at64 : (bs : List Nat.ℕ) → Typed.TF (cx t33 t1) O0
-      at64 = λ bs. λ Ψ. Typed.pass (cx t33 t1) (cx t34 t1) (s39 bs) (at63 bs Ψ)
-      abbrev at65 : (bs : List Nat.ℕ) → Typed.TF (cx t33 t1) O0
+      abbrev at64 : (bs : List Nat.ℕ) → Typed.TF (cx t36 t1) O0
+      at64 = λ bs. λ Ψ. Typed.pass (cx t36 t1) (cx t38 t1) (s43 bs) (at63 bs Ψ)
+      abbrev at65 : (bs : List Nat.ℕ) → Typed.TF (cx t36 t1) O0
       at65 = λ bs. λ Ψ. at64 bs Ψ
-      abbrev at66 : (bs : List Nat.ℕ) → Typed.TF (cx t33 t32) O0
-      at66 = λ bs. λ Ψ. Typed.pass (cx t33 t32) (cx t33 t1) (s37 bs) (at65 bs Ψ)
-      abbrev at67 : (bs : List Nat.ℕ) → Typed.TF (cx t30 t32) O0
-      at67 = λ bs. λ Ψ. Typed.both (s36 bs) (at66 bs Ψ)
-      abbrev at68 : (bs : List Nat.ℕ) → Typed.TF (cx t30 t31) O0
-      at68 = λ bs. λ Ψ. Typed.ask (s35 bs) (at67 bs Ψ)
-      abbrev at69 : (bs : List Nat.ℕ) → Typed.TF (cx t20 t1) O0
-      at69 = λ bs. λ Ψ. Typed.give (s34 bs) (at68 bs Ψ)
-      abbrev at70 : (bs : List Nat.ℕ) → Typed.TF (cx t20 t1) O0
-      at70 = λ bs. λ Ψ. at69 bs Ψ
-      abbrev at71 : (bs : List Nat.ℕ) → Typed.TF (cx t19 t1) O0
-      at71 = λ bs. λ Ψ. at23 bs (Typed.wantNext (cx t20 t1) O0 (at70 bs Ψ) Ψ)
-      abbrev at72 : (bs : List Nat.ℕ) → Typed.TF (cx t18 t1) O0
-      at72 = λ bs. λ Ψ. Typed.ask (s21 bs) (at71 bs Ψ)
-      abbrev at73 : (bs : List Nat.ℕ) → Typed.TF (cx t17 t1) O0
-      at73 = λ bs. λ Ψ. Typed.pass (cx t17 t1) (cx t18 t1) (s20 bs) (at72 bs Ψ)
-      abbrev at74 : (bs : List Nat.ℕ) → Typed.TF (cx t16 t1) O0
-      at74 = λ bs. λ Ψ. Typed.both (s19 bs) (at73 bs Ψ)
-      abbrev at75 : (bs : List Nat.ℕ) → Typed.TF (cx t4 t1) O0
-      at75 = λ bs. λ Ψ. Typed.pass (cx t4 t1) (cx t16 t1) (s18 bs) (at74 bs Ψ)
-      abbrev at76 : (bs : List Nat.ℕ) → Typed.TF (cx t10 t1) O0
-      at76 = λ bs. λ Ψ. at9 bs (Typed.wantNext (cx t4 t1) O0 (at75 bs Ψ) Ψ)
-      abbrev at77 : (bs : List Nat.ℕ) → Typed.TF (cx t9 t1) O0
-      at77 = λ bs. λ Ψ. Typed.ask (s10 bs) (at76 bs Ψ)
-      abbrev at78 : (bs : List Nat.ℕ) → Typed.TF (cx t9 t1) O0
-      at78 = λ bs. λ Ψ. at77 bs Ψ
-      abbrev at79 : (bs : List Nat.ℕ) → Typed.TF (cx t8 t1) O0
-      at79 = λ bs. λ Ψ. Typed.pass (cx t8 t1) (cx t9 t1) (s8 bs) (at78 bs Ψ)
-      abbrev at80 : (bs : List Nat.ℕ) → Typed.TF (cx t8 t1) O0
-      at80 = λ bs. λ Ψ. at79 bs Ψ
-      abbrev at81 : (bs : List Nat.ℕ) → Typed.TF (cx t7 t1) O0
-      at81 = λ bs. λ Ψ. Typed.pass (cx t7 t1) (cx t8 t1) (s6 bs) (at80 bs Ψ)
-      abbrev at82 : (bs : List Nat.ℕ) → Typed.TF (cx t6 t1) O0
-      at82 = λ bs. λ Ψ. Typed.both (s5 bs) (at81 bs Ψ)
-      abbrev at83 : (bs : List Nat.ℕ) → Typed.TF (cx t5 t1) O0
-      at83 = λ bs. λ Ψ. Typed.ask (s4 bs) (at82 bs Ψ)
-      abbrev at84 : (bs : List Nat.ℕ) → Typed.TF (cx t4 t1) O0
-      at84 = λ bs. λ Ψ. Typed.give (s3 bs) (at83 bs Ψ)
-      abbrev at85 : (bs : List Nat.ℕ) → Typed.TF (cx t4 t1) O0
-      at85 = λ bs. λ Ψ. at84 bs Ψ
-      abbrev at86 : (bs : List Nat.ℕ) → Typed.TF (cx t3 t1) O0
-      at86 = λ bs. λ Ψ. Typed.pass (cx t3 t1) (cx t4 t1) (s1 bs) (at85 bs Ψ)
-      abbrev at87 : (bs : List Nat.ℕ) → Typed.TF (cx t0 t1) O0
-      at87 = λ bs. λ Ψ. Typed.both (s0 bs) (at86 bs Ψ)
+      abbrev at66 : (bs : List Nat.ℕ) → Typed.TF (cx t36 t37) O0
+      at66 = λ bs. λ Ψ. Typed.pass (cx t36 t37) (cx t36 t1) (s41 bs) (at65 bs Ψ)
+      abbrev at67 : (bs : List Nat.ℕ) → Typed.TF (cx t36 t35) O0
+      at67 = λ bs. λ Ψ. Typed.pass (cx t36 t35) (cx t36 t37) (s40 bs) (at66 bs Ψ)
+      abbrev at68 : (bs : List Nat.ℕ) → Typed.TF (cx t30 t35) O0
+      at68 = λ bs. λ Ψ. Typed.both (s39 bs) (at67 bs Ψ)
+      abbrev at69 : (bs : List Nat.ℕ) → Typed.TF (cx t30 t34) O0
+      at69 = λ bs. λ Ψ. Typed.pass (cx t30 t34) (cx t30 t35) (s38 bs) (at68 bs Ψ)
+      abbrev at70 : (bs : List Nat.ℕ) → Typed.TF (cx t30 t33) O0
+      at70 = λ bs. λ Ψ. Typed.ask (s37 bs) (at69 bs Ψ)
+      abbrev at71 : (bs : List Nat.ℕ) → Typed.TF (cx t30 t32) O0
+      at71 = λ bs. λ Ψ. Typed.ask (s36 bs) (at70 bs Ψ)
+      abbrev at72 : (bs : List Nat.ℕ) → Typed.TF (cx t30 t31) O0
+      at72 = λ bs. λ Ψ. Typed.ask (s35 bs) (at71 bs Ψ)
+      abbrev at73 : (bs : List Nat.ℕ) → Typed.TF (cx t20 t1) O0
+      at73 = λ bs. λ Ψ. Typed.give (s34 bs) (at72 bs Ψ)
+      abbrev at74 : (bs : List Nat.ℕ) → Typed.TF (cx t20 t1) O0
+      at74 = λ bs. λ Ψ. at73 bs Ψ
+      abbrev at75 : (bs : List Nat.ℕ) → Typed.TF (cx t19 t1) O0
+      at75 = λ bs. λ Ψ. at23 bs (Typed.wantNext (cx t20 t1) O0 (at74 bs Ψ) Ψ)
+      abbrev at76 : (bs : List Nat.ℕ) → Typed.TF (cx t18 t1) O0
+      at76 = λ bs. λ Ψ. Typed.ask (s21 bs) (at75 bs Ψ)
+      abbrev at77 : (bs : List Nat.ℕ) → Typed.TF (cx t17 t1) O0
+      at77 = λ bs. λ Ψ. Typed.pass (cx t17 t1) (cx t18 t1) (s20 bs) (at76 bs Ψ)
+      abbrev at78 : (bs : List Nat.ℕ) → Typed.TF (cx t16 t1) O0
+      at78 = λ bs. λ Ψ. Typed.both (s19 bs) (at77 bs Ψ)
+      abbrev at79 : (bs : List Nat.ℕ) → Typed.TF (cx t4 t1) O0
+      at79 = λ bs. λ Ψ. Typed.pass (cx t4 t1) (cx t16 t1) (s18 bs) (at78 bs Ψ)
+      abbrev at80 : (bs : List Nat.ℕ) → Typed.TF (cx t10 t1) O0
+      at80 = λ bs. λ Ψ. at9 bs (Typed.wantNext (cx t4 t1) O0 (at79 bs Ψ) Ψ)
+      abbrev at81 : (bs : List Nat.ℕ) → Typed.TF (cx t9 t1) O0
+      at81 = λ bs. λ Ψ. Typed.ask (s10 bs) (at80 bs Ψ)
+      abbrev at82 : (bs : List Nat.ℕ) → Typed.TF (cx t9 t1) O0
+      at82 = λ bs. λ Ψ. at81 bs Ψ
+      abbrev at83 : (bs : List Nat.ℕ) → Typed.TF (cx t8 t1) O0
+      at83 = λ bs. λ Ψ. Typed.pass (cx t8 t1) (cx t9 t1) (s8 bs) (at82 bs Ψ)
+      abbrev at84 : (bs : List Nat.ℕ) → Typed.TF (cx t8 t1) O0
+      at84 = λ bs. λ Ψ. at83 bs Ψ
+      abbrev at85 : (bs : List Nat.ℕ) → Typed.TF (cx t7 t1) O0
+      at85 = λ bs. λ Ψ. Typed.pass (cx t7 t1) (cx t8 t1) (s6 bs) (at84 bs Ψ)
+      abbrev at86 : (bs : List Nat.ℕ) → Typed.TF (cx t6 t1) O0
+      at86 = λ bs. λ Ψ. Typed.both (s5 bs) (at85 bs Ψ)
+      abbrev at87 : (bs : List Nat.ℕ) → Typed.TF (cx t5 t1) O0
+      at87 = λ bs. λ Ψ. Typed.ask (s4 bs) (at86 bs Ψ)
+      abbrev at88 : (bs : List Nat.ℕ) → Typed.TF (cx t4 t1) O0
+      at88 = λ bs. λ Ψ. Typed.give (s3 bs) (at87 bs Ψ)
+      abbrev at89 : (bs : List Nat.ℕ) → Typed.TF (cx t4 t1) O0
+      at89 = λ bs. λ Ψ. at88 bs Ψ
+      abbrev at90 : (bs : List Nat.ℕ) → Typed.TF (cx t3 t1) O0
+      at90 = λ bs. λ Ψ. Typed.pass (cx t3 t1) (cx t4 t1) (s1 bs) (at89 bs Ψ)
+      abbrev at91 : (bs : List Nat.ℕ) → Typed.TF (cx t0 t1) O0
+      at91 = λ bs. λ Ψ. Typed.both (s0 bs) (at90 bs Ψ)
       abbrev pub Φ : (bs : List Nat.ℕ) → Typed.TF (cx t0 t1) O0
-      Φ = λ bs. at87 bs
+      Φ = λ bs. at91 bs
       module _ {M : Type 1} (𝓤 : URA.URA M) (H : Wp.Heap 𝓤) (A : Atoms.Atoms 𝓤) (W : Kit.Given 𝓤 H A) (𝓣 : Wp.Tables 𝓤 H) where
         abbrev Knowns : Type 1
         Knowns = Plain.Known 𝓤 H A W 𝓣 2 ps·0 r·0 (claims· .0) (claims· .1) "blocks::can_root" × Plain.Known 𝓤 H A W 𝓣 0 ps·1 r·1 (claims· .2) (claims· .3)
@@ -960,14 +996,14 @@ module _ (claims· : Claims) where
         g8 = e0 ∷ e1d ∷ e2 ∷ e3 ∷ e4a ∷ e5a ∷ e6 ∷ e7 ∷ e8 ∷ e9 ∷ e10 ∷ e11a ∷ e12 ∷ e13 ∷ e14 ∷ e15 ∷ []
         abbrev g30 : List Row.Entry
         g30 = e0 ∷ e1e ∷ e2 ∷ e3 ∷ e4 ∷ e5a ∷ e6 ∷ e7a ∷ e8 ∷ e9 ∷ e10 ∷ e11 ∷ e12 ∷ e13 ∷ e14 ∷ e15 ∷ []
-        abbrev g33 : List Row.Entry
-        g33 = e0 ∷ e1e ∷ e2 ∷ e3 ∷ e4 ∷ e5a ∷ e6 ∷ e7a ∷ e8a ∷ e9 ∷ e10 ∷ e11 ∷ e12 ∷ e13 ∷ e14 ∷ e15 ∷ []
-        abbrev g48 : List Row.Entry
-        g48 = e0 ∷ e1f ∷ e2 ∷ e3 ∷ e4 ∷ e5a ∷ e6 ∷ e7a ∷ e8a ∷ e9a ∷ e10 ∷ e11 ∷ e12 ∷ e13 ∷ e14 ∷ e15 ∷ []
-        abbrev g52 : List Row.Entry
-        g52 = e0 ∷ e1f ∷ e2 ∷ e3 ∷ e4 ∷ e5a ∷ e6 ∷ e7a ∷ e8a ∷ e9a ∷ e10a ∷ e11 ∷ e12 ∷ e13 ∷ e14 ∷ e15 ∷ []
-        abbrev g54 : List Row.Entry
-        g54 = e0 ∷ e1f ∷ e2 ∷ e3a ∷ e4 ∷ e5a ∷ e6 ∷ e7a ∷ e8a ∷ e9a ∷ e10a ∷ e11 ∷ e12 ∷ e13 ∷ e14 ∷ e15 ∷ []
+        abbrev g36 : List Row.Entry
+        g36 = e0 ∷ e1e ∷ e2 ∷ e3 ∷ e4 ∷ e5a ∷ e6 ∷ e7a ∷ e8a ∷ e9 ∷ e10 ∷ e11 ∷ e12 ∷ e13 ∷ e14 ∷ e15 ∷ []
+        abbrev g51 : List Row.Entry
+        g51 = e0 ∷ e1f ∷ e2 ∷ e3 ∷ e4 ∷ e5a ∷ e6 ∷ e7a ∷ e8a ∷ e9a ∷ e10 ∷ e11 ∷ e12 ∷ e13 ∷ e14 ∷ e15 ∷ []
+        abbrev g55 : List Row.Entry
+        g55 = e0 ∷ e1f ∷ e2 ∷ e3 ∷ e4 ∷ e5a ∷ e6 ∷ e7a ∷ e8a ∷ e9a ∷ e10a ∷ e11 ∷ e12 ∷ e13 ∷ e14 ∷ e15 ∷ []
+        abbrev g57 : List Row.Entry
+        g57 = e0 ∷ e1f ∷ e2 ∷ e3a ∷ e4 ∷ e5a ∷ e6 ∷ e7a ∷ e8a ∷ e9a ∷ e10a ∷ e11 ∷ e12 ∷ e13 ∷ e14 ∷ e15 ∷ []
         abbrev Δ0 : Typed.Outs
         Δ0 = record { next = Option.none; exits = []; returns = Option.some (gx t2 t1 l0) }
         abbrev Δ1 : Typed.Outs
@@ -975,7 +1011,7 @@ module _ (claims· : Claims) where
         abbrev Δ2 : Typed.Outs
         Δ2 = Typed.withNext (Option.some (gx t20 t1 l0)) Δ0
         abbrev Δ3 : Typed.Outs
-        Δ3 = Typed.withNext (Option.some (gx t34 t1 l0)) Δ0
+        Δ3 = Typed.withNext (Option.some (gx t38 t1 l0)) Δ0
         module _ {M : Type 1} (𝓤 : URA.URA M) (H : Wp.Heap 𝓤) (A : Atoms.Atoms 𝓤) (W : Kit.Given 𝓤 H A) (𝓣 : Wp.Tables 𝓤 H) (known : Knowns 𝓤 H A W 𝓣) (bs :
             List Nat.ℕ) (bd : Lifetimes.AllOutlive 2 (Kinds.osR r) κs) where
           abbrev E : Wp.Env 𝓤 H
@@ -1057,203 +1093,219 @@ module _ (claims· : Claims) where
               (gx t19 t1 l0) 4 y5 (Local.room-whole 𝓤 H A W (Declared'.row Run.the-type) y5 Path'.refl)) d21
           d23 : Typed.Typed 𝓤 H A 𝓣 E (gx t19 t1 l0) b20 Δ2 (at23 bs)
           d23 = Scalar.t-cond 𝓤 H A W E 𝓣 (gx t19 t1 l0) 11 (λ x. x) b18 b19 Δ2 (at19 bs) (at22 bs) (Scalar.reads-sc 𝓤 H A W Row.sBool) Path'.refl d19 d22
-          d24 : Typed.Typed 𝓤 H A 𝓣 E (gx t2 t1 l0) b28 Δ3 (at24 bs)
+          d24 : Typed.Typed 𝓤 H A 𝓣 E (gx t2 t1 l0) b30 Δ3 (at24 bs)
           d24 = Typed.t-return 𝓤 H A W 𝓣 E Δ3 tt
-          d25 : Typed.Typed 𝓤 H A 𝓣 E (gx t43 t1 l0) b28 Δ3 (at25 bs)
-          d25 = Typed.g-pre 𝓤 H A W 𝓣 E (gx t43 t1 l0) (gx t2 t1 l0) b28 Δ3 (Typed.pass (cx t43 t1) (cx t2 t1) (s51 bs)) (at24 bs) (Scalar.g-room 𝓤 H A W E
-              (gx t43 t1 l0) 8 y0 (Scalar.room-sc 𝓤 H A W (Row.sInt Syntax.w32))) d24
-          d26 : Typed.Typed 𝓤 H A 𝓣 E (gx t42 t1 l0) b28 Δ3 (at26 bs)
-          d26 = Typed.g-pre 𝓤 H A W 𝓣 E (gx t42 t1 l0) (gx t43 t1 l0) b28 Δ3 (Typed.pass (cx t42 t1) (cx t43 t1) (s50 bs)) (at25 bs) (Scalar.g-room 𝓤 H A W E
-              (gx t42 t1 l0) 7 y3 (Scalar.room-sc 𝓤 H A W (Row.sInt Syntax.w64))) d25
-          d27 : Typed.Typed 𝓤 H A 𝓣 E (gx t41 t1 l0) b28 Δ3 (at27 bs)
-          d27 = Typed.g-pre 𝓤 H A W 𝓣 E (gx t41 t1 l0) (gx t42 t1 l0) b28 Δ3 (Typed.pass (cx t41 t1) (cx t42 t1) (s49 bs)) (at26 bs) (Scalar.g-room 𝓤 H A W E
-              (gx t41 t1 l0) 5 y0 (Scalar.room-sc 𝓤 H A W (Row.sInt Syntax.w32))) d26
-          d28 : Typed.Typed 𝓤 H A 𝓣 E (gx t40 t1 l0) b29 Δ3 (at28 bs)
-          d28 = Typed.s-seq 𝓤 H A W 𝓣 E (gx t40 t1 l0) (gx t41 t1 l0) b27 b28 Δ3 (Typed.both (s48 bs)) (at27 bs) (Plain.t-call-plain 𝓤 H A W 𝓣 0 ps·1 r·1
-              (claims· .2) (claims· .3) "blocks::not_rooted" (known .1) E (λ pos β. β) (gx t40 t1 l0) (Num.vAt 5 λ x. x, tt) 0 [] (Call.sub-id 𝓤 H A W ((gx
-              t40 t1 l0) .slots)) ((Scalar.reads-sc 𝓤 H A W (Row.sInt Syntax.w32), Path'.refl), tt) (Reads'.room-gone 𝓤 H A y10) tt Path'.refl) d27
-          d29 : Typed.Typed 𝓤 H A 𝓣 E (gx t39 t1 l0) b29 Δ3 (at29 bs)
-          d29 = Typed.g-pre 𝓤 H A W 𝓣 E (gx t39 t1 l0) (gx t40 t1 l0) b29 Δ3 (Typed.pass (cx t39 t1) (cx t40 t1) (s47 bs)) (at28 bs) (Scalar.g-room 𝓤 H A W E
-              (gx t39 t1 l0) 14 Syntax.tyBool (Scalar.room-sc 𝓤 H A W Row.sBool)) d28
-          d30 : Typed.Typed 𝓤 H A 𝓣 E (gx t38 t1 l0) b29 Δ3 (at30 bs)
-          d30 = Typed.g-pre 𝓤 H A W 𝓣 E (gx t38 t1 l0) (gx t39 t1 l0) b29 Δ3 (Typed.pass (cx t38 t1) (cx t39 t1) (s46 bs)) (at29 bs) (Scalar.g-room 𝓤 H A W E
-              (gx t38 t1 l0) 3 y16 (Local.room-whole 𝓤 H A W (Declared'.row Reached.the-type) y16 Path'.refl)) d29
-          d31 : Typed.Typed 𝓤 H A 𝓣 E (gx t34 t1 l0) b30 Δ3 (at31 bs)
+          d25 : Typed.Typed 𝓤 H A 𝓣 E (gx t47 t1 l0) b30 Δ3 (at25 bs)
+          d25 = Typed.g-pre 𝓤 H A W 𝓣 E (gx t47 t1 l0) (gx t2 t1 l0) b30 Δ3 (Typed.pass (cx t47 t1) (cx t2 t1) (s55 bs)) (at24 bs) (Scalar.g-room 𝓤 H A W E
+              (gx t47 t1 l0) 8 y0 (Scalar.room-sc 𝓤 H A W (Row.sInt Syntax.w32))) d24
+          d26 : Typed.Typed 𝓤 H A 𝓣 E (gx t46 t1 l0) b30 Δ3 (at26 bs)
+          d26 = Typed.g-pre 𝓤 H A W 𝓣 E (gx t46 t1 l0) (gx t47 t1 l0) b30 Δ3 (Typed.pass (cx t46 t1) (cx t47 t1) (s54 bs)) (at25 bs) (Scalar.g-room 𝓤 H A W E
+              (gx t46 t1 l0) 7 y3 (Scalar.room-sc 𝓤 H A W (Row.sInt Syntax.w64))) d25
+          d27 : Typed.Typed 𝓤 H A 𝓣 E (gx t45 t1 l0) b30 Δ3 (at27 bs)
+          d27 = Typed.g-pre 𝓤 H A W 𝓣 E (gx t45 t1 l0) (gx t46 t1 l0) b30 Δ3 (Typed.pass (cx t45 t1) (cx t46 t1) (s53 bs)) (at26 bs) (Scalar.g-room 𝓤 H A W E
+              (gx t45 t1 l0) 5 y0 (Scalar.room-sc 𝓤 H A W (Row.sInt Syntax.w32))) d26
+          d28 : Typed.Typed 𝓤 H A 𝓣 E (gx t44 t1 l0) b31 Δ3 (at28 bs)
+          d28 = Typed.s-seq 𝓤 H A W 𝓣 E (gx t44 t1 l0) (gx t45 t1 l0) b29 b30 Δ3 (Typed.both (s52 bs)) (at27 bs) (Plain.t-call-plain 𝓤 H A W 𝓣 0 ps·1 r·1
+              (claims· .2) (claims· .3) "blocks::not_rooted" (known .1) E (λ pos β. β) (gx t44 t1 l0) (Num.vAt 5 λ x. x, tt) 0 [] (Call.sub-id 𝓤 H A W ((gx
+              t44 t1 l0) .slots)) ((Scalar.reads-sc 𝓤 H A W (Row.sInt Syntax.w32), Path'.refl), tt) (Reads'.room-gone 𝓤 H A y10) tt Path'.refl) d27
+          d29 : Typed.Typed 𝓤 H A 𝓣 E (gx t43 t1 l0) b31 Δ3 (at29 bs)
+          d29 = Typed.g-pre 𝓤 H A W 𝓣 E (gx t43 t1 l0) (gx t44 t1 l0) b31 Δ3 (Typed.pass (cx t43 t1) (cx t44 t1) (s51 bs)) (at28 bs) (Scalar.g-room 𝓤 H A W E
+              (gx t43 t1 l0) 14 Syntax.tyBool (Scalar.room-sc 𝓤 H A W Row.sBool)) d28
+          d30 : Typed.Typed 𝓤 H A 𝓣 E (gx t42 t1 l0) b31 Δ3 (at30 bs)
+          d30 = Typed.g-pre 𝓤 H A W 𝓣 E (gx t42 t1 l0) (gx t43 t1 l0) b31 Δ3 (Typed.pass (cx t42 t1) (cx t43 t1) (s50 bs)) (at29 bs) (Scalar.g-room 𝓤 H A W E
+              (gx t42 t1 l0) 3 y16 (Local.room-whole 𝓤 H A W (Declared'.row Reached.the-type) y16 Path'.refl)) d29
+          d31 : Typed.Typed 𝓤 H A 𝓣 E (gx t38 t1 l0) b32 Δ3 (at31 bs)
           d31 = Typed.t-skip 𝓤 H A W 𝓣 E Δ3 tt
-          d32 : Typed.Typed 𝓤 H A 𝓣 E (gx t38 t1 l0) b30 Δ3 (at32 bs)
-          d32 = Typed.g-pre 𝓤 H A W 𝓣 E (gx t38 t1 l0) (gx t34 t1 l0) b30 Δ3 (Typed.pass (cx t38 t1) (cx t34 t1) (s52 bs)) (at31 bs) (Scalar.g-room 𝓤 H A W E
-              (gx t38 t1 l0) 14 Syntax.tyBool (Scalar.room-sc 𝓤 H A W Row.sBool)) d31
-          d33 : Typed.Typed 𝓤 H A 𝓣 E (gx t38 t1 l0) b31 Δ3 (at33 bs)
-          d33 = Scalar.t-cond 𝓤 H A W E 𝓣 (gx t38 t1 l0) 14 (λ x. x) b29 b30 Δ3 (at30 bs) (at32 bs) (Scalar.reads-sc 𝓤 H A W Row.sBool) Path'.refl d30 d32
-          d34 : Typed.Typed 𝓤 H A 𝓣 E (gx t38 t37 l0) b31 Δ3 (at34 bs)
-          d34 = Typed.g-pre 𝓤 H A W 𝓣 E (gx t38 t37 l0) (gx t38 t1 l0) b31 Δ3 (Typed.pass (cx t38 t37) (cx t38 t1) (s45 bs)) (at33 bs) (Scalar.g-room 𝓤 H A W
-              E (gx t38 t37 l0) 19 y3 (Scalar.room-sc 𝓤 H A W (Row.sInt Syntax.w64))) d33
-          d35 : Typed.Typed 𝓤 H A 𝓣 E (gx t2 t1 l0) b40 Δ0 (at35 bs)
+          d32 : Typed.Typed 𝓤 H A 𝓣 E (gx t42 t1 l0) b32 Δ3 (at32 bs)
+          d32 = Typed.g-pre 𝓤 H A W 𝓣 E (gx t42 t1 l0) (gx t38 t1 l0) b32 Δ3 (Typed.pass (cx t42 t1) (cx t38 t1) (s56 bs)) (at31 bs) (Scalar.g-room 𝓤 H A W E
+              (gx t42 t1 l0) 14 Syntax.tyBool (Scalar.room-sc 𝓤 H A W Row.sBool)) d31
+          d33 : Typed.Typed 𝓤 H A 𝓣 E (gx t42 t1 l0) b33 Δ3 (at33 bs)
+          d33 = Scalar.t-cond 𝓤 H A W E 𝓣 (gx t42 t1 l0) 14 (λ x. x) b31 b32 Δ3 (at30 bs) (at32 bs) (Scalar.reads-sc 𝓤 H A W Row.sBool) Path'.refl d30 d32
+          d34 : Typed.Typed 𝓤 H A 𝓣 E (gx t42 t41 l0) b33 Δ3 (at34 bs)
+          d34 = Typed.g-pre 𝓤 H A W 𝓣 E (gx t42 t41 l0) (gx t42 t1 l0) b33 Δ3 (Typed.pass (cx t42 t41) (cx t42 t1) (s49 bs)) (at33 bs) (Scalar.g-room 𝓤 H A W
+              E (gx t42 t41 l0) 20 y3 (Scalar.room-sc 𝓤 H A W (Row.sInt Syntax.w64))) d33
+          d35 : Typed.Typed 𝓤 H A 𝓣 E (gx t2 t1 l0) b42 Δ0 (at35 bs)
           d35 = Typed.t-return 𝓤 H A W 𝓣 E Δ0 tt
-          d36 : Typed.Typed 𝓤 H A 𝓣 E (gx t28 t1 l0) b40 Δ0 (at36 bs)
-          d36 = Typed.g-pre 𝓤 H A W 𝓣 E (gx t28 t1 l0) (gx t2 t1 l0) b40 Δ0 (Typed.pass (cx t28 t1) (cx t2 t1) (s74 bs)) (at35 bs) (AtSlots.g-as-by 𝓤 H A W E
+          d36 : Typed.Typed 𝓤 H A 𝓣 E (gx t28 t1 l0) b42 Δ0 (at36 bs)
+          d36 = Typed.g-pre 𝓤 H A W 𝓣 E (gx t28 t1 l0) (gx t2 t1 l0) b42 Δ0 (Typed.pass (cx t28 t1) (cx t2 t1) (s78 bs)) (at35 bs) (AtSlots.g-as-by 𝓤 H A W E
               (λ ρ. Unit) (gx t28 t1 l0) 0 (Rows.whole (Declared'.row Rooting.the-type)) (λ v. Rooting.struct .make v tt) (Own.told-none 𝓤 H A ((gx t28 t1 l0)
               .slots)) λ ρ told v b. Apart.folds 𝓤 H A Rooting.the-type (Rooting.struct .Ghost) (Rooting.struct .make) (λ v g. Path'.refl) ρ v tt b) d35
-          d37 : Typed.Typed 𝓤 H A 𝓣 E (gx t61 t1 l0) b40 Δ0 (at37 bs)
-          d37 = Typed.g-pre 𝓤 H A W 𝓣 E (gx t61 t1 l0) (gx t28 t1 l0) b40 Δ0 (Typed.pass (cx t61 t1) (cx t28 t1) (s73 bs)) (at36 bs) (Scalar.g-room 𝓤 H A W E
-              (gx t61 t1 l0) 10 y0 (Scalar.room-sc 𝓤 H A W (Row.sInt Syntax.w32))) d36
-          d38 : Typed.Typed 𝓤 H A 𝓣 E (gx t60 t1 l0) b40 Δ0 (at38 bs)
-          d38 = Typed.g-pre 𝓤 H A W 𝓣 E (gx t60 t1 l0) (gx t61 t1 l0) b40 Δ0 (Typed.pass (cx t60 t1) (cx t61 t1) (s72 bs)) (at37 bs) (Scalar.g-room 𝓤 H A W E
-              (gx t60 t1 l0) 9 y0 (Scalar.room-sc 𝓤 H A W (Row.sInt Syntax.w32))) d37
-          d39 : Typed.Typed 𝓤 H A 𝓣 E (gx t59 t1 l0) b40 Δ0 (at39 bs)
-          d39 = Typed.g-pre 𝓤 H A W 𝓣 E (gx t59 t1 l0) (gx t60 t1 l0) b40 Δ0 (Typed.pass (cx t59 t1) (cx t60 t1) (s71 bs)) (at38 bs) (Scalar.g-room 𝓤 H A W E
-              (gx t59 t1 l0) 8 y0 (Scalar.room-sc 𝓤 H A W (Row.sInt Syntax.w32))) d38
-          d40 : Typed.Typed 𝓤 H A 𝓣 E (gx t58 t1 l0) b40 Δ0 (at40 bs)
-          d40 = Typed.g-pre 𝓤 H A W 𝓣 E (gx t58 t1 l0) (gx t59 t1 l0) b40 Δ0 (Typed.pass (cx t58 t1) (cx t59 t1) (s70 bs)) (at39 bs) (Scalar.g-room 𝓤 H A W E
-              (gx t58 t1 l0) 7 y3 (Scalar.room-sc 𝓤 H A W (Row.sInt Syntax.w64))) d39
-          d41 : Typed.Typed 𝓤 H A 𝓣 E (gx t57 t1 l0) b40 Δ0 (at41 bs)
-          d41 = Typed.g-pre 𝓤 H A W 𝓣 E (gx t57 t1 l0) (gx t58 t1 l0) b40 Δ0 (Typed.pass (cx t57 t1) (cx t58 t1) (s69 bs)) (at40 bs) (Scalar.g-room 𝓤 H A W E
-              (gx t57 t1 l0) 5 y0 (Scalar.room-sc 𝓤 H A W (Row.sInt Syntax.w32))) d40
-          d42 : Typed.Typed 𝓤 H A 𝓣 E (gx t56 t1 l0) b41 Δ0 (at42 bs)
-          d42 = Typed.s-seq 𝓤 H A W 𝓣 E (gx t56 t1 l0) (gx t57 t1 l0) b39 b40 Δ0 (Typed.pass (cx t56 t1) (cx t57 t1) (s68 bs)) (at41 bs) (Make.t-struct-make 𝓤
-              H A W E 𝓣 (Apart.apartT Rooting.the-type) Laws.the-laws Laws.the-plain (gx t56 t1 l0) 0 ((Scalar.oAt 9 y0 (Row.valS (Row.sInt Syntax.w32))) ∷
+          d37 : Typed.Typed 𝓤 H A 𝓣 E (gx t64 t1 l0) b42 Δ0 (at37 bs)
+          d37 = Typed.g-pre 𝓤 H A W 𝓣 E (gx t64 t1 l0) (gx t28 t1 l0) b42 Δ0 (Typed.pass (cx t64 t1) (cx t28 t1) (s77 bs)) (at36 bs) (Scalar.g-room 𝓤 H A W E
+              (gx t64 t1 l0) 10 y0 (Scalar.room-sc 𝓤 H A W (Row.sInt Syntax.w32))) d36
+          d38 : Typed.Typed 𝓤 H A 𝓣 E (gx t63 t1 l0) b42 Δ0 (at38 bs)
+          d38 = Typed.g-pre 𝓤 H A W 𝓣 E (gx t63 t1 l0) (gx t64 t1 l0) b42 Δ0 (Typed.pass (cx t63 t1) (cx t64 t1) (s76 bs)) (at37 bs) (Scalar.g-room 𝓤 H A W E
+              (gx t63 t1 l0) 9 y0 (Scalar.room-sc 𝓤 H A W (Row.sInt Syntax.w32))) d37
+          d39 : Typed.Typed 𝓤 H A 𝓣 E (gx t62 t1 l0) b42 Δ0 (at39 bs)
+          d39 = Typed.g-pre 𝓤 H A W 𝓣 E (gx t62 t1 l0) (gx t63 t1 l0) b42 Δ0 (Typed.pass (cx t62 t1) (cx t63 t1) (s75 bs)) (at38 bs) (Scalar.g-room 𝓤 H A W E
+              (gx t62 t1 l0) 8 y0 (Scalar.room-sc 𝓤 H A W (Row.sInt Syntax.w32))) d38
+          d40 : Typed.Typed 𝓤 H A 𝓣 E (gx t61 t1 l0) b42 Δ0 (at40 bs)
+          d40 = Typed.g-pre 𝓤 H A W 𝓣 E (gx t61 t1 l0) (gx t62 t1 l0) b42 Δ0 (Typed.pass (cx t61 t1) (cx t62 t1) (s74 bs)) (at39 bs) (Scalar.g-room 𝓤 H A W E
+              (gx t61 t1 l0) 7 y3 (Scalar.room-sc 𝓤 H A W (Row.sInt Syntax.w64))) d39
+          d41 : Typed.Typed 𝓤 H A 𝓣 E (gx t60 t1 l0) b42 Δ0 (at41 bs)
+          d41 = Typed.g-pre 𝓤 H A W 𝓣 E (gx t60 t1 l0) (gx t61 t1 l0) b42 Δ0 (Typed.pass (cx t60 t1) (cx t61 t1) (s73 bs)) (at40 bs) (Scalar.g-room 𝓤 H A W E
+              (gx t60 t1 l0) 5 y0 (Scalar.room-sc 𝓤 H A W (Row.sInt Syntax.w32))) d40
+          d42 : Typed.Typed 𝓤 H A 𝓣 E (gx t59 t1 l0) b43 Δ0 (at42 bs)
+          d42 = Typed.s-seq 𝓤 H A W 𝓣 E (gx t59 t1 l0) (gx t60 t1 l0) b41 b42 Δ0 (Typed.pass (cx t59 t1) (cx t60 t1) (s72 bs)) (at41 bs) (Make.t-struct-make 𝓤
+              H A W E 𝓣 (Apart.apartT Rooting.the-type) Laws.the-laws Laws.the-plain (gx t59 t1 l0) 0 ((Scalar.oAt 9 y0 (Row.valS (Row.sInt Syntax.w32))) ∷
               (Scalar.oAt 10 y0 (Row.valS (Row.sInt Syntax.w32))) ∷ (Scalar.oBool Bool'.true) ∷ []) (λ m. (m .1 .1 .1 .1 .1 .1 .1 .1 .1 .0, (m .1 .1 .1 .1 .1
               .1 .1 .1 .1 .1 .0, (Bool'.true, tt)))) (Reads'.room-gone 𝓤 H A y10) ((Scalar.reads-sc 𝓤 H A W (Row.sInt Syntax.w32), Path'.refl),
               ((Scalar.reads-sc 𝓤 H A W (Row.sInt Syntax.w32), Path'.refl), (tt, tt))) Path'.refl (λ u. Path'.refl) λ m. Make.is-wt (Apart.apartT
               Rooting.the-type) Laws.the-laws (Make.u32-wt, (Make.u32-wt, (Make.bool-wt, tt))) (m .1 .1 .1 .1 .1 .1 .1 .1 .1 .0, (m .1 .1 .1 .1 .1 .1 .1 .1 .1
               .1 .0, (Bool'.true, tt)))) d41
-          d43 : Typed.Typed 𝓤 H A 𝓣 E (gx t56 t1 l12) b41 Δ0 (at43 bs)
-          d43 = Typed.g-pre 𝓤 H A W 𝓣 E (gx t56 t1 l12) (gx t56 t1 l0) b41 Δ0 (λ Ψ. Ψ) (at42 bs) (Lifetime.g-forget 𝓤 H A W E (gx t56 t1 l12) 4 Row.dead
+          d43 : Typed.Typed 𝓤 H A 𝓣 E (gx t59 t1 l12) b43 Δ0 (at43 bs)
+          d43 = Typed.g-pre 𝓤 H A W 𝓣 E (gx t59 t1 l12) (gx t59 t1 l0) b43 Δ0 (λ Ψ. Ψ) (at42 bs) (Lifetime.g-forget 𝓤 H A W E (gx t59 t1 l12) 4 Row.dead
               Path'.refl) d42
-          d44 : Typed.Typed 𝓤 H A 𝓣 E (gx g54 t55 l11) b41 Δ0 (at44 bs)
-          d44 = Typed.g-pre 𝓤 H A W 𝓣 E (gx g54 t55 l11) (gx t56 t1 l12) b41 Δ0 (Typed.both (s66 bs)) (at43 bs) (Relend.g-back-sl 𝓤 H A W E NodeRecordT.row
-              (gx g54 t55 l11) 23 1 0 4 y11 y8 K0 (λ x. x) (λ x. x) (Reads'.as-is 𝓤 H A (Mut.msleft NodeRecordT.row y8)) (Reads'.as-is 𝓤 H A
+          d44 : Typed.Typed 𝓤 H A 𝓣 E (gx g57 t58 l11) b43 Δ0 (at44 bs)
+          d44 = Typed.g-pre 𝓤 H A W 𝓣 E (gx g57 t58 l11) (gx t59 t1 l12) b43 Δ0 (Typed.both (s70 bs)) (at43 bs) (Relend.g-back-sl 𝓤 H A W E NodeRecordT.row
+              (gx g57 t58 l11) 23 1 0 4 y11 y8 K0 (λ x. x) (λ x. x) (Reads'.as-is 𝓤 H A (Mut.msleft NodeRecordT.row y8)) (Reads'.as-is 𝓤 H A
               (Relend.mslice-owed NodeRecordT.row y11 0 4 K0)) Path'.refl Path'.refl) d43
-          d45 : Typed.Typed 𝓤 H A 𝓣 E (gx g54 t55 l10) b41 Δ0 (at45 bs)
-          d45 = Typed.g-pre 𝓤 H A W 𝓣 E (gx g54 t55 l10) (gx g54 t55 l11) b41 Δ0 (λ Ψ. Ψ) (at44 bs) (Lifetime.g-end 𝓤 H A W E (gx g54 t55 l10) 4 Path'.refl)
+          d45 : Typed.Typed 𝓤 H A 𝓣 E (gx g57 t58 l10) b43 Δ0 (at45 bs)
+          d45 = Typed.g-pre 𝓤 H A W 𝓣 E (gx g57 t58 l10) (gx g57 t58 l11) b43 Δ0 (λ Ψ. Ψ) (at44 bs) (Lifetime.g-end 𝓤 H A W E (gx g57 t58 l10) 4 Path'.refl)
               d44
-          d46 : Typed.Typed 𝓤 H A 𝓣 E (gx g54 t53 l10) b41 Δ0 (at46 bs)
-          d46 = Typed.g-pre 𝓤 H A W 𝓣 E (gx g54 t53 l10) (gx g54 t55 l10) b41 Δ0 (Typed.pass (cx t54 t53) (cx t54 t55) (s64 bs)) (at45 bs) (Scalar.g-room 𝓤 H
-              A W E (gx g54 t53 l10) 20 y0 (Scalar.room-sc 𝓤 H A W (Row.sInt Syntax.w32))) d45
-          d47 : Typed.Typed 𝓤 H A 𝓣 E (gx g52 t53 l10) b41 Δ0 (at47 bs)
-          d47 = Typed.g-pre 𝓤 H A W 𝓣 E (gx g52 t53 l10) (gx g54 t53 l10) b41 Δ0 (Typed.pass (cx t52 t53) (cx t54 t53) (s63 bs)) (at46 bs) (Scalar.g-room 𝓤 H
-              A W E (gx g52 t53 l10) 3 y16 (Local.room-whole 𝓤 H A W (Declared'.row Reached.the-type) y16 Path'.refl)) d46
-          d48 : Typed.Typed 𝓤 H A 𝓣 E (gx g48 t51 l10) b42 Δ0 (at48 bs)
-          d48 = Typed.s-seq 𝓤 H A W 𝓣 E (gx g48 t51 l10) (gx g52 t53 l10) b38 b41 Δ0 (Typed.both (s62 bs)) (at47 bs) (Plain.t-call-plain 𝓤 H A W 𝓣 2 ps·6 r·6
-              (claims· .12) (claims· .13) "blocks::put_rows" (known .6) E (λ pos β. β) (gx g48 t51 l10) (record { pos = 23; ty = y8; ref = λ x. x }, (Num.vAt
-              9 λ x. x, (record { pos = 2; ty = y14; ref = λ x. x }, (record { pos = 3; st = []; d = 0; at = λ x. x }, (Num.vAt 20 λ x. x, tt))))) 10 (4 ∷ 1 ∷
-              []) (Call.sub-id 𝓤 H A W ((gx g48 t51 l10) .slots)) (Reads'.as-is 𝓤 H A (Mut.mslice NodeRecordT.row y8 4), Mut.reads-mslice 𝓤 H A W
+          d46 : Typed.Typed 𝓤 H A 𝓣 E (gx g57 t56 l10) b43 Δ0 (at46 bs)
+          d46 = Typed.g-pre 𝓤 H A W 𝓣 E (gx g57 t56 l10) (gx g57 t58 l10) b43 Δ0 (Typed.pass (cx t57 t56) (cx t57 t58) (s68 bs)) (at45 bs) (Scalar.g-room 𝓤 H
+              A W E (gx g57 t56 l10) 19 y0 (Scalar.room-sc 𝓤 H A W (Row.sInt Syntax.w32))) d45
+          d47 : Typed.Typed 𝓤 H A 𝓣 E (gx g55 t56 l10) b43 Δ0 (at47 bs)
+          d47 = Typed.g-pre 𝓤 H A W 𝓣 E (gx g55 t56 l10) (gx g57 t56 l10) b43 Δ0 (Typed.pass (cx t55 t56) (cx t57 t56) (s67 bs)) (at46 bs) (Scalar.g-room 𝓤 H
+              A W E (gx g55 t56 l10) 3 y16 (Local.room-whole 𝓤 H A W (Declared'.row Reached.the-type) y16 Path'.refl)) d46
+          d48 : Typed.Typed 𝓤 H A 𝓣 E (gx g51 t54 l10) b44 Δ0 (at48 bs)
+          d48 = Typed.s-seq 𝓤 H A W 𝓣 E (gx g51 t54 l10) (gx g55 t56 l10) b40 b43 Δ0 (Typed.both (s66 bs)) (at47 bs) (Plain.t-call-plain 𝓤 H A W 𝓣 2 ps·6 r·6
+              (claims· .12) (claims· .13) "blocks::put_rows" (known .6) E (λ pos β. β) (gx g51 t54 l10) (record { pos = 23; ty = y8; ref = λ x. x }, (Num.vAt
+              9 λ x. x, (record { pos = 2; ty = y14; ref = λ x. x }, (record { pos = 3; st = []; d = 0; at = λ x. x }, (Num.vAt 19 λ x. x, tt))))) 10 (4 ∷ 1 ∷
+              []) (Call.sub-id 𝓤 H A W ((gx g51 t54 l10) .slots)) (Reads'.as-is 𝓤 H A (Mut.mslice NodeRecordT.row y8 4), Mut.reads-mslice 𝓤 H A W
               NodeRecordT.row y8 4, Path'.refl, ((Scalar.reads-sc 𝓤 H A W (Row.sInt Syntax.w32), Path'.refl), (ShrRef.spares-sref 𝓤 H A W (Array.Array
               (Array.Array (Referent.rtF (Referent.fInt Syntax.w32)) 4) 32) y14 1, Reads'.reads-sref 𝓤 H A W (Array.Array (Array.Array (Referent.rtF
               (Referent.fInt Syntax.w32)) 4) 32) y14 1, Path'.refl, ((Yields.yields-copy 𝓤 H A W (λ ρ. Unit) (Declared'.row Reached.the-type) Path'.refl
               (Copies.cStruct Reached.the-type Laws'3.the-laws Laws'3.the-copy .copy 𝓤 H A W) (Rows.whole (Declared'.row Reached.the-type)) (λ x. x) (λ x. x)
               (λ ρ told. Local.mem-whole 𝓤 H A W (Declared'.row Reached.the-type) ρ) λ ρ told. Local.whole-mem 𝓤 H A W (Declared'.row Reached.the-type) ρ,
               Path'.refl), ((Scalar.reads-sc 𝓤 H A W (Row.sInt Syntax.w32), Path'.refl), tt))))) (Reads'.room-gone 𝓤 H A y0) (tt, (tt, tt)) Path'.refl) d47
-          d49 : Typed.Typed 𝓤 H A 𝓣 E (gx g48 t50 l10) b43 Δ0 (at49 bs)
-          d49 = Typed.s-seq 𝓤 H A W 𝓣 E (gx g48 t50 l10) (gx g48 t51 l10) b37 b42 Δ0 (Typed.ask (s61 bs)) (at48 bs) (Scalar.t-op2 𝓤 H A W E 𝓣 (gx g48 t50 l10)
-              (Syntax.add Syntax.unsigned) (Scalar.oAt 8 y0 (Row.valS (Row.sInt Syntax.w32))) (Scalar.oInt Syntax.w32 1) 20 (Rows.sc-here (Row.sInt
+          d49 : Typed.Typed 𝓤 H A 𝓣 E (gx g51 t53 l10) b45 Δ0 (at49 bs)
+          d49 = Typed.s-seq 𝓤 H A W 𝓣 E (gx g51 t53 l10) (gx g51 t54 l10) b39 b44 Δ0 (Typed.ask (s65 bs)) (at48 bs) (Scalar.t-op2 𝓤 H A W E 𝓣 (gx g51 t53 l10)
+              (Syntax.add Syntax.unsigned) (Scalar.oAt 8 y0 (Row.valS (Row.sInt Syntax.w32))) (Scalar.oInt Syntax.w32 1) 19 (Rows.sc-here (Row.sInt
               Syntax.w32)) y0 (Row.valS (Row.sInt Syntax.w32)) (Row.sInt Syntax.w32 .of) (Scalar.reads-sc 𝓤 H A W (Row.sInt Syntax.w32), Path'.refl) tt
               (Reads'.room-gone 𝓤 H A y0) (Scalar.holds-sc 𝓤 H A W (Row.sInt Syntax.w32)) Path'.refl (λ u. Path'.refl) λ u. tt) d48
-          d50 : Typed.Typed 𝓤 H A 𝓣 E (gx g48 t49 l10) b44 Δ0 (at50 bs)
-          d50 = Typed.s-seq 𝓤 H A W 𝓣 E (gx g48 t49 l10) (gx g48 t50 l10) b36 b43 Δ0 (Typed.ask (s60 bs)) (at49 bs) (Relend.t-sl-aggregate 𝓤 H A W E
-              NodeRecordT.row 𝓣 (Relend.asMut NodeRecordT.row) (gx g48 t49 l10) 22 23 4 y8 y8 (λ x. x) (Scalar.oFld 1 ((Syntax.field 1) ∷ []) y3 8 λ v.
+          d50 : Typed.Typed 𝓤 H A 𝓣 E (gx g51 t52 l10) b46 Δ0 (at50 bs)
+          d50 = Typed.s-seq 𝓤 H A W 𝓣 E (gx g51 t52 l10) (gx g51 t53 l10) b38 b45 Δ0 (Typed.ask (s64 bs)) (at49 bs) (Relend.t-sl-aggregate 𝓤 H A W E
+              NodeRecordT.row 𝓣 (Relend.asMut NodeRecordT.row) (gx g51 t52 l10) 22 23 4 y8 y8 (λ x. x) (Scalar.oFld 1 ((Syntax.field 1) ∷ []) y3 8 λ v.
               Shared.lenV (v .0)) (Reads'.as-is 𝓤 H A (Relend.msptr NodeRecordT.row y8 4)) (Reads'.room-gone 𝓤 H A y9) (Relend.reads-owed-len 𝓤 H A W
               NodeRecordT.row y11 0 4 K0 8 Path'.refl, Path'.refl) Path'.refl Path'.refl λ b o k. tt) d49
-          d51 : Typed.Typed 𝓤 H A 𝓣 E (gx t47 t1 l9) b45 Δ0 (at51 bs)
-          d51 = Typed.s-seq 𝓤 H A W 𝓣 E (gx t47 t1 l9) (gx g48 t49 l10) b35 b44 Δ0 (Typed.give (s59 bs)) (at50 bs) (Relend.t-sl-relend 𝓤 H A W E
-              NodeRecordT.row 𝓣 (gx t47 t1 l9) 1 22 0 4 y11 y8 K0 0 (λ x. x) (Reads'.as-is 𝓤 H A (Mut.mslice NodeRecordT.row y11 0)) (Reads'.room-gone 𝓤 H A
+          d51 : Typed.Typed 𝓤 H A 𝓣 E (gx t50 t1 l9) b47 Δ0 (at51 bs)
+          d51 = Typed.s-seq 𝓤 H A W 𝓣 E (gx t50 t1 l9) (gx g51 t52 l10) b37 b46 Δ0 (Typed.give (s63 bs)) (at50 bs) (Relend.t-sl-relend 𝓤 H A W E
+              NodeRecordT.row 𝓣 (gx t50 t1 l9) 1 22 0 4 y11 y8 K0 0 (λ x. x) (Reads'.as-is 𝓤 H A (Mut.mslice NodeRecordT.row y11 0)) (Reads'.room-gone 𝓤 H A
               y8) Path'.refl tt Path'.refl Path'.refl Path'.refl λ b o. tt) d50
-          d52 : Typed.Typed 𝓤 H A 𝓣 E (gx t47 t1 l0) b45 Δ0 (at52 bs)
-          d52 = Typed.g-pre 𝓤 H A W 𝓣 E (gx t47 t1 l0) (gx t47 t1 l9) b45 Δ0 (λ Ψ. Ψ) (at51 bs) (Lifetime.g-begin 𝓤 H A W E (gx t47 t1 l0) 4 (tt, (tt, (tt,
+          d52 : Typed.Typed 𝓤 H A 𝓣 E (gx t50 t1 l0) b47 Δ0 (at52 bs)
+          d52 = Typed.g-pre 𝓤 H A W 𝓣 E (gx t50 t1 l0) (gx t50 t1 l9) b47 Δ0 (λ Ψ. Ψ) (at51 bs) (Lifetime.g-begin 𝓤 H A W E (gx t50 t1 l0) 4 (tt, (tt, (tt,
               (tt, (tt, (tt, (tt, (tt, (tt, (tt, (tt, (tt, (tt, (tt, (tt, (tt, (tt, (tt, (tt, (tt, (tt, (tt, (tt, (tt, tt))))))))))))))))))))))))) d51
-          d53 : Typed.Typed 𝓤 H A 𝓣 E (gx t47 t46 l0) b45 Δ0 (at53 bs)
-          d53 = Typed.g-pre 𝓤 H A W 𝓣 E (gx t47 t46 l0) (gx t47 t1 l0) b45 Δ0 (Typed.pass (cx t47 t46) (cx t47 t1) (s57 bs)) (at52 bs) (Scalar.g-room 𝓤 H A W
-              E (gx t47 t46 l0) 21 y0 (Scalar.room-sc 𝓤 H A W (Row.sInt Syntax.w32))) d52
-          d54 : Typed.Typed 𝓤 H A 𝓣 E (gx t34 t46 l0) b46 Δ0 (at54 bs)
-          d54 = Typed.s-seq 𝓤 H A W 𝓣 E (gx t34 t46 l0) (gx t47 t46 l0) b34 b45 Δ0 (Typed.both (s56 bs)) (at53 bs) (Plain.t-call-plain 𝓤 H A W 𝓣 0 ps·5 r·5
-              (claims· .10) (claims· .11) "blocks::larger" (known .5) E (λ pos β. β) (gx t34 t46 l0) (Num.vAt 5 λ x. x, (Num.vAt 21 λ x. x, tt)) 9 []
-              (Call.sub-id 𝓤 H A W ((gx t34 t46 l0) .slots)) ((Scalar.reads-sc 𝓤 H A W (Row.sInt Syntax.w32), Path'.refl), ((Scalar.reads-sc 𝓤 H A W (Row.sInt
+          d53 : Typed.Typed 𝓤 H A 𝓣 E (gx t50 t49 l0) b47 Δ0 (at53 bs)
+          d53 = Typed.g-pre 𝓤 H A W 𝓣 E (gx t50 t49 l0) (gx t50 t1 l0) b47 Δ0 (Typed.pass (cx t50 t49) (cx t50 t1) (s61 bs)) (at52 bs) (Scalar.g-room 𝓤 H A W
+              E (gx t50 t49 l0) 21 y0 (Scalar.room-sc 𝓤 H A W (Row.sInt Syntax.w32))) d52
+          d54 : Typed.Typed 𝓤 H A 𝓣 E (gx t38 t49 l0) b48 Δ0 (at54 bs)
+          d54 = Typed.s-seq 𝓤 H A W 𝓣 E (gx t38 t49 l0) (gx t50 t49 l0) b36 b47 Δ0 (Typed.both (s60 bs)) (at53 bs) (Plain.t-call-plain 𝓤 H A W 𝓣 0 ps·5 r·5
+              (claims· .10) (claims· .11) "blocks::larger" (known .5) E (λ pos β. β) (gx t38 t49 l0) (Num.vAt 5 λ x. x, (Num.vAt 21 λ x. x, tt)) 9 []
+              (Call.sub-id 𝓤 H A W ((gx t38 t49 l0) .slots)) ((Scalar.reads-sc 𝓤 H A W (Row.sInt Syntax.w32), Path'.refl), ((Scalar.reads-sc 𝓤 H A W (Row.sInt
               Syntax.w32), Path'.refl), tt)) (Reads'.room-gone 𝓤 H A y0) tt Path'.refl) d53
-          d55 : Typed.Typed 𝓤 H A 𝓣 E (gx t34 t45 l0) b46 Δ0 (at55 bs)
-          d55 = Typed.g-pre 𝓤 H A W 𝓣 E (gx t34 t45 l0) (gx t34 t46 l0) b46 Δ0 (Typed.pass (cx t34 t45) (cx t34 t46) (s55 bs)) (at54 bs) (Scalar.g-room 𝓤 H A
-              W E (gx t34 t45 l0) 20 y0 (Scalar.room-sc 𝓤 H A W (Row.sInt Syntax.w32))) d54
-          d56 : Typed.Typed 𝓤 H A 𝓣 E (gx t34 t44 l0) b47 Δ0 (at56 bs)
-          d56 = Typed.s-seq 𝓤 H A W 𝓣 E (gx t34 t44 l0) (gx t34 t45 l0) b33 b46 Δ0 (Typed.ask (s54 bs)) (at55 bs) (Scalar.t-op2 𝓤 H A W E 𝓣 (gx t34 t44 l0)
-              (Syntax.add Syntax.unsigned) (Scalar.oAt 8 y0 (Row.valS (Row.sInt Syntax.w32))) (Scalar.oAt 20 y0 (Row.valS (Row.sInt Syntax.w32))) 21
+          d55 : Typed.Typed 𝓤 H A 𝓣 E (gx t38 t48 l0) b48 Δ0 (at55 bs)
+          d55 = Typed.g-pre 𝓤 H A W 𝓣 E (gx t38 t48 l0) (gx t38 t49 l0) b48 Δ0 (Typed.pass (cx t38 t48) (cx t38 t49) (s59 bs)) (at54 bs) (Scalar.g-room 𝓤 H A
+              W E (gx t38 t48 l0) 19 y0 (Scalar.room-sc 𝓤 H A W (Row.sInt Syntax.w32))) d54
+          d56 : Typed.Typed 𝓤 H A 𝓣 E (gx t38 t37 l0) b49 Δ0 (at56 bs)
+          d56 = Typed.s-seq 𝓤 H A W 𝓣 E (gx t38 t37 l0) (gx t38 t48 l0) b35 b48 Δ0 (Typed.ask (s58 bs)) (at55 bs) (Scalar.t-op2 𝓤 H A W E 𝓣 (gx t38 t37 l0)
+              (Syntax.add Syntax.unsigned) (Scalar.oAt 8 y0 (Row.valS (Row.sInt Syntax.w32))) (Scalar.oAt 19 y0 (Row.valS (Row.sInt Syntax.w32))) 21
               (Rows.sc-here (Row.sInt Syntax.w32)) y0 (Row.valS (Row.sInt Syntax.w32)) (Row.sInt Syntax.w32 .of) (Scalar.reads-sc 𝓤 H A W (Row.sInt
               Syntax.w32), Path'.refl) (Scalar.reads-sc 𝓤 H A W (Row.sInt Syntax.w32), Path'.refl) (Reads'.room-gone 𝓤 H A y0) (Scalar.holds-sc 𝓤 H A W
               (Row.sInt Syntax.w32)) Path'.refl (λ u. Path'.refl) λ u. tt) d55
-          d57 : Typed.Typed 𝓤 H A 𝓣 E (gx t34 t1 l0) b48 Δ0 (at57 bs)
-          d57 = Typed.s-seq 𝓤 H A W 𝓣 E (gx t34 t1 l0) (gx t34 t44 l0) b32 b47 Δ0 (Typed.ask (s53 bs)) (at56 bs) (Scalar.t-op1 𝓤 H A W E 𝓣 (gx t34 t1 l0)
-              (Syntax.cast Syntax.unsigned Syntax.unsigned Syntax.w32) (Scalar.oAt 7 y3 (Row.valS (Row.sInt Syntax.w64))) 20 (Rows.sc-here (Row.sInt
+          d57 : Typed.Typed 𝓤 H A 𝓣 E (gx t38 t1 l0) b50 Δ0 (at57 bs)
+          d57 = Typed.s-seq 𝓤 H A W 𝓣 E (gx t38 t1 l0) (gx t38 t37 l0) b34 b49 Δ0 (Typed.ask (s57 bs)) (at56 bs) (Scalar.t-op1 𝓤 H A W E 𝓣 (gx t38 t1 l0)
+              (Syntax.cast Syntax.unsigned Syntax.unsigned Syntax.w32) (Scalar.oAt 7 y3 (Row.valS (Row.sInt Syntax.w64))) 19 (Rows.sc-here (Row.sInt
               Syntax.w32)) y0 (Row.valS (Row.sInt Syntax.w32)) (Row.sInt Syntax.w32 .of) (Scalar.reads-sc 𝓤 H A W (Row.sInt Syntax.w64), Path'.refl)
               (Reads'.room-gone 𝓤 H A y0) (Scalar.holds-sc 𝓤 H A W (Row.sInt Syntax.w32)) Path'.refl (λ u. Path'.refl) λ u. tt) d56
-          d58 : Typed.Typed 𝓤 H A 𝓣 E (gx t38 t37 l0) b49 Δ0 (at58 bs)
-          d58 = Typed.t-seq 𝓤 H A W 𝓣 E (gx t38 t37 l0) (gx t34 t1 l0) b31 b48 Δ0 (at34 bs) (at57 bs) d34 d57
-          d59 : Typed.Typed 𝓤 H A 𝓣 E (gx t34 t37 l0) b50 Δ0 (at59 bs)
-          d59 = Typed.s-seq 𝓤 H A W 𝓣 E (gx t34 t37 l0) (gx t38 t37 l0) b26 b49 Δ0 (Typed.ask (s44 bs)) (at58 bs) (Scalar.t-op2 𝓤 H A W E 𝓣 (gx t34 t37 l0)
-              (Syntax.lt Syntax.unsigned) (Scalar.oInt Syntax.w64 768) (Scalar.oAt 19 y3 (Row.valS (Row.sInt Syntax.w64))) 14 (Rows.sc-here Row.sBool)
+          d58 : Typed.Typed 𝓤 H A 𝓣 E (gx t42 t41 l0) b51 Δ0 (at58 bs)
+          d58 = Typed.t-seq 𝓤 H A W 𝓣 E (gx t42 t41 l0) (gx t38 t1 l0) b33 b50 Δ0 (at34 bs) (at57 bs) d34 d57
+          d59 : Typed.Typed 𝓤 H A 𝓣 E (gx t38 t41 l0) b52 Δ0 (at59 bs)
+          d59 = Typed.s-seq 𝓤 H A W 𝓣 E (gx t38 t41 l0) (gx t42 t41 l0) b28 b51 Δ0 (Typed.ask (s48 bs)) (at58 bs) (Scalar.t-op2 𝓤 H A W E 𝓣 (gx t38 t41 l0)
+              (Syntax.lt Syntax.unsigned) (Scalar.oInt Syntax.w64 768) (Scalar.oAt 20 y3 (Row.valS (Row.sInt Syntax.w64))) 14 (Rows.sc-here Row.sBool)
               Syntax.tyBool (Row.valS Row.sBool) (Row.sBool .of) tt (Scalar.reads-sc 𝓤 H A W (Row.sInt Syntax.w64), Path'.refl) (Reads'.room-gone 𝓤 H A
               Syntax.tyBool) (Scalar.holds-sc 𝓤 H A W Row.sBool) Path'.refl (λ u. Path'.refl) λ u. tt) d58
-          d60 : Typed.Typed 𝓤 H A 𝓣 E (gx t34 t36 l0) b50 Δ0 (at60 bs)
-          d60 = Typed.g-pre 𝓤 H A W 𝓣 E (gx t34 t36 l0) (gx t34 t37 l0) b50 Δ0 (Typed.pass (cx t34 t36) (cx t34 t37) (s43 bs)) (at59 bs) (Scalar.g-room 𝓤 H A
-              W E (gx t34 t36 l0) 18 y3 (Scalar.room-sc 𝓤 H A W (Row.sInt Syntax.w64))) d59
-          d61 : Typed.Typed 𝓤 H A 𝓣 E (gx t34 t35 l0) b51 Δ0 (at61 bs)
-          d61 = Typed.s-seq 𝓤 H A W 𝓣 E (gx t34 t35 l0) (gx t34 t36 l0) b25 b50 Δ0 (Typed.ask (s42 bs)) (at60 bs) (Scalar.t-op2 𝓤 H A W E 𝓣 (gx t34 t35 l0)
-              (Syntax.add Syntax.unsigned) (Scalar.oAt 18 y3 (Row.valS (Row.sInt Syntax.w64))) (Scalar.oAt 7 y3 (Row.valS (Row.sInt Syntax.w64))) 19
+          d60 : Typed.Typed 𝓤 H A 𝓣 E (gx t38 t40 l0) b52 Δ0 (at60 bs)
+          d60 = Typed.g-pre 𝓤 H A W 𝓣 E (gx t38 t40 l0) (gx t38 t41 l0) b52 Δ0 (Typed.pass (cx t38 t40) (cx t38 t41) (s47 bs)) (at59 bs) (Scalar.g-room 𝓤 H A
+              W E (gx t38 t40 l0) 18 y3 (Scalar.room-sc 𝓤 H A W (Row.sInt Syntax.w64))) d59
+          d61 : Typed.Typed 𝓤 H A 𝓣 E (gx t38 t39 l0) b53 Δ0 (at61 bs)
+          d61 = Typed.s-seq 𝓤 H A W 𝓣 E (gx t38 t39 l0) (gx t38 t40 l0) b27 b52 Δ0 (Typed.ask (s46 bs)) (at60 bs) (Scalar.t-op2 𝓤 H A W E 𝓣 (gx t38 t39 l0)
+              (Syntax.add Syntax.unsigned) (Scalar.oAt 18 y3 (Row.valS (Row.sInt Syntax.w64))) (Scalar.oAt 7 y3 (Row.valS (Row.sInt Syntax.w64))) 20
               (Rows.sc-here (Row.sInt Syntax.w64)) y3 (Row.valS (Row.sInt Syntax.w64)) (Row.sInt Syntax.w64 .of) (Scalar.reads-sc 𝓤 H A W (Row.sInt
               Syntax.w64), Path'.refl) (Scalar.reads-sc 𝓤 H A W (Row.sInt Syntax.w64), Path'.refl) (Reads'.room-gone 𝓤 H A y3) (Scalar.holds-sc 𝓤 H A W
               (Row.sInt Syntax.w64)) Path'.refl (λ u. Path'.refl) λ u. tt) d60
-          d62 : Typed.Typed 𝓤 H A 𝓣 E (gx t34 t1 l0) b52 Δ0 (at62 bs)
-          d62 = Typed.s-seq 𝓤 H A W 𝓣 E (gx t34 t1 l0) (gx t34 t35 l0) b24 b51 Δ0 (Typed.ask (s41 bs)) (at61 bs) (Scalar.t-op1 𝓤 H A W E 𝓣 (gx t34 t1 l0)
+          d62 : Typed.Typed 𝓤 H A 𝓣 E (gx t38 t1 l0) b54 Δ0 (at62 bs)
+          d62 = Typed.s-seq 𝓤 H A W 𝓣 E (gx t38 t1 l0) (gx t38 t39 l0) b26 b53 Δ0 (Typed.ask (s45 bs)) (at61 bs) (Scalar.t-op1 𝓤 H A W E 𝓣 (gx t38 t1 l0)
               (Syntax.cast Syntax.unsigned Syntax.unsigned Syntax.w64) (Scalar.oAt 8 y0 (Row.valS (Row.sInt Syntax.w32))) 18 (Rows.sc-here (Row.sInt
               Syntax.w64)) y3 (Row.valS (Row.sInt Syntax.w64)) (Row.sInt Syntax.w64 .of) (Scalar.reads-sc 𝓤 H A W (Row.sInt Syntax.w32), Path'.refl)
               (Reads'.room-gone 𝓤 H A y3) (Scalar.holds-sc 𝓤 H A W (Row.sInt Syntax.w64)) Path'.refl (λ u. Path'.refl) λ u. tt) d61
-          d63 : Typed.Typed 𝓤 H A 𝓣 E (gx t34 t1 l8) b52 Δ0 (at63 bs)
-          d63 = Typed.g-pre 𝓤 H A W 𝓣 E (gx t34 t1 l8) (gx t34 t1 l0) b52 Δ0 (λ Ψ. Ψ) (at62 bs) (Lifetime.g-forget 𝓤 H A W E (gx t34 t1 l8) 3 Row.dead
+          d63 : Typed.Typed 𝓤 H A 𝓣 E (gx t38 t1 l8) b54 Δ0 (at63 bs)
+          d63 = Typed.g-pre 𝓤 H A W 𝓣 E (gx t38 t1 l8) (gx t38 t1 l0) b54 Δ0 (λ Ψ. Ψ) (at62 bs) (Lifetime.g-forget 𝓤 H A W E (gx t38 t1 l8) 3 Row.dead
               Path'.refl) d62
-          d64 : Typed.Typed 𝓤 H A 𝓣 E (gx g33 t1 l7) b52 Δ0 (at64 bs)
-          d64 = Typed.g-pre 𝓤 H A W 𝓣 E (gx g33 t1 l7) (gx t34 t1 l8) b52 Δ0 (Typed.pass (cx t33 t1) (cx t34 t1) (s39 bs)) (at63 bs) (Reshare.g-back-sl-shr 𝓤
-              H A W E NodeRecordT.row (gx g33 t1 l7) 1 0 3 y11 K0 (λ x. x) (Reads'.as-is 𝓤 H A (Reshare.mslice-owedS NodeRecordT.row y11 0 3 K0)) Path'.refl
+          d64 : Typed.Typed 𝓤 H A 𝓣 E (gx g36 t1 l7) b54 Δ0 (at64 bs)
+          d64 = Typed.g-pre 𝓤 H A W 𝓣 E (gx g36 t1 l7) (gx t38 t1 l8) b54 Δ0 (Typed.pass (cx t36 t1) (cx t38 t1) (s43 bs)) (at63 bs) (Reshare.g-back-sl-shr 𝓤
+              H A W E NodeRecordT.row (gx g36 t1 l7) 1 0 3 y11 K0 (λ x. x) (Reads'.as-is 𝓤 H A (Reshare.mslice-owedS NodeRecordT.row y11 0 3 K0)) Path'.refl
               Path'.refl) d63
-          d65 : Typed.Typed 𝓤 H A 𝓣 E (gx g33 t1 l6) b52 Δ0 (at65 bs)
-          d65 = Typed.g-pre 𝓤 H A W 𝓣 E (gx g33 t1 l6) (gx g33 t1 l7) b52 Δ0 (λ Ψ. Ψ) (at64 bs) (Lifetime.g-end 𝓤 H A W E (gx g33 t1 l6) 3 Path'.refl) d64
-          d66 : Typed.Typed 𝓤 H A 𝓣 E (gx g33 t32 l6) b52 Δ0 (at66 bs)
-          d66 = Typed.g-pre 𝓤 H A W 𝓣 E (gx g33 t32 l6) (gx g33 t1 l6) b52 Δ0 (Typed.pass (cx t33 t32) (cx t33 t1) (s37 bs)) (at65 bs) (Scalar.g-room 𝓤 H A W
-              E (gx g33 t32 l6) 17 y7 (Shared.room-sslice 𝓤 H A W NodeRecordT.row y6 3)) d65
-          d67 : Typed.Typed 𝓤 H A 𝓣 E (gx g30 t32 l6) b53 Δ0 (at67 bs)
-          d67 = Typed.s-seq 𝓤 H A W 𝓣 E (gx g30 t32 l6) (gx g33 t32 l6) b23 b52 Δ0 (Typed.both (s36 bs)) (at66 bs) (Plain.t-call-plain 𝓤 H A W 𝓣 1 ps·4 r·4
-              (claims· .8) (claims· .9) "blocks::highest" (known .4) E (λ pos β. β) (gx g30 t32 l6) (record { pos = 17; ty = y6; ref = λ x. x }, (Num.vAt 5 λ
-              x. x, tt)) 8 (3 ∷ []) (Call.sub-id 𝓤 H A W ((gx g30 t32 l6) .slots)) (ShrSlice.spares-sslice 𝓤 H A W NodeRecordT.row y6 3, Shared.reads-sslice 𝓤
-              H A W NodeRecordT.row y6 3, Path'.refl, ((Scalar.reads-sc 𝓤 H A W (Row.sInt Syntax.w32), Path'.refl), tt)) (Reads'.room-gone 𝓤 H A y0) (tt, tt)
-              Path'.refl) d66
-          d68 : Typed.Typed 𝓤 H A 𝓣 E (gx g30 t31 l6) b54 Δ0 (at68 bs)
-          d68 = Typed.s-seq 𝓤 H A W 𝓣 E (gx g30 t31 l6) (gx g30 t32 l6) b22 b53 Δ0 (Typed.ask (s35 bs)) (at67 bs) (Relend.t-sl-aggregate 𝓤 H A W E
+          d65 : Typed.Typed 𝓤 H A 𝓣 E (gx g36 t1 l6) b54 Δ0 (at65 bs)
+          d65 = Typed.g-pre 𝓤 H A W 𝓣 E (gx g36 t1 l6) (gx g36 t1 l7) b54 Δ0 (λ Ψ. Ψ) (at64 bs) (Lifetime.g-end 𝓤 H A W E (gx g36 t1 l6) 3 Path'.refl) d64
+          d66 : Typed.Typed 𝓤 H A 𝓣 E (gx g36 t37 l6) b54 Δ0 (at66 bs)
+          d66 = Typed.g-pre 𝓤 H A W 𝓣 E (gx g36 t37 l6) (gx g36 t1 l6) b54 Δ0 (Typed.pass (cx t36 t37) (cx t36 t1) (s41 bs)) (at65 bs) (Scalar.g-room 𝓤 H A W
+              E (gx g36 t37 l6) 19 y0 (Scalar.room-sc 𝓤 H A W (Row.sInt Syntax.w32))) d65
+          d67 : Typed.Typed 𝓤 H A 𝓣 E (gx g36 t35 l6) b54 Δ0 (at67 bs)
+          d67 = Typed.g-pre 𝓤 H A W 𝓣 E (gx g36 t35 l6) (gx g36 t37 l6) b54 Δ0 (Typed.pass (cx t36 t35) (cx t36 t37) (s40 bs)) (at66 bs) (Scalar.g-room 𝓤 H A
+              W E (gx g36 t35 l6) 17 y7 (Shared.room-sslice 𝓤 H A W NodeRecordT.row y6 3)) d66
+          d68 : Typed.Typed 𝓤 H A 𝓣 E (gx g30 t35 l6) b55 Δ0 (at68 bs)
+          d68 = Typed.s-seq 𝓤 H A W 𝓣 E (gx g30 t35 l6) (gx g36 t35 l6) b25 b54 Δ0 (Typed.both (s39 bs)) (at67 bs) (Plain.t-call-plain 𝓤 H A W 𝓣 1 ps·4 r·4
+              (claims· .8) (claims· .9) "blocks::highest" (known .4) E (λ pos β. β) (gx g30 t35 l6) (record { pos = 17; ty = y6; ref = λ x. x }, (Num.vAt 19 λ
+              x. x, (Num.vAt 5 λ x. x, tt))) 8 (3 ∷ []) (Call.sub-id 𝓤 H A W ((gx g30 t35 l6) .slots)) (ShrSlice.spares-sslice 𝓤 H A W NodeRecordT.row y6 3,
+              Shared.reads-sslice 𝓤 H A W NodeRecordT.row y6 3, Path'.refl, ((Scalar.reads-sc 𝓤 H A W (Row.sInt Syntax.w32), Path'.refl), ((Scalar.reads-sc 𝓤
+              H A W (Row.sInt Syntax.w32), Path'.refl), tt))) (Reads'.room-gone 𝓤 H A y0) (tt, tt) Path'.refl) d67
+          d69 : Typed.Typed 𝓤 H A 𝓣 E (gx g30 t34 l6) b55 Δ0 (at69 bs)
+          d69 = Typed.g-pre 𝓤 H A W 𝓣 E (gx g30 t34 l6) (gx g30 t35 l6) b55 Δ0 (Typed.pass (cx t30 t34) (cx t30 t35) (s38 bs)) (at68 bs) (Scalar.g-room 𝓤 H A
+              W E (gx g30 t34 l6) 18 y3 (Scalar.room-sc 𝓤 H A W (Row.sInt Syntax.w64))) d68
+          d70 : Typed.Typed 𝓤 H A 𝓣 E (gx g30 t33 l6) b56 Δ0 (at70 bs)
+          d70 = Typed.s-seq 𝓤 H A W 𝓣 E (gx g30 t33 l6) (gx g30 t34 l6) b24 b55 Δ0 (Typed.ask (s37 bs)) (at69 bs) (Scalar.t-op1 𝓤 H A W E 𝓣 (gx g30 t33 l6)
+              (Syntax.cast Syntax.unsigned Syntax.unsigned Syntax.w32) (Scalar.oAt 18 y3 (Row.valS (Row.sInt Syntax.w64))) 19 (Rows.sc-here (Row.sInt
+              Syntax.w32)) y0 (Row.valS (Row.sInt Syntax.w32)) (Row.sInt Syntax.w32 .of) (Scalar.reads-sc 𝓤 H A W (Row.sInt Syntax.w64), Path'.refl)
+              (Reads'.room-gone 𝓤 H A y0) (Scalar.holds-sc 𝓤 H A W (Row.sInt Syntax.w32)) Path'.refl (λ u. Path'.refl) λ u. tt) d69
+          d71 : Typed.Typed 𝓤 H A 𝓣 E (gx g30 t32 l6) b57 Δ0 (at71 bs)
+          d71 = Typed.s-seq 𝓤 H A W 𝓣 E (gx g30 t32 l6) (gx g30 t33 l6) b23 b56 Δ0 (Typed.ask (s36 bs)) (at70 bs) (Scalar.t-op2 𝓤 H A W E 𝓣 (gx g30 t32 l6)
+              (Syntax.sub Syntax.unsigned) (Scalar.oInt Syntax.w64 768) (Scalar.oAt 7 y3 (Row.valS (Row.sInt Syntax.w64))) 18 (Rows.sc-here (Row.sInt
+              Syntax.w64)) y3 (Row.valS (Row.sInt Syntax.w64)) (Row.sInt Syntax.w64 .of) tt (Scalar.reads-sc 𝓤 H A W (Row.sInt Syntax.w64), Path'.refl)
+              (Reads'.room-gone 𝓤 H A y3) (Scalar.holds-sc 𝓤 H A W (Row.sInt Syntax.w64)) Path'.refl (λ u. Path'.refl) λ u. tt) d70
+          d72 : Typed.Typed 𝓤 H A 𝓣 E (gx g30 t31 l6) b58 Δ0 (at72 bs)
+          d72 = Typed.s-seq 𝓤 H A W 𝓣 E (gx g30 t31 l6) (gx g30 t32 l6) b22 b57 Δ0 (Typed.ask (s35 bs)) (at71 bs) (Relend.t-sl-aggregate 𝓤 H A W E
               NodeRecordT.row 𝓣 (Relend.asShr NodeRecordT.row) (gx g30 t31 l6) 16 17 3 y6 y6 (λ x. x) (Scalar.oFld 1 ((Syntax.field 1) ∷ []) y3 8 λ v.
               Shared.lenV (v .0)) (Reads'.as-is 𝓤 H A (Relend.ssptr NodeRecordT.row y6 3)) (Reads'.room-gone 𝓤 H A y7) (Reshare.reads-owedS-len 𝓤 H A W
-              NodeRecordT.row y11 0 3 K0 8 Path'.refl, Path'.refl) Path'.refl Path'.refl λ b o k. tt) d67
-          d69 : Typed.Typed 𝓤 H A 𝓣 E (gx t20 t1 l5) b55 Δ0 (at69 bs)
-          d69 = Typed.s-seq 𝓤 H A W 𝓣 E (gx t20 t1 l5) (gx g30 t31 l6) b21 b54 Δ0 (Typed.give (s34 bs)) (at68 bs) (Reshare.t-sl-reshare 𝓤 H A W E
+              NodeRecordT.row y11 0 3 K0 8 Path'.refl, Path'.refl) Path'.refl Path'.refl λ b o k. tt) d71
+          d73 : Typed.Typed 𝓤 H A 𝓣 E (gx t20 t1 l5) b59 Δ0 (at73 bs)
+          d73 = Typed.s-seq 𝓤 H A W 𝓣 E (gx t20 t1 l5) (gx g30 t31 l6) b21 b58 Δ0 (Typed.give (s34 bs)) (at72 bs) (Reshare.t-sl-reshare 𝓤 H A W E
               NodeRecordT.row 𝓣 (gx t20 t1 l5) 1 16 0 3 y11 y6 K0 0 (λ x. x) (Reads'.as-is 𝓤 H A (Mut.mslice NodeRecordT.row y11 0)) (Reads'.room-gone 𝓤 H A
-              y6) Path'.refl tt Path'.refl Path'.refl Path'.refl λ b o. tt) d68
-          d70 : Typed.Typed 𝓤 H A 𝓣 E (gx t20 t1 l0) b55 Δ0 (at70 bs)
-          d70 = Typed.g-pre 𝓤 H A W 𝓣 E (gx t20 t1 l0) (gx t20 t1 l5) b55 Δ0 (λ Ψ. Ψ) (at69 bs) (Lifetime.g-begin 𝓤 H A W E (gx t20 t1 l0) 3 (tt, (tt, (tt,
-              (tt, (tt, (tt, (tt, (tt, (tt, (tt, (tt, (tt, (tt, (tt, (tt, (tt, (tt, (tt, (tt, (tt, (tt, (tt, (tt, (tt, tt))))))))))))))))))))))))) d69
-          d71 : Typed.Typed 𝓤 H A 𝓣 E (gx t19 t1 l0) b56 Δ0 (at71 bs)
-          d71 = Typed.t-seq 𝓤 H A W 𝓣 E (gx t19 t1 l0) (gx t20 t1 l0) b20 b55 Δ0 (at23 bs) (at70 bs) d23 d70
-          d72 : Typed.Typed 𝓤 H A 𝓣 E (gx t18 t1 l0) b57 Δ0 (at72 bs)
-          d72 = Typed.s-seq 𝓤 H A W 𝓣 E (gx t18 t1 l0) (gx t19 t1 l0) b13 b56 Δ0 (Typed.ask (s21 bs)) (at71 bs) (Scalar.t-op2 𝓤 H A W E 𝓣 (gx t18 t1 l0)
+              y6) Path'.refl tt Path'.refl Path'.refl Path'.refl λ b o. tt) d72
+          d74 : Typed.Typed 𝓤 H A 𝓣 E (gx t20 t1 l0) b59 Δ0 (at74 bs)
+          d74 = Typed.g-pre 𝓤 H A W 𝓣 E (gx t20 t1 l0) (gx t20 t1 l5) b59 Δ0 (λ Ψ. Ψ) (at73 bs) (Lifetime.g-begin 𝓤 H A W E (gx t20 t1 l0) 3 (tt, (tt, (tt,
+              (tt, (tt, (tt, (tt, (tt, (tt, (tt, (tt, (tt, (tt, (tt, (tt, (tt, (tt, (tt, (tt, (tt, (tt, (tt, (tt, (tt, tt))))))))))))))))))))))))) d73
+          d75 : Typed.Typed 𝓤 H A 𝓣 E (gx t19 t1 l0) b60 Δ0 (at75 bs)
+          d75 = Typed.t-seq 𝓤 H A W 𝓣 E (gx t19 t1 l0) (gx t20 t1 l0) b20 b59 Δ0 (at23 bs) (at74 bs) d23 d74
+          d76 : Typed.Typed 𝓤 H A 𝓣 E (gx t18 t1 l0) b61 Δ0 (at76 bs)
+          d76 = Typed.s-seq 𝓤 H A W 𝓣 E (gx t18 t1 l0) (gx t19 t1 l0) b13 b60 Δ0 (Typed.ask (s21 bs)) (at75 bs) (Scalar.t-op2 𝓤 H A W E 𝓣 (gx t18 t1 l0)
               Syntax.eq (Scalar.oAt 7 y3 (Row.valS (Row.sInt Syntax.w64))) (Scalar.oInt Syntax.w64 0) 11 (Rows.sc-here Row.sBool) Syntax.tyBool (Row.valS
               Row.sBool) (Row.sBool .of) (Scalar.reads-sc 𝓤 H A W (Row.sInt Syntax.w64), Path'.refl) tt (Reads'.room-gone 𝓤 H A Syntax.tyBool)
-              (Scalar.holds-sc 𝓤 H A W Row.sBool) Path'.refl (λ u. Path'.refl) λ u. tt) d71
-          d73 : Typed.Typed 𝓤 H A 𝓣 E (gx t17 t1 l0) b57 Δ0 (at73 bs)
-          d73 = Typed.g-pre 𝓤 H A W 𝓣 E (gx t17 t1 l0) (gx t18 t1 l0) b57 Δ0 (Typed.pass (cx t17 t1) (cx t18 t1) (s20 bs)) (at72 bs) (Scalar.g-room 𝓤 H A W E
-              (gx t17 t1 l0) 6 y4 (Local.room-whole 𝓤 H A W (Declared.row Context.the-type) y4 Path'.refl)) d72
-          d74 : Typed.Typed 𝓤 H A 𝓣 E (gx t16 t1 l0) b58 Δ0 (at74 bs)
-          d74 = Typed.s-seq 𝓤 H A W 𝓣 E (gx t16 t1 l0) (gx t17 t1 l0) b12 b57 Δ0 (Typed.both (s19 bs)) (at73 bs) (Plain.t-call-plain 𝓤 H A W 𝓣 0 ps·2 r·2
+              (Scalar.holds-sc 𝓤 H A W Row.sBool) Path'.refl (λ u. Path'.refl) λ u. tt) d75
+          d77 : Typed.Typed 𝓤 H A 𝓣 E (gx t17 t1 l0) b61 Δ0 (at77 bs)
+          d77 = Typed.g-pre 𝓤 H A W 𝓣 E (gx t17 t1 l0) (gx t18 t1 l0) b61 Δ0 (Typed.pass (cx t17 t1) (cx t18 t1) (s20 bs)) (at76 bs) (Scalar.g-room 𝓤 H A W E
+              (gx t17 t1 l0) 6 y4 (Local.room-whole 𝓤 H A W (Declared.row Context.the-type) y4 Path'.refl)) d76
+          d78 : Typed.Typed 𝓤 H A 𝓣 E (gx t16 t1 l0) b62 Δ0 (at78 bs)
+          d78 = Typed.s-seq 𝓤 H A W 𝓣 E (gx t16 t1 l0) (gx t17 t1 l0) b12 b61 Δ0 (Typed.both (s19 bs)) (at77 bs) (Plain.t-call-plain 𝓤 H A W 𝓣 0 ps·2 r·2
               (claims· .4) (claims· .5) "blocks::row_count" (known .2) E (λ pos β. β) (gx t16 t1 l0) (Num.vFld 3 ((Syntax.field 1) ∷ []) 56 λ x.
               Reached.struct .as-values x .1 .0, (record { pos = 6; st = []; d = 0; at = λ x. x }, tt)) 7 [] (Call.sub-id 𝓤 H A W ((gx t16 t1 l0) .slots))
               ((Reads.reads-field 𝓤 H A W Reached.the-type Laws'3.the-laws 1 y3 56 Path'.refl, Path'.refl), ((Yields.yields-copy 𝓤 H A W (λ ρ. Unit)
               (Declared.row Context.the-type) Path'.refl (Copies.cEnum Context.the-type Laws''.the-laws Laws''.the-copy .copy 𝓤 H A W) (Rows.whole
               (Declared.row Context.the-type)) (λ x. x) (λ x. x) (λ ρ told. Local.mem-whole 𝓤 H A W (Declared.row Context.the-type) ρ) λ ρ told.
-              Local.whole-mem 𝓤 H A W (Declared.row Context.the-type) ρ, Path'.refl), tt)) (Reads'.room-gone 𝓤 H A y3) tt Path'.refl) d73
-          d75 : Typed.Typed 𝓤 H A 𝓣 E (gx t4 t1 l0) b59 Δ0 (at75 bs)
-          d75 = Typed.s-seq 𝓤 H A W 𝓣 E (gx t4 t1 l0) (gx t16 t1 l0) b11 b58 Δ0 (Typed.pass (cx t4 t1) (cx t16 t1) (s18 bs)) (at74 bs) (CopyOut.t-copy-told 𝓤
+              Local.whole-mem 𝓤 H A W (Declared.row Context.the-type) ρ, Path'.refl), tt)) (Reads'.room-gone 𝓤 H A y3) tt Path'.refl) d77
+          d79 : Typed.Typed 𝓤 H A 𝓣 E (gx t4 t1 l0) b63 Δ0 (at79 bs)
+          d79 = Typed.s-seq 𝓤 H A W 𝓣 E (gx t4 t1 l0) (gx t16 t1 l0) b11 b62 Δ0 (Typed.pass (cx t4 t1) (cx t16 t1) (s18 bs)) (at78 bs) (CopyOut.t-copy-told 𝓤
               H A W E 𝓣 (Declared.row Context.the-type) Path'.refl (Laws'4.val Context.the-type Laws''.the-laws) (Laws'4.lawful Context.the-type
               Laws''.the-laws 𝓤 H A W tt) (Laws'4.makes Context.the-type Laws''.the-plain 𝓤 H A) (gx t4 t1 l0) 6 (Scalar.oFld 4 ((Syntax.field 5) ∷ []) y4 52
               λ x. Laws'4.val Context.the-type Laws''.the-laws (Run.struct .as-values x .1 .1 .1 .1 .1 .0)) (λ m. Run.struct .as-values (m .1 .1 .1 .1 .0) .1
@@ -1262,28 +1314,28 @@ module _ (claims· : Claims) where
               Make.tells-row 𝓤 H A W E ρ (Row.out 6 ((gx t4 t1 l0) .locals)) m 4 (Laws'5.Is (Declared'.row Run.the-type) (m .1 .1 .1 .1 .0) (Laws'6.vals
               Run.the-type Laws'.the-laws (m .1 .1 .1 .1 .0))) (Make.whole-is 𝓤 H A W E (Declared'.row Run.the-type) Path'.refl (Laws'6.val Run.the-type
               Laws'.the-laws) (Laws'6.tells Run.the-type Laws'.the-laws) ρ 4 (m .1 .1 .1 .1 .0))) (λ m k wa. Path'.refl) λ m k wa. Laws'6.owed Run.the-type
-              Laws'.the-laws (m .1 .1 .1 .1 .0) (Laws'6.vals Run.the-type Laws'.the-laws (m .1 .1 .1 .1 .0)) k .1 .1 .1 .1 .1 .0) d74
-          d76 : Typed.Typed 𝓤 H A 𝓣 E (gx t10 t1 l0) b60 Δ0 (at76 bs)
-          d76 = Typed.t-seq 𝓤 H A W 𝓣 E (gx t10 t1 l0) (gx t4 t1 l0) b10 b59 Δ0 (at9 bs) (at75 bs) d9 d75
-          d77 : Typed.Typed 𝓤 H A 𝓣 E (gx t9 t1 l0) b61 Δ0 (at77 bs)
-          d77 = Typed.s-seq 𝓤 H A W 𝓣 E (gx t9 t1 l0) (gx t10 t1 l0) b5 b60 Δ0 (Typed.ask (s10 bs)) (at76 bs) (Scalar.t-op1 𝓤 H A W E 𝓣 (gx t9 t1 l0)
+              Laws'.the-laws (m .1 .1 .1 .1 .0) (Laws'6.vals Run.the-type Laws'.the-laws (m .1 .1 .1 .1 .0)) k .1 .1 .1 .1 .1 .0) d78
+          d80 : Typed.Typed 𝓤 H A 𝓣 E (gx t10 t1 l0) b64 Δ0 (at80 bs)
+          d80 = Typed.t-seq 𝓤 H A W 𝓣 E (gx t10 t1 l0) (gx t4 t1 l0) b10 b63 Δ0 (at9 bs) (at79 bs) d9 d79
+          d81 : Typed.Typed 𝓤 H A 𝓣 E (gx t9 t1 l0) b65 Δ0 (at81 bs)
+          d81 = Typed.s-seq 𝓤 H A W 𝓣 E (gx t9 t1 l0) (gx t10 t1 l0) b5 b64 Δ0 (Typed.ask (s10 bs)) (at80 bs) (Scalar.t-op1 𝓤 H A W E 𝓣 (gx t9 t1 l0)
               Syntax.bitNot (Scalar.oAt 11 Syntax.tyBool (Row.valS Row.sBool)) 14 (Rows.sc-here Row.sBool) Syntax.tyBool (Row.valS Row.sBool) (Row.sBool .of)
               (Scalar.reads-sc 𝓤 H A W Row.sBool, Path'.refl) (Reads'.room-gone 𝓤 H A Syntax.tyBool) (Scalar.holds-sc 𝓤 H A W Row.sBool) Path'.refl (λ u.
-              Path'.refl) λ u. tt) d76
-          d78 : Typed.Typed 𝓤 H A 𝓣 E (gx t9 t1 l4) b61 Δ0 (at78 bs)
-          d78 = Typed.g-pre 𝓤 H A W 𝓣 E (gx t9 t1 l4) (gx t9 t1 l0) b61 Δ0 (λ Ψ. Ψ) (at77 bs) (Lifetime.g-forget 𝓤 H A W E (gx t9 t1 l4) 2 Row.dead
-              Path'.refl) d77
-          d79 : Typed.Typed 𝓤 H A 𝓣 E (gx g8 t1 l3) b61 Δ0 (at79 bs)
-          d79 = Typed.g-pre 𝓤 H A W 𝓣 E (gx g8 t1 l3) (gx t9 t1 l4) b61 Δ0 (Typed.pass (cx t8 t1) (cx t9 t1) (s8 bs)) (at78 bs) (Reshare.g-back-sl-shr 𝓤 H A W
+              Path'.refl) λ u. tt) d80
+          d82 : Typed.Typed 𝓤 H A 𝓣 E (gx t9 t1 l4) b65 Δ0 (at82 bs)
+          d82 = Typed.g-pre 𝓤 H A W 𝓣 E (gx t9 t1 l4) (gx t9 t1 l0) b65 Δ0 (λ Ψ. Ψ) (at81 bs) (Lifetime.g-forget 𝓤 H A W E (gx t9 t1 l4) 2 Row.dead
+              Path'.refl) d81
+          d83 : Typed.Typed 𝓤 H A 𝓣 E (gx g8 t1 l3) b65 Δ0 (at83 bs)
+          d83 = Typed.g-pre 𝓤 H A W 𝓣 E (gx g8 t1 l3) (gx t9 t1 l4) b65 Δ0 (Typed.pass (cx t8 t1) (cx t9 t1) (s8 bs)) (at82 bs) (Reshare.g-back-sl-shr 𝓤 H A W
               E NodeRecordT.row (gx g8 t1 l3) 1 0 2 y11 K0 (λ x. x) (Reads'.as-is 𝓤 H A (Reshare.mslice-owedS NodeRecordT.row y11 0 2 K0)) Path'.refl
-              Path'.refl) d78
-          d80 : Typed.Typed 𝓤 H A 𝓣 E (gx g8 t1 l2) b61 Δ0 (at80 bs)
-          d80 = Typed.g-pre 𝓤 H A W 𝓣 E (gx g8 t1 l2) (gx g8 t1 l3) b61 Δ0 (λ Ψ. Ψ) (at79 bs) (Lifetime.g-end 𝓤 H A W E (gx g8 t1 l2) 2 Path'.refl) d79
-          d81 : Typed.Typed 𝓤 H A 𝓣 E (gx g7 t1 l2) b61 Δ0 (at81 bs)
-          d81 = Typed.g-pre 𝓤 H A W 𝓣 E (gx g7 t1 l2) (gx g8 t1 l2) b61 Δ0 (Typed.pass (cx t7 t1) (cx t8 t1) (s6 bs)) (at80 bs) (Scalar.g-room 𝓤 H A W E (gx
-              g7 t1 l2) 13 y7 (Shared.room-sslice 𝓤 H A W NodeRecordT.row y6 2)) d80
-          d82 : Typed.Typed 𝓤 H A 𝓣 E (gx g6 t1 l2) b62 Δ0 (at82 bs)
-          d82 = Typed.s-seq 𝓤 H A W 𝓣 E (gx g6 t1 l2) (gx g7 t1 l2) b4 b61 Δ0 (Typed.both (s5 bs)) (at81 bs) (Plain.t-call-plain 𝓤 H A W 𝓣 2 ps·0 r·0 (claims·
+              Path'.refl) d82
+          d84 : Typed.Typed 𝓤 H A 𝓣 E (gx g8 t1 l2) b65 Δ0 (at84 bs)
+          d84 = Typed.g-pre 𝓤 H A W 𝓣 E (gx g8 t1 l2) (gx g8 t1 l3) b65 Δ0 (λ Ψ. Ψ) (at83 bs) (Lifetime.g-end 𝓤 H A W E (gx g8 t1 l2) 2 Path'.refl) d83
+          d85 : Typed.Typed 𝓤 H A 𝓣 E (gx g7 t1 l2) b65 Δ0 (at85 bs)
+          d85 = Typed.g-pre 𝓤 H A W 𝓣 E (gx g7 t1 l2) (gx g8 t1 l2) b65 Δ0 (Typed.pass (cx t7 t1) (cx t8 t1) (s6 bs)) (at84 bs) (Scalar.g-room 𝓤 H A W E (gx
+              g7 t1 l2) 13 y7 (Shared.room-sslice 𝓤 H A W NodeRecordT.row y6 2)) d84
+          d86 : Typed.Typed 𝓤 H A 𝓣 E (gx g6 t1 l2) b66 Δ0 (at86 bs)
+          d86 = Typed.s-seq 𝓤 H A W 𝓣 E (gx g6 t1 l2) (gx g7 t1 l2) b4 b65 Δ0 (Typed.both (s5 bs)) (at85 bs) (Plain.t-call-plain 𝓤 H A W 𝓣 2 ps·0 r·0 (claims·
               .0) (claims· .1) "blocks::can_root" (known .0) E (λ pos β. β) (gx g6 t1 l2) (record { pos = 13; ty = y6; ref = λ x. x }, (record { pos = 2; ty =
               y14; ref = λ x. x }, (record { pos = 3; st = []; d = 0; at = λ x. x }, tt))) 11 (2 ∷ 1 ∷ []) (Call.sub-id 𝓤 H A W ((gx g6 t1 l2) .slots))
               (ShrSlice.spares-sslice 𝓤 H A W NodeRecordT.row y6 2, Shared.reads-sslice 𝓤 H A W NodeRecordT.row y6 2, Path'.refl, (ShrRef.spares-sref 𝓤 H A W
@@ -1291,26 +1343,26 @@ module _ (claims· : Claims) where
               (Referent.rtF (Referent.fInt Syntax.w32)) 4) 32) y14 1, Path'.refl, ((Yields.yields-copy 𝓤 H A W (λ ρ. Unit) (Declared'.row Reached.the-type)
               Path'.refl (Copies.cStruct Reached.the-type Laws'3.the-laws Laws'3.the-copy .copy 𝓤 H A W) (Rows.whole (Declared'.row Reached.the-type)) (λ x.
               x) (λ x. x) (λ ρ told. Local.mem-whole 𝓤 H A W (Declared'.row Reached.the-type) ρ) λ ρ told. Local.whole-mem 𝓤 H A W (Declared'.row
-              Reached.the-type) ρ, Path'.refl), tt))) (Reads'.room-gone 𝓤 H A Syntax.tyBool) (tt, (tt, tt)) Path'.refl) d81
-          d83 : Typed.Typed 𝓤 H A 𝓣 E (gx g5 t1 l2) b63 Δ0 (at83 bs)
-          d83 = Typed.s-seq 𝓤 H A W 𝓣 E (gx g5 t1 l2) (gx g6 t1 l2) b3 b62 Δ0 (Typed.ask (s4 bs)) (at82 bs) (Relend.t-sl-aggregate 𝓤 H A W E NodeRecordT.row 𝓣
+              Reached.the-type) ρ, Path'.refl), tt))) (Reads'.room-gone 𝓤 H A Syntax.tyBool) (tt, (tt, tt)) Path'.refl) d85
+          d87 : Typed.Typed 𝓤 H A 𝓣 E (gx g5 t1 l2) b67 Δ0 (at87 bs)
+          d87 = Typed.s-seq 𝓤 H A W 𝓣 E (gx g5 t1 l2) (gx g6 t1 l2) b3 b66 Δ0 (Typed.ask (s4 bs)) (at86 bs) (Relend.t-sl-aggregate 𝓤 H A W E NodeRecordT.row 𝓣
               (Relend.asShr NodeRecordT.row) (gx g5 t1 l2) 12 13 2 y6 y6 (λ x. x) (Scalar.oFld 1 ((Syntax.field 1) ∷ []) y3 8 λ v. Shared.lenV (v .0))
               (Reads'.as-is 𝓤 H A (Relend.ssptr NodeRecordT.row y6 2)) (Reads'.room-gone 𝓤 H A y7) (Reshare.reads-owedS-len 𝓤 H A W NodeRecordT.row y11 0 2 K0
-              8 Path'.refl, Path'.refl) Path'.refl Path'.refl λ b o k. tt) d82
-          d84 : Typed.Typed 𝓤 H A 𝓣 E (gx t4 t1 l1) b64 Δ0 (at84 bs)
-          d84 = Typed.s-seq 𝓤 H A W 𝓣 E (gx t4 t1 l1) (gx g5 t1 l2) b2 b63 Δ0 (Typed.give (s3 bs)) (at83 bs) (Reshare.t-sl-reshare 𝓤 H A W E NodeRecordT.row 𝓣
+              8 Path'.refl, Path'.refl) Path'.refl Path'.refl λ b o k. tt) d86
+          d88 : Typed.Typed 𝓤 H A 𝓣 E (gx t4 t1 l1) b68 Δ0 (at88 bs)
+          d88 = Typed.s-seq 𝓤 H A W 𝓣 E (gx t4 t1 l1) (gx g5 t1 l2) b2 b67 Δ0 (Typed.give (s3 bs)) (at87 bs) (Reshare.t-sl-reshare 𝓤 H A W E NodeRecordT.row 𝓣
               (gx t4 t1 l1) 1 12 0 2 y11 y6 K0 0 (λ x. x) (Reads'.as-is 𝓤 H A (Mut.mslice NodeRecordT.row y11 0)) (Reads'.room-gone 𝓤 H A y6) Path'.refl tt
-              Path'.refl Path'.refl Path'.refl λ b o. tt) d83
-          d85 : Typed.Typed 𝓤 H A 𝓣 E (gx t4 t1 l0) b64 Δ0 (at85 bs)
-          d85 = Typed.g-pre 𝓤 H A W 𝓣 E (gx t4 t1 l0) (gx t4 t1 l1) b64 Δ0 (λ Ψ. Ψ) (at84 bs) (Lifetime.g-begin 𝓤 H A W E (gx t4 t1 l0) 2 (tt, (tt, (tt, (tt,
-              (tt, (tt, (tt, (tt, (tt, (tt, (tt, (tt, (tt, (tt, (tt, (tt, (tt, (tt, (tt, (tt, (tt, (tt, (tt, (tt, tt))))))))))))))))))))))))) d84
-          d86 : Typed.Typed 𝓤 H A 𝓣 E (gx t3 t1 l0) b65 Δ0 (at86 bs)
-          d86 = Typed.s-seq 𝓤 H A W 𝓣 E (gx t3 t1 l0) (gx t4 t1 l0) b1 b64 Δ0 (Typed.pass (cx t3 t1) (cx t4 t1) (s1 bs)) (at85 bs) (Scalar.t-use 𝓤 H A W E 𝓣
+              Path'.refl Path'.refl Path'.refl λ b o. tt) d87
+          d89 : Typed.Typed 𝓤 H A 𝓣 E (gx t4 t1 l0) b68 Δ0 (at89 bs)
+          d89 = Typed.g-pre 𝓤 H A W 𝓣 E (gx t4 t1 l0) (gx t4 t1 l1) b68 Δ0 (λ Ψ. Ψ) (at88 bs) (Lifetime.g-begin 𝓤 H A W E (gx t4 t1 l0) 2 (tt, (tt, (tt, (tt,
+              (tt, (tt, (tt, (tt, (tt, (tt, (tt, (tt, (tt, (tt, (tt, (tt, (tt, (tt, (tt, (tt, (tt, (tt, (tt, (tt, tt))))))))))))))))))))))))) d88
+          d90 : Typed.Typed 𝓤 H A 𝓣 E (gx t3 t1 l0) b69 Δ0 (at90 bs)
+          d90 = Typed.s-seq 𝓤 H A W 𝓣 E (gx t3 t1 l0) (gx t4 t1 l0) b1 b68 Δ0 (Typed.pass (cx t3 t1) (cx t4 t1) (s1 bs)) (at89 bs) (Scalar.t-use 𝓤 H A W E 𝓣
               (gx t3 t1 l0) (Scalar.oFld 4 ((Syntax.field 4) ∷ []) y0 48 (Reads.fieldV Run.the-type Laws'.the-laws 4)) 5 (Rows.sc-here (Row.sInt Syntax.w32))
               y0 (Row.valS (Row.sInt Syntax.w32)) (Row.sInt Syntax.w32 .of) (Reads.reads-field 𝓤 H A W Run.the-type Laws'.the-laws 4 y0 48 Path'.refl,
-              Path'.refl) (Reads'.room-gone 𝓤 H A y0) (Scalar.holds-sc 𝓤 H A W (Row.sInt Syntax.w32)) Path'.refl (λ u. Path'.refl) λ u. tt) d85
-          d87 : Typed.Typed 𝓤 H A 𝓣 E (gx t0 t1 l0) b66 Δ0 (at87 bs)
-          d87 = Typed.s-seq 𝓤 H A W 𝓣 E (gx t0 t1 l0) (gx t3 t1 l0) b0 b65 Δ0 (Typed.both (s0 bs)) (at86 bs) (WayStmt.t-way-copy-out 𝓤 H A W E 𝓣
+              Path'.refl) (Reads'.room-gone 𝓤 H A y0) (Scalar.holds-sc 𝓤 H A W (Row.sInt Syntax.w32)) Path'.refl (λ u. Path'.refl) λ u. tt) d89
+          d91 : Typed.Typed 𝓤 H A 𝓣 E (gx t0 t1 l0) b70 Δ0 (at91 bs)
+          d91 = Typed.s-seq 𝓤 H A W 𝓣 E (gx t0 t1 l0) (gx t3 t1 l0) b0 b69 Δ0 (Typed.both (s0 bs)) (at90 bs) (WayStmt.t-way-copy-out 𝓤 H A W E 𝓣
               (Declared'.row Run.the-type) Path'.refl (Copies.cStruct Run.the-type Laws'.the-laws Laws'.the-copy .copy 𝓤 H A W) (λ ρ. Unit) (gx t0 t1 l0)
               (Row.out 3 ((gx t0 t1 l0) .locals)) (λ u. Row.drop 3 ((gx t0 t1 l0) .locals) u) ((gx t0 t1 l0) .slots) 3 (λ t. (Syntax.field 0) ∷ t) y5 y5 4
               (Rows.whole (Declared'.row Run.the-type)) (λ x. x) (λ u. At.getAt (Reached.the-type .parts) 0 (Reached.struct .as-values (u .1 .1 .1 .0))) (λ u.
@@ -1327,9 +1379,9 @@ module _ (claims· : Claims) where
               (Row.tl (Row.tl (Row.tl bs))), 0) (Behind.look-at 𝓤 H A W q Reached.the-type Laws'3.the-laws 0 0 Path'.refl Path'.refl (Row.hd 0 (Row.tl (Row.tl
               (Row.tl bs))), 0) (u .1 .1 .1 .0) (Reached.struct .as-values (u .1 .1 .1 .0)) Path'.refl)) (Reads'.room-gone 𝓤 H A y5) (Yields.makes-mem 𝓤 H A W
               (λ ρ. Unit) (Declared'.row Run.the-type) Path'.refl (Rows.whole (Declared'.row Run.the-type)) (λ x. x) λ ρ told. Local.whole-mem 𝓤 H A W
-              (Declared'.row Run.the-type) ρ) Path'.refl Path'.refl Path'.refl) d86
-          pub typed : Typed.Typed 𝓤 H A 𝓣 E (Function.Γin 2 ps r xs m κs qs) b66 (Function.Δret 2 ps r xs m κs qs) (Φ bs)
-          typed = d87
+              (Declared'.row Run.the-type) ρ) Path'.refl Path'.refl Path'.refl) d90
+          pub typed : Typed.Typed 𝓤 H A 𝓣 E (Function.Γin 2 ps r xs m κs qs) b70 (Function.Δret 2 ps r xs m κs qs) (Φ bs)
+          typed = d91
       module _ (κs : Lifetimes.Lfts 2) where
         pub record Args : Type 0 where
           pub t : Kinds.Den {n = 2} κs (MutSlice.pMutS NodeRecordT.row 0 tt)
@@ -1399,7 +1451,7 @@ module _ (claims· : Claims) where
       m8 = λ before given. s10 (before .before .before .blocks) .next (m7 before given)
       abbrev W1 : (before : After-can-root-arg) → (given : s5 (before .before .before .blocks) .gives (m4 (before .before) (before .can-root-arg .given))) →
           Typed.Want O1
-      W1 = λ before given. Typed.wantNext (cx t4 t1) O0 (at75 (before .before .before .blocks) (W0 (before .before .before .κs) (before .before .before .args)
+      W1 = λ before given. Typed.wantNext (cx t4 t1) O0 (at79 (before .before .before .blocks) (W0 (before .before .before .κs) (before .before .before .args)
           (before .before .before .blocks))) (W0 (before .before .before .κs) (before .before .before .args) (before .before .before .blocks))
       abbrev pub m9 : (before : After-can-root-arg) → (given : s5 (before .before .before .blocks) .gives (m4 (before .before) (before .can-root-arg .given)))
           → Typed.Mo (cx t11 t1)
@@ -1469,7 +1521,7 @@ module _ (claims· : Claims) where
       abbrev pub m19 : (before : Else1) → (given : s19 (before .before .before .before .before .blocks) .gives (m16 (before .before))) → Typed.Mo (cx t19 t1)
       m19 = λ before given. s21 (before .before .before .before .before .blocks) .next (m18 before given)
       abbrev W2 : (before : Else1) → (given : s19 (before .before .before .before .before .blocks) .gives (m16 (before .before))) → Typed.Want O2
-      W2 = λ before given. Typed.wantNext (cx t20 t1) O0 (at70 (before .before .before .before .before .blocks) (W0 (before .before .before .before .before
+      W2 = λ before given. Typed.wantNext (cx t20 t1) O0 (at74 (before .before .before .before .before .blocks) (W0 (before .before .before .before .before
           .κs) (before .before .before .before .before .args) (before .before .before .before .before .blocks))) (W0 (before .before .before .before .before
           .κs) (before .before .before .before .before .args) (before .before .before .before .before .blocks))
       module _ (before· : After-row-count) where
@@ -1548,299 +1600,318 @@ module _ (claims· : Claims) where
       pub record After-highest-arg : Type 0 where
         pub before : Else2
         pub highest-arg : After-highest-arg·own before
-      abbrev pub Need-highest-requires : Type 0
-      Need-highest-requires = (c : After-highest-arg) → s36 (c .before .before .before .before .before .before .before .blocks) .asks (m32 (c .before) (c
+      abbrev pub Need-sub-highest : Type 0
+      Need-sub-highest = (c : After-highest-arg) → s36 (c .before .before .before .before .before .before .before .blocks) .asks (m32 (c .before) (c
           .highest-arg .given))
-      abbrev pub m33 : (before : After-highest-arg) → (given : s36 (before .before .before .before .before .before .before .before .blocks) .gives (m32
-          (before .before) (before .highest-arg .given))) → Typed.Mo (cx t33 t32)
-      m33 = λ before given. s36 (before .before .before .before .before .before .before .before .blocks) .next (m32 (before .before) (before .highest-arg
+      abbrev pub m33 : (before : Else2) → (given : s34 (before .before .before .before .before .before .before .blocks) .gives (m30 (before .before))) →
+          Typed.Mo (cx t30 t33)
+      m33 = λ before given. s36 (before .before .before .before .before .before .before .blocks) .next (m32 before given)
+      abbrev pub Need-cast-highest : Type 0
+      Need-cast-highest = (c : After-highest-arg) → s37 (c .before .before .before .before .before .before .before .blocks) .asks (m33 (c .before) (c
+          .highest-arg .given))
+      abbrev pub m34 : (before : Else2) → (given : s34 (before .before .before .before .before .before .before .blocks) .gives (m30 (before .before))) →
+          Typed.Mo (cx t30 t34)
+      m34 = λ before given. s37 (before .before .before .before .before .before .before .blocks) .next (m33 before given)
+      abbrev pub m35 : (before : Else2) → (given : s34 (before .before .before .before .before .before .before .blocks) .gives (m30 (before .before))) →
+          Typed.Mo (cx t30 t35)
+      m35 = λ before given. s38 (before .before .before .before .before .before .before .blocks) (m34 before given)
+      abbrev pub Need-highest-requires : Type 0
+      Need-highest-requires = (c : After-highest-arg) → s39 (c .before .before .before .before .before .before .before .blocks) .asks (m35 (c .before) (c
+          .highest-arg .given))
+      abbrev pub m36 : (before : After-highest-arg) → (given : s39 (before .before .before .before .before .before .before .before .blocks) .gives (m35
+          (before .before) (before .highest-arg .given))) → Typed.Mo (cx t36 t35)
+      m36 = λ before given. s39 (before .before .before .before .before .before .before .before .blocks) .next (m35 (before .before) (before .highest-arg
           .given)) given
       module _ (before· : After-highest-arg) where
         abbrev pub After-highest·own : Type 0
-        After-highest·own = Called.Called ps·4 r·4 (claims· .9) (cx t30 t32) (record { pos = 17; ty = y6; ref = λ x. x }, (Num.vAt 5 λ x. x, tt)) (m32
-            (before· .before) (before· .highest-arg .given))
+        After-highest·own = Called.Called ps·4 r·4 (claims· .9) (cx t30 t35) (record { pos = 17; ty = y6; ref = λ x. x }, (Num.vAt 19 λ x. x, (Num.vAt 5 λ x.
+            x, tt))) (m35 (before· .before) (before· .highest-arg .given))
       pub record After-highest : Type 0 where
         pub before : After-highest-arg
         pub highest : After-highest·own before
-      abbrev pub After-highest·gave : (c : After-highest) → s36 (c .before .before .before .before .before .before .before .before .blocks) .gives (m32 (c
+      abbrev pub After-highest·gave : (c : After-highest) → s39 (c .before .before .before .before .before .before .before .before .blocks) .gives (m35 (c
           .before .before) (c .before .highest-arg .given))
-      After-highest·gave = λ c. Called.given ps·4 r·4 (claims· .9) (cx t30 t32) (record { pos = 17; ty = y6; ref = λ x. x }, (Num.vAt 5 λ x. x, tt)) (m32 (c
-          .before .before) (c .before .highest-arg .given)) (c .highest)
-      abbrev pub m34 : (before : After-highest-arg) → (given : s36 (before .before .before .before .before .before .before .before .blocks) .gives (m32
-          (before .before) (before .highest-arg .given))) → Typed.Mo (cx t33 t1)
-      m34 = λ before given. s37 (before .before .before .before .before .before .before .before .blocks) (m33 before given)
-      abbrev pub m35 : (before : After-highest-arg) → (given : s36 (before .before .before .before .before .before .before .before .blocks) .gives (m32
-          (before .before) (before .highest-arg .given))) → Typed.Mo (cx t34 t1)
-      m35 = λ before given. s39 (before .before .before .before .before .before .before .before .blocks) (m34 before given)
+      After-highest·gave = λ c. Called.given ps·4 r·4 (claims· .9) (cx t30 t35) (record { pos = 17; ty = y6; ref = λ x. x }, (Num.vAt 19 λ x. x, (Num.vAt 5 λ
+          x. x, tt))) (m35 (c .before .before) (c .before .highest-arg .given)) (c .highest)
+      abbrev pub m37 : (before : After-highest-arg) → (given : s39 (before .before .before .before .before .before .before .before .blocks) .gives (m35
+          (before .before) (before .highest-arg .given))) → Typed.Mo (cx t36 t37)
+      m37 = λ before given. s40 (before .before .before .before .before .before .before .before .blocks) (m36 before given)
+      abbrev pub m38 : (before : After-highest-arg) → (given : s39 (before .before .before .before .before .before .before .before .blocks) .gives (m35
+          (before .before) (before .highest-arg .given))) → Typed.Mo (cx t36 t1)
+      m38 = λ before given. s41 (before .before .before .before .before .before .before .before .blocks) (m37 before given)
+      abbrev pub m39 : (before : After-highest-arg) → (given : s39 (before .before .before .before .before .before .before .before .blocks) .gives (m35
+          (before .before) (before .highest-arg .given))) → Typed.Mo (cx t38 t1)
+      m39 = λ before given. s43 (before .before .before .before .before .before .before .before .blocks) (m38 before given)
       abbrev pub Need-cast-if3 : Type 0
-      Need-cast-if3 = (c : After-highest) → s41 (c .before .before .before .before .before .before .before .before .blocks) .asks (m35 (c .before)
+      Need-cast-if3 = (c : After-highest) → s45 (c .before .before .before .before .before .before .before .before .blocks) .asks (m39 (c .before)
           (After-highest·gave c))
-      abbrev pub m36 : (before : After-highest-arg) → (given : s36 (before .before .before .before .before .before .before .before .blocks) .gives (m32
-          (before .before) (before .highest-arg .given))) → Typed.Mo (cx t34 t35)
-      m36 = λ before given. s41 (before .before .before .before .before .before .before .before .blocks) .next (m35 before given)
+      abbrev pub m40 : (before : After-highest-arg) → (given : s39 (before .before .before .before .before .before .before .before .blocks) .gives (m35
+          (before .before) (before .highest-arg .given))) → Typed.Mo (cx t38 t39)
+      m40 = λ before given. s45 (before .before .before .before .before .before .before .before .blocks) .next (m39 before given)
       abbrev pub Need-add-if3 : Type 0
-      Need-add-if3 = (c : After-highest) → s42 (c .before .before .before .before .before .before .before .before .blocks) .asks (m36 (c .before)
+      Need-add-if3 = (c : After-highest) → s46 (c .before .before .before .before .before .before .before .before .blocks) .asks (m40 (c .before)
           (After-highest·gave c))
-      abbrev pub m37 : (before : After-highest-arg) → (given : s36 (before .before .before .before .before .before .before .before .blocks) .gives (m32
-          (before .before) (before .highest-arg .given))) → Typed.Mo (cx t34 t36)
-      m37 = λ before given. s42 (before .before .before .before .before .before .before .before .blocks) .next (m36 before given)
-      abbrev pub m38 : (before : After-highest-arg) → (given : s36 (before .before .before .before .before .before .before .before .blocks) .gives (m32
-          (before .before) (before .highest-arg .given))) → Typed.Mo (cx t34 t37)
-      m38 = λ before given. s43 (before .before .before .before .before .before .before .before .blocks) (m37 before given)
-      abbrev pub m39 : (before : After-highest-arg) → (given : s36 (before .before .before .before .before .before .before .before .blocks) .gives (m32
-          (before .before) (before .highest-arg .given))) → Typed.Mo (cx t38 t37)
-      m39 = λ before given. s44 (before .before .before .before .before .before .before .before .blocks) .next (m38 before given)
-      abbrev W3 : (before : After-highest-arg) → (given : s36 (before .before .before .before .before .before .before .before .blocks) .gives (m32 (before
+      abbrev pub m41 : (before : After-highest-arg) → (given : s39 (before .before .before .before .before .before .before .before .blocks) .gives (m35
+          (before .before) (before .highest-arg .given))) → Typed.Mo (cx t38 t40)
+      m41 = λ before given. s46 (before .before .before .before .before .before .before .before .blocks) .next (m40 before given)
+      abbrev pub m42 : (before : After-highest-arg) → (given : s39 (before .before .before .before .before .before .before .before .blocks) .gives (m35
+          (before .before) (before .highest-arg .given))) → Typed.Mo (cx t38 t41)
+      m42 = λ before given. s47 (before .before .before .before .before .before .before .before .blocks) (m41 before given)
+      abbrev pub m43 : (before : After-highest-arg) → (given : s39 (before .before .before .before .before .before .before .before .blocks) .gives (m35
+          (before .before) (before .highest-arg .given))) → Typed.Mo (cx t42 t41)
+      m43 = λ before given. s48 (before .before .before .before .before .before .before .before .blocks) .next (m42 before given)
+      abbrev W3 : (before : After-highest-arg) → (given : s39 (before .before .before .before .before .before .before .before .blocks) .gives (m35 (before
           .before) (before .highest-arg .given))) → Typed.Want O3
-      W3 = λ before given. Typed.wantNext (cx t34 t1) O0 (at57 (before .before .before .before .before .before .before .before .blocks) (W0 (before .before
+      W3 = λ before given. Typed.wantNext (cx t38 t1) O0 (at57 (before .before .before .before .before .before .before .before .blocks) (W0 (before .before
           .before .before .before .before .before .before .κs) (before .before .before .before .before .before .before .before .args) (before .before .before
           .before .before .before .before .before .blocks))) (W0 (before .before .before .before .before .before .before .before .κs) (before .before .before
           .before .before .before .before .before .args) (before .before .before .before .before .before .before .before .blocks))
-      abbrev pub m40 : (before : After-highest-arg) → (given : s36 (before .before .before .before .before .before .before .before .blocks) .gives (m32
-          (before .before) (before .highest-arg .given))) → Typed.Mo (cx t38 t1)
-      m40 = λ before given. s45 (before .before .before .before .before .before .before .before .blocks) (m39 before given)
+      abbrev pub m44 : (before : After-highest-arg) → (given : s39 (before .before .before .before .before .before .before .before .blocks) .gives (m35
+          (before .before) (before .highest-arg .given))) → Typed.Mo (cx t42 t1)
+      m44 = λ before given. s49 (before .before .before .before .before .before .before .before .blocks) (m43 before given)
       module _ (before· : After-highest) where
         pub record Then3·own : Type 0 where
-          pub taken : Nat._<_ 768 (Row.get 19 ((cx t34 t37) .locals) (m38 (before· .before) (After-highest·gave before·)))
+          pub taken : Nat._<_ 768 (Row.get 20 ((cx t38 t41) .locals) (m42 (before· .before) (After-highest·gave before·)))
       pub record Then3 : Type 0 where
         pub before : After-highest
         pub if3 : Then3·own before
-      abbrev pub m41 : (before : After-highest) → Typed.Mo (cx t39 t1)
-      m41 = λ before. s46 (before .before .before .before .before .before .before .before .before .blocks) (m40 (before .before) (After-highest·gave before))
-      abbrev pub m42 : (before : After-highest) → Typed.Mo (cx t40 t1)
-      m42 = λ before. s47 (before .before .before .before .before .before .before .before .before .blocks) (m41 before)
+      abbrev pub m45 : (before : After-highest) → Typed.Mo (cx t43 t1)
+      m45 = λ before. s50 (before .before .before .before .before .before .before .before .before .blocks) (m44 (before .before) (After-highest·gave before))
+      abbrev pub m46 : (before : After-highest) → Typed.Mo (cx t44 t1)
+      m46 = λ before. s51 (before .before .before .before .before .before .before .before .before .blocks) (m45 before)
       abbrev pub Need-not-rooted-requires-2 : Type 0
-      Need-not-rooted-requires-2 = (c : Then3) → s48 (c .before .before .before .before .before .before .before .before .before .blocks) .asks (m42 (c
+      Need-not-rooted-requires-2 = (c : Then3) → s52 (c .before .before .before .before .before .before .before .before .before .blocks) .asks (m46 (c
           .before))
-      abbrev pub m43 : (before : Then3) → (given : s48 (before .before .before .before .before .before .before .before .before .before .blocks) .gives (m42
-          (before .before))) → Typed.Mo (cx t41 t1)
-      m43 = λ before given. s48 (before .before .before .before .before .before .before .before .before .before .blocks) .next (m42 (before .before)) given
+      abbrev pub m47 : (before : Then3) → (given : s52 (before .before .before .before .before .before .before .before .before .before .blocks) .gives (m46
+          (before .before))) → Typed.Mo (cx t45 t1)
+      m47 = λ before given. s52 (before .before .before .before .before .before .before .before .before .before .blocks) .next (m46 (before .before)) given
       module _ (before· : Then3) where
         abbrev pub After-not-rooted2·own : Type 0
-        After-not-rooted2·own = Called.Called ps·1 r·1 (claims· .3) (cx t40 t1) (Num.vAt 5 λ x. x, tt) (m42 (before· .before))
+        After-not-rooted2·own = Called.Called ps·1 r·1 (claims· .3) (cx t44 t1) (Num.vAt 5 λ x. x, tt) (m46 (before· .before))
       pub record After-not-rooted2 : Type 0 where
         pub before : Then3
         pub not-rooted2 : After-not-rooted2·own before
-      abbrev pub After-not-rooted2·gave : (c : After-not-rooted2) → s48 (c .before .before .before .before .before .before .before .before .before .before
-          .blocks) .gives (m42 (c .before .before))
-      After-not-rooted2·gave = λ c. Called.given ps·1 r·1 (claims· .3) (cx t40 t1) (Num.vAt 5 λ x. x, tt) (m42 (c .before .before)) (c .not-rooted2)
-      abbrev pub m44 : (before : Then3) → (given : s48 (before .before .before .before .before .before .before .before .before .before .blocks) .gives (m42
-          (before .before))) → Typed.Mo (cx t42 t1)
-      m44 = λ before given. s49 (before .before .before .before .before .before .before .before .before .before .blocks) (m43 before given)
-      abbrev pub m45 : (before : Then3) → (given : s48 (before .before .before .before .before .before .before .before .before .before .blocks) .gives (m42
-          (before .before))) → Typed.Mo (cx t43 t1)
-      m45 = λ before given. s50 (before .before .before .before .before .before .before .before .before .before .blocks) (m44 before given)
-      abbrev pub m46 : (before : Then3) → (given : s48 (before .before .before .before .before .before .before .before .before .before .blocks) .gives (m42
+      abbrev pub After-not-rooted2·gave : (c : After-not-rooted2) → s52 (c .before .before .before .before .before .before .before .before .before .before
+          .blocks) .gives (m46 (c .before .before))
+      After-not-rooted2·gave = λ c. Called.given ps·1 r·1 (claims· .3) (cx t44 t1) (Num.vAt 5 λ x. x, tt) (m46 (c .before .before)) (c .not-rooted2)
+      abbrev pub m48 : (before : Then3) → (given : s52 (before .before .before .before .before .before .before .before .before .before .blocks) .gives (m46
+          (before .before))) → Typed.Mo (cx t46 t1)
+      m48 = λ before given. s53 (before .before .before .before .before .before .before .before .before .before .blocks) (m47 before given)
+      abbrev pub m49 : (before : Then3) → (given : s52 (before .before .before .before .before .before .before .before .before .before .blocks) .gives (m46
+          (before .before))) → Typed.Mo (cx t47 t1)
+      m49 = λ before given. s54 (before .before .before .before .before .before .before .before .before .before .blocks) (m48 before given)
+      abbrev pub m50 : (before : Then3) → (given : s52 (before .before .before .before .before .before .before .before .before .before .blocks) .gives (m46
           (before .before))) → Typed.Mo (cx t2 t1)
-      m46 = λ before given. s51 (before .before .before .before .before .before .before .before .before .before .blocks) (m45 before given)
+      m50 = λ before given. s55 (before .before .before .before .before .before .before .before .before .before .blocks) (m49 before given)
       abbrev pub Need-same-length-3 : Type 0
-      Need-same-length-3 = (c : After-not-rooted2) → MutSlice.SameLen (Row.get 1 ((cx t2 t1) .locals) (m46 (c .before) (After-not-rooted2·gave c))) (dens (c
+      Need-same-length-3 = (c : After-not-rooted2) → MutSlice.SameLen (Row.get 1 ((cx t2 t1) .locals) (m50 (c .before) (After-not-rooted2·gave c))) (dens (c
           .before .before .before .before .before .before .before .before .before .before .κs) (c .before .before .before .before .before .before .before
           .before .before .before .args) .0)
       abbrev pub Need-returns-3 : Type 0
       Need-returns-3 = (c : After-not-rooted2) → Post· (c .before .before .before .before .before .before .before .before .before .before .κs) (dens (c
           .before .before .before .before .before .before .before .before .before .before .κs) (c .before .before .before .before .before .before .before
-          .before .before .before .args)) (Function.resV r (c .before .before .before .before .before .before .before .before .before .before .κs) (m46 (c
+          .before .before .before .args)) (Function.resV r (c .before .before .before .before .before .before .before .before .before .before .κs) (m50 (c
           .before) (After-not-rooted2·gave c) .0)) (Clauses.atExit (Kinds.endedOf 2 ps r) (c .before .before .before .before .before .before .before .before
           .before .before .κs) (dens (c .before .before .before .before .before .before .before .before .before .before .κs) (c .before .before .before
           .before .before .before .before .before .before .before .args)) (Enter.lastsP (c .before .before .before .before .before .before .before .before
           .before .before .κs) 1 ps xs (dens (c .before .before .before .before .before .before .before .before .before .before .κs) (c .before .before
-          .before .before .before .before .before .before .before .before .args)) (m46 (c .before) (After-not-rooted2·gave c) .1)))
+          .before .before .before .before .before .before .before .before .args)) (m50 (c .before) (After-not-rooted2·gave c) .1)))
       module _ (before· : After-highest) where
         pub record Else3·own : Type 0 where
-          pub left : Nat._≤_ (Row.get 19 ((cx t34 t37) .locals) (m38 (before· .before) (After-highest·gave before·))) 768
+          pub left : Nat._≤_ (Row.get 20 ((cx t38 t41) .locals) (m42 (before· .before) (After-highest·gave before·))) 768
       pub record Else3 : Type 0 where
         pub before : After-highest
         pub if3 : Else3·own before
-      abbrev pub m47 : (before : After-highest) → Typed.Mo (cx t34 t1)
-      m47 = λ before. s52 (before .before .before .before .before .before .before .before .before .blocks) (m40 (before .before) (After-highest·gave before))
+      abbrev pub m51 : (before : After-highest) → Typed.Mo (cx t38 t1)
+      m51 = λ before. s56 (before .before .before .before .before .before .before .before .before .blocks) (m44 (before .before) (After-highest·gave before))
       abbrev pub Need-cast-larger : Type 0
-      Need-cast-larger = (c : Else3) → s53 (c .before .before .before .before .before .before .before .before .before .blocks) .asks (m47 (c .before))
-      abbrev pub m48 : (before : After-highest) → Typed.Mo (cx t34 t44)
-      m48 = λ before. s53 (before .before .before .before .before .before .before .before .before .blocks) .next (m47 before)
+      Need-cast-larger = (c : Else3) → s57 (c .before .before .before .before .before .before .before .before .before .blocks) .asks (m51 (c .before))
+      abbrev pub m52 : (before : After-highest) → Typed.Mo (cx t38 t37)
+      m52 = λ before. s57 (before .before .before .before .before .before .before .before .before .blocks) .next (m51 before)
       abbrev pub Need-add-larger : Type 0
-      Need-add-larger = (c : Else3) → s54 (c .before .before .before .before .before .before .before .before .before .blocks) .asks (m48 (c .before))
-      abbrev pub m49 : (before : After-highest) → Typed.Mo (cx t34 t45)
-      m49 = λ before. s54 (before .before .before .before .before .before .before .before .before .blocks) .next (m48 before)
-      abbrev pub m50 : (before : After-highest) → Typed.Mo (cx t34 t46)
-      m50 = λ before. s55 (before .before .before .before .before .before .before .before .before .blocks) (m49 before)
+      Need-add-larger = (c : Else3) → s58 (c .before .before .before .before .before .before .before .before .before .blocks) .asks (m52 (c .before))
+      abbrev pub m53 : (before : After-highest) → Typed.Mo (cx t38 t48)
+      m53 = λ before. s58 (before .before .before .before .before .before .before .before .before .blocks) .next (m52 before)
+      abbrev pub m54 : (before : After-highest) → Typed.Mo (cx t38 t49)
+      m54 = λ before. s59 (before .before .before .before .before .before .before .before .before .blocks) (m53 before)
       abbrev pub Need-larger-requires : Type 0
-      Need-larger-requires = (c : Else3) → s56 (c .before .before .before .before .before .before .before .before .before .blocks) .asks (m50 (c .before))
-      abbrev pub m51 : (before : Else3) → (given : s56 (before .before .before .before .before .before .before .before .before .before .blocks) .gives (m50
-          (before .before))) → Typed.Mo (cx t47 t46)
-      m51 = λ before given. s56 (before .before .before .before .before .before .before .before .before .before .blocks) .next (m50 (before .before)) given
+      Need-larger-requires = (c : Else3) → s60 (c .before .before .before .before .before .before .before .before .before .blocks) .asks (m54 (c .before))
+      abbrev pub m55 : (before : Else3) → (given : s60 (before .before .before .before .before .before .before .before .before .before .blocks) .gives (m54
+          (before .before))) → Typed.Mo (cx t50 t49)
+      m55 = λ before given. s60 (before .before .before .before .before .before .before .before .before .before .blocks) .next (m54 (before .before)) given
       module _ (before· : Else3) where
         abbrev pub After-larger·own : Type 0
-        After-larger·own = Called.Called ps·5 r·5 (claims· .11) (cx t34 t46) (Num.vAt 5 λ x. x, (Num.vAt 21 λ x. x, tt)) (m50 (before· .before))
+        After-larger·own = Called.Called ps·5 r·5 (claims· .11) (cx t38 t49) (Num.vAt 5 λ x. x, (Num.vAt 21 λ x. x, tt)) (m54 (before· .before))
       pub record After-larger : Type 0 where
         pub before : Else3
         pub larger : After-larger·own before
-      abbrev pub After-larger·gave : (c : After-larger) → s56 (c .before .before .before .before .before .before .before .before .before .before .blocks)
-          .gives (m50 (c .before .before))
-      After-larger·gave = λ c. Called.given ps·5 r·5 (claims· .11) (cx t34 t46) (Num.vAt 5 λ x. x, (Num.vAt 21 λ x. x, tt)) (m50 (c .before .before)) (c
+      abbrev pub After-larger·gave : (c : After-larger) → s60 (c .before .before .before .before .before .before .before .before .before .before .blocks)
+          .gives (m54 (c .before .before))
+      After-larger·gave = λ c. Called.given ps·5 r·5 (claims· .11) (cx t38 t49) (Num.vAt 5 λ x. x, (Num.vAt 21 λ x. x, tt)) (m54 (c .before .before)) (c
           .larger)
-      abbrev pub m52 : (before : Else3) → (given : s56 (before .before .before .before .before .before .before .before .before .before .blocks) .gives (m50
-          (before .before))) → Typed.Mo (cx t47 t1)
-      m52 = λ before given. s57 (before .before .before .before .before .before .before .before .before .before .blocks) (m51 before given)
-      abbrev pub m53 : (before : After-larger) → (given : s59 (before .before .before .before .before .before .before .before .before .before .before .blocks)
-          .gives (m52 (before .before) (After-larger·gave before))) → Typed.Mo (cx t48 t49)
-      m53 = λ before given. s59 (before .before .before .before .before .before .before .before .before .before .before .blocks) .next (m52 (before .before)
+      abbrev pub m56 : (before : Else3) → (given : s60 (before .before .before .before .before .before .before .before .before .before .blocks) .gives (m54
+          (before .before))) → Typed.Mo (cx t50 t1)
+      m56 = λ before given. s61 (before .before .before .before .before .before .before .before .before .before .blocks) (m55 before given)
+      abbrev pub m57 : (before : After-larger) → (given : s63 (before .before .before .before .before .before .before .before .before .before .before .blocks)
+          .gives (m56 (before .before) (After-larger·gave before))) → Typed.Mo (cx t51 t52)
+      m57 = λ before given. s63 (before .before .before .before .before .before .before .before .before .before .before .blocks) .next (m56 (before .before)
           (After-larger·gave before)) given
-      abbrev pub m54 : (before : After-larger) → (given : s59 (before .before .before .before .before .before .before .before .before .before .before .blocks)
-          .gives (m52 (before .before) (After-larger·gave before))) → Typed.Mo (cx t48 t50)
-      m54 = λ before given. s60 (before .before .before .before .before .before .before .before .before .before .before .blocks) .next (m53 before given)
+      abbrev pub m58 : (before : After-larger) → (given : s63 (before .before .before .before .before .before .before .before .before .before .before .blocks)
+          .gives (m56 (before .before) (After-larger·gave before))) → Typed.Mo (cx t51 t53)
+      m58 = λ before given. s64 (before .before .before .before .before .before .before .before .before .before .before .blocks) .next (m57 before given)
       module _ (before· : After-larger) where
         pub record After-put-rows-arg·own : Type 0 where
-          pub given : s59 (before· .before .before .before .before .before .before .before .before .before .before .blocks) .gives (m52 (before· .before)
+          pub given : s63 (before· .before .before .before .before .before .before .before .before .before .before .blocks) .gives (m56 (before· .before)
               (After-larger·gave before·))
       pub record After-put-rows-arg : Type 0 where
         pub before : After-larger
         pub put-rows-arg : After-put-rows-arg·own before
       abbrev pub Need-add-put-rows : Type 0
-      Need-add-put-rows = (c : After-put-rows-arg) → s61 (c .before .before .before .before .before .before .before .before .before .before .before .blocks)
-          .asks (m54 (c .before) (c .put-rows-arg .given))
-      abbrev pub m55 : (before : After-larger) → (given : s59 (before .before .before .before .before .before .before .before .before .before .before .blocks)
-          .gives (m52 (before .before) (After-larger·gave before))) → Typed.Mo (cx t48 t51)
-      m55 = λ before given. s61 (before .before .before .before .before .before .before .before .before .before .before .blocks) .next (m54 before given)
+      Need-add-put-rows = (c : After-put-rows-arg) → s65 (c .before .before .before .before .before .before .before .before .before .before .before .blocks)
+          .asks (m58 (c .before) (c .put-rows-arg .given))
+      abbrev pub m59 : (before : After-larger) → (given : s63 (before .before .before .before .before .before .before .before .before .before .before .blocks)
+          .gives (m56 (before .before) (After-larger·gave before))) → Typed.Mo (cx t51 t54)
+      m59 = λ before given. s65 (before .before .before .before .before .before .before .before .before .before .before .blocks) .next (m58 before given)
       abbrev pub Need-put-rows-requires : Type 0
-      Need-put-rows-requires = (c : After-put-rows-arg) → s62 (c .before .before .before .before .before .before .before .before .before .before .before
-          .blocks) .asks (m55 (c .before) (c .put-rows-arg .given))
-      abbrev pub m56 : (before : After-put-rows-arg) → (given : s62 (before .before .before .before .before .before .before .before .before .before .before
-          .before .blocks) .gives (m55 (before .before) (before .put-rows-arg .given))) → Typed.Mo (cx t52 t53)
-      m56 = λ before given. s62 (before .before .before .before .before .before .before .before .before .before .before .before .blocks) .next (m55 (before
+      Need-put-rows-requires = (c : After-put-rows-arg) → s66 (c .before .before .before .before .before .before .before .before .before .before .before
+          .blocks) .asks (m59 (c .before) (c .put-rows-arg .given))
+      abbrev pub m60 : (before : After-put-rows-arg) → (given : s66 (before .before .before .before .before .before .before .before .before .before .before
+          .before .blocks) .gives (m59 (before .before) (before .put-rows-arg .given))) → Typed.Mo (cx t55 t56)
+      m60 = λ before given. s66 (before .before .before .before .before .before .before .before .before .before .before .before .blocks) .next (m59 (before
           .before) (before .put-rows-arg .given)) given
       module _ (before· : After-put-rows-arg) where
         abbrev pub After-put-rows·own : Type 0
-        After-put-rows·own = Called.Called ps·6 r·6 (claims· .13) (cx t48 t51) (record { pos = 23; ty = y8; ref = λ x. x }, (Num.vAt 9 λ x. x, (record { pos =
-            2; ty = y14; ref = λ x. x }, (record { pos = 3; st = []; d = 0; at = λ x. x }, (Num.vAt 20 λ x. x, tt))))) (m55 (before· .before) (before·
+        After-put-rows·own = Called.Called ps·6 r·6 (claims· .13) (cx t51 t54) (record { pos = 23; ty = y8; ref = λ x. x }, (Num.vAt 9 λ x. x, (record { pos =
+            2; ty = y14; ref = λ x. x }, (record { pos = 3; st = []; d = 0; at = λ x. x }, (Num.vAt 19 λ x. x, tt))))) (m59 (before· .before) (before·
             .put-rows-arg .given))
       pub record After-put-rows : Type 0 where
         pub before : After-put-rows-arg
         pub put-rows : After-put-rows·own before
-      abbrev pub After-put-rows·gave : (c : After-put-rows) → s62 (c .before .before .before .before .before .before .before .before .before .before .before
-          .before .blocks) .gives (m55 (c .before .before) (c .before .put-rows-arg .given))
-      After-put-rows·gave = λ c. Called.given ps·6 r·6 (claims· .13) (cx t48 t51) (record { pos = 23; ty = y8; ref = λ x. x }, (Num.vAt 9 λ x. x, (record {
-          pos = 2; ty = y14; ref = λ x. x }, (record { pos = 3; st = []; d = 0; at = λ x. x }, (Num.vAt 20 λ x. x, tt))))) (m55 (c .before .before) (c .before
+      abbrev pub After-put-rows·gave : (c : After-put-rows) → s66 (c .before .before .before .before .before .before .before .before .before .before .before
+          .before .blocks) .gives (m59 (c .before .before) (c .before .put-rows-arg .given))
+      After-put-rows·gave = λ c. Called.given ps·6 r·6 (claims· .13) (cx t51 t54) (record { pos = 23; ty = y8; ref = λ x. x }, (Num.vAt 9 λ x. x, (record {
+          pos = 2; ty = y14; ref = λ x. x }, (record { pos = 3; st = []; d = 0; at = λ x. x }, (Num.vAt 19 λ x. x, tt))))) (m59 (c .before .before) (c .before
           .put-rows-arg .given)) (c .put-rows)
-      abbrev pub m57 : (before : After-put-rows-arg) → (given : s62 (before .before .before .before .before .before .before .before .before .before .before
-          .before .blocks) .gives (m55 (before .before) (before .put-rows-arg .given))) → Typed.Mo (cx t54 t53)
-      m57 = λ before given. s63 (before .before .before .before .before .before .before .before .before .before .before .before .blocks) (m56 before given)
-      abbrev pub m58 : (before : After-put-rows-arg) → (given : s62 (before .before .before .before .before .before .before .before .before .before .before
-          .before .blocks) .gives (m55 (before .before) (before .put-rows-arg .given))) → Typed.Mo (cx t54 t55)
-      m58 = λ before given. s64 (before .before .before .before .before .before .before .before .before .before .before .before .blocks) (m57 before given)
-      abbrev pub m59 : (before : After-put-rows) → (given : s66 (before .before .before .before .before .before .before .before .before .before .before
-          .before .before .blocks) .gives (m58 (before .before) (After-put-rows·gave before))) → Typed.Mo (cx t56 t1)
-      m59 = λ before given. s66 (before .before .before .before .before .before .before .before .before .before .before .before .before .blocks) .next (m58
+      abbrev pub m61 : (before : After-put-rows-arg) → (given : s66 (before .before .before .before .before .before .before .before .before .before .before
+          .before .blocks) .gives (m59 (before .before) (before .put-rows-arg .given))) → Typed.Mo (cx t57 t56)
+      m61 = λ before given. s67 (before .before .before .before .before .before .before .before .before .before .before .before .blocks) (m60 before given)
+      abbrev pub m62 : (before : After-put-rows-arg) → (given : s66 (before .before .before .before .before .before .before .before .before .before .before
+          .before .blocks) .gives (m59 (before .before) (before .put-rows-arg .given))) → Typed.Mo (cx t57 t58)
+      m62 = λ before given. s68 (before .before .before .before .before .before .before .before .before .before .before .before .blocks) (m61 before given)
+      abbrev pub m63 : (before : After-put-rows) → (given : s70 (before .before .before .before .before .before .before .before .before .before .before
+          .before .before .blocks) .gives (m62 (before .before) (After-put-rows·gave before))) → Typed.Mo (cx t59 t1)
+      m63 = λ before given. s70 (before .before .before .before .before .before .before .before .before .before .before .before .before .blocks) .next (m62
           (before .before) (After-put-rows·gave before)) given
-      abbrev pub m60 : (before : After-put-rows) → (given : s66 (before .before .before .before .before .before .before .before .before .before .before
-          .before .before .blocks) .gives (m58 (before .before) (After-put-rows·gave before))) → Typed.Mo (cx t57 t1)
-      m60 = λ before given. s68 (before .before .before .before .before .before .before .before .before .before .before .before .before .blocks) (m59 before
-          given)
-      abbrev pub m61 : (before : After-put-rows) → (given : s66 (before .before .before .before .before .before .before .before .before .before .before
-          .before .before .blocks) .gives (m58 (before .before) (After-put-rows·gave before))) → Typed.Mo (cx t58 t1)
-      m61 = λ before given. s69 (before .before .before .before .before .before .before .before .before .before .before .before .before .blocks) (m60 before
-          given)
-      abbrev pub m62 : (before : After-put-rows) → (given : s66 (before .before .before .before .before .before .before .before .before .before .before
-          .before .before .blocks) .gives (m58 (before .before) (After-put-rows·gave before))) → Typed.Mo (cx t59 t1)
-      m62 = λ before given. s70 (before .before .before .before .before .before .before .before .before .before .before .before .before .blocks) (m61 before
-          given)
-      abbrev pub m63 : (before : After-put-rows) → (given : s66 (before .before .before .before .before .before .before .before .before .before .before
-          .before .before .blocks) .gives (m58 (before .before) (After-put-rows·gave before))) → Typed.Mo (cx t60 t1)
-      m63 = λ before given. s71 (before .before .before .before .before .before .before .before .before .before .before .before .before .blocks) (m62 before
-          given)
-      abbrev pub m64 : (before : After-put-rows) → (given : s66 (before .before .before .before .before .before .before .before .before .before .before
-          .before .before .blocks) .gives (m58 (before .before) (After-put-rows·gave before))) → Typed.Mo (cx t61 t1)
+      abbrev pub m64 : (before : After-put-rows) → (given : s70 (before .before .before .before .before .before .before .before .before .before .before
+          .before .before .blocks) .gives (m62 (before .before) (After-put-rows·gave before))) → Typed.Mo (cx t60 t1)
       m64 = λ before given. s72 (before .before .before .before .before .before .before .before .before .before .before .before .before .blocks) (m63 before
           given)
-      abbrev pub m65 : (before : After-put-rows) → (given : s66 (before .before .before .before .before .before .before .before .before .before .before
-          .before .before .blocks) .gives (m58 (before .before) (After-put-rows·gave before))) → Typed.Mo (cx t28 t1)
+      abbrev pub m65 : (before : After-put-rows) → (given : s70 (before .before .before .before .before .before .before .before .before .before .before
+          .before .before .blocks) .gives (m62 (before .before) (After-put-rows·gave before))) → Typed.Mo (cx t61 t1)
       m65 = λ before given. s73 (before .before .before .before .before .before .before .before .before .before .before .before .before .blocks) (m64 before
           given)
-      abbrev pub m66 : (before : After-put-rows) → (given : s66 (before .before .before .before .before .before .before .before .before .before .before
-          .before .before .blocks) .gives (m58 (before .before) (After-put-rows·gave before))) → Typed.Mo (cx t2 t1)
+      abbrev pub m66 : (before : After-put-rows) → (given : s70 (before .before .before .before .before .before .before .before .before .before .before
+          .before .before .blocks) .gives (m62 (before .before) (After-put-rows·gave before))) → Typed.Mo (cx t62 t1)
       m66 = λ before given. s74 (before .before .before .before .before .before .before .before .before .before .before .before .before .blocks) (m65 before
+          given)
+      abbrev pub m67 : (before : After-put-rows) → (given : s70 (before .before .before .before .before .before .before .before .before .before .before
+          .before .before .blocks) .gives (m62 (before .before) (After-put-rows·gave before))) → Typed.Mo (cx t63 t1)
+      m67 = λ before given. s75 (before .before .before .before .before .before .before .before .before .before .before .before .before .blocks) (m66 before
+          given)
+      abbrev pub m68 : (before : After-put-rows) → (given : s70 (before .before .before .before .before .before .before .before .before .before .before
+          .before .before .blocks) .gives (m62 (before .before) (After-put-rows·gave before))) → Typed.Mo (cx t64 t1)
+      m68 = λ before given. s76 (before .before .before .before .before .before .before .before .before .before .before .before .before .blocks) (m67 before
+          given)
+      abbrev pub m69 : (before : After-put-rows) → (given : s70 (before .before .before .before .before .before .before .before .before .before .before
+          .before .before .blocks) .gives (m62 (before .before) (After-put-rows·gave before))) → Typed.Mo (cx t28 t1)
+      m69 = λ before given. s77 (before .before .before .before .before .before .before .before .before .before .before .before .before .blocks) (m68 before
+          given)
+      abbrev pub m70 : (before : After-put-rows) → (given : s70 (before .before .before .before .before .before .before .before .before .before .before
+          .before .before .blocks) .gives (m62 (before .before) (After-put-rows·gave before))) → Typed.Mo (cx t2 t1)
+      m70 = λ before given. s78 (before .before .before .before .before .before .before .before .before .before .before .before .before .blocks) (m69 before
           given)
       module _ (before· : After-put-rows) where
         pub record After-t·own : Type 0 where
-          pub given : s66 (before· .before .before .before .before .before .before .before .before .before .before .before .before .blocks) .gives (m58
+          pub given : s70 (before· .before .before .before .before .before .before .before .before .before .before .before .before .blocks) .gives (m62
               (before· .before) (After-put-rows·gave before·))
       pub record After-t : Type 0 where
         pub before : After-put-rows
         pub t : After-t·own before
       abbrev pub Need-same-length-4 : Type 0
-      Need-same-length-4 = (c : After-t) → MutSlice.SameLen (Row.get 1 ((cx t2 t1) .locals) (m66 (c .before) (c .t .given))) (dens (c .before .before .before
+      Need-same-length-4 = (c : After-t) → MutSlice.SameLen (Row.get 1 ((cx t2 t1) .locals) (m70 (c .before) (c .t .given))) (dens (c .before .before .before
           .before .before .before .before .before .before .before .before .before .before .κs) (c .before .before .before .before .before .before .before
           .before .before .before .before .before .before .args) .0)
       abbrev pub Need-returns-4 : Type 0
       Need-returns-4 = (c : After-t) → Post· (c .before .before .before .before .before .before .before .before .before .before .before .before .before .κs)
           (dens (c .before .before .before .before .before .before .before .before .before .before .before .before .before .κs) (c .before .before .before
           .before .before .before .before .before .before .before .before .before .before .args)) (Function.resV r (c .before .before .before .before .before
-          .before .before .before .before .before .before .before .before .κs) (m66 (c .before) (c .t .given) .0)) (Clauses.atExit (Kinds.endedOf 2 ps r) (c
+          .before .before .before .before .before .before .before .before .κs) (m70 (c .before) (c .t .given) .0)) (Clauses.atExit (Kinds.endedOf 2 ps r) (c
           .before .before .before .before .before .before .before .before .before .before .before .before .before .κs) (dens (c .before .before .before
           .before .before .before .before .before .before .before .before .before .before .κs) (c .before .before .before .before .before .before .before
           .before .before .before .before .before .before .args)) (Enter.lastsP (c .before .before .before .before .before .before .before .before .before
           .before .before .before .before .κs) 1 ps xs (dens (c .before .before .before .before .before .before .before .before .before .before .before
-          .before .before .κs) (c .before .before .before .before .before .before .before .before .before .before .before .before .before .args)) (m66 (c
+          .before .before .κs) (c .before .before .before .before .before .before .before .before .before .before .before .before .before .args)) (m70 (c
           .before) (c .t .given) .1)))
       module _ (can-root-requires : Need-can-root-requires) (not-rooted-requires : Need-not-rooted-requires) (same-length : Need-same-length) (returns :
           Need-returns) (row-count-requires : Need-row-count-requires) (last-number-requires : Need-last-number-requires) (same-length-2 : Need-same-length-2)
-          (returns-2 : Need-returns-2) (highest-requires : Need-highest-requires) (cast-if3 : Need-cast-if3) (add-if3 : Need-add-if3) (not-rooted-requires-2 :
-          Need-not-rooted-requires-2) (same-length-3 : Need-same-length-3) (returns-3 : Need-returns-3) (cast-larger : Need-cast-larger) (add-larger :
-          Need-add-larger) (larger-requires : Need-larger-requires) (add-put-rows : Need-add-put-rows) (put-rows-requires : Need-put-rows-requires)
-          (same-length-4 : Need-same-length-4) (returns-4 : Need-returns-4) where
+          (returns-2 : Need-returns-2) (sub-highest : Need-sub-highest) (cast-highest : Need-cast-highest) (highest-requires : Need-highest-requires)
+          (cast-if3 : Need-cast-if3) (add-if3 : Need-add-if3) (not-rooted-requires-2 : Need-not-rooted-requires-2) (same-length-3 : Need-same-length-3)
+          (returns-3 : Need-returns-3) (cast-larger : Need-cast-larger) (add-larger : Need-add-larger) (larger-requires : Need-larger-requires) (add-put-rows
+          : Need-add-put-rows) (put-rows-requires : Need-put-rows-requires) (same-length-4 : Need-same-length-4) (returns-4 : Need-returns-4) where
         lay15 : (c : After-put-rows) → at47 (c .before .before .before .before .before .before .before .before .before .before .before .before .blocks) (W0 (c
             .before .before .before .before .before .before .before .before .before .before .before .before .κs) (c .before .before .before .before .before
             .before .before .before .before .before .before .before .args) (c .before .before .before .before .before .before .before .before .before .before
-            .before .before .blocks)) (m56 (c .before) (After-put-rows·gave c))
-        lay15 = λ c. (Path'.refl, λ g. ((MutSlice.fix-len (Row.get 1 ((cx t2 t1) .locals) (m66 record { before = c .before; put-rows = c .put-rows } g) .ptr)
-            (Row.get 1 ((cx t2 t1) .locals) (m66 record { before = c .before; put-rows = c .put-rows } g) .name) (Row.get 1 ((cx t2 t1) .locals) (m66 record {
+            .before .before .blocks)) (m60 (c .before) (After-put-rows·gave c))
+        lay15 = λ c. (Path'.refl, λ g. ((MutSlice.fix-len (Row.get 1 ((cx t2 t1) .locals) (m70 record { before = c .before; put-rows = c .put-rows } g) .ptr)
+            (Row.get 1 ((cx t2 t1) .locals) (m70 record { before = c .before; put-rows = c .put-rows } g) .name) (Row.get 1 ((cx t2 t1) .locals) (m70 record {
             before = c .before; put-rows = c .put-rows } g) .now) (dens (c .before .before .before .before .before .before .before .before .before .before
             .before .before .κs) (c .before .before .before .before .before .before .before .before .before .before .before .before .args) .0 .now)
             (same-length-4 record { before = record { before = c .before; put-rows = c .put-rows }; t = record { given = g } }), (Path'.refl, (tt, tt))),
             returns-4 record { before = record { before = c .before; put-rows = c .put-rows }; t = record { given = g } }))
         lay14 : (c : After-larger) → at53 (c .before .before .before .before .before .before .before .before .before .before .blocks) (W0 (c .before .before
             .before .before .before .before .before .before .before .before .κs) (c .before .before .before .before .before .before .before .before .before
-            .before .args) (c .before .before .before .before .before .before .before .before .before .before .blocks)) (m51 (c .before) (After-larger·gave
+            .before .args) (c .before .before .before .before .before .before .before .before .before .before .blocks)) (m55 (c .before) (After-larger·gave
             c))
         lay14 = λ c. λ g. (Path'.refl, (add-put-rows record { before = record { before = c .before; larger = c .larger }; put-rows-arg = record { given = g }
             }, (put-rows-requires record { before = record { before = c .before; larger = c .larger }; put-rows-arg = record { given = g } }, λ g'. lay15
             record { before = record { before = record { before = c .before; larger = c .larger }; put-rows-arg = record { given = g } }; put-rows =
-            Called.called ps·6 r·6 (claims· .13) (cx t48 t51) (record { pos = 23; ty = y8; ref = λ x. x }, (Num.vAt 9 λ x. x, (record { pos = 2; ty = y14; ref
-            = λ x. x }, (record { pos = 3; st = []; d = 0; at = λ x. x }, (Num.vAt 20 λ x. x, tt))))) (m55 record { before = c .before; larger = c .larger }
+            Called.called ps·6 r·6 (claims· .13) (cx t51 t54) (record { pos = 23; ty = y8; ref = λ x. x }, (Num.vAt 9 λ x. x, (record { pos = 2; ty = y14; ref
+            = λ x. x }, (record { pos = 3; st = []; d = 0; at = λ x. x }, (Num.vAt 19 λ x. x, tt))))) (m59 record { before = c .before; larger = c .larger }
             g) g' })))
         lay13 : (c : Else3) → at57 (c .before .before .before .before .before .before .before .before .before .blocks) (W0 (c .before .before .before .before
             .before .before .before .before .before .κs) (c .before .before .before .before .before .before .before .before .before .args) (c .before .before
-            .before .before .before .before .before .before .before .blocks)) (m47 (c .before))
+            .before .before .before .before .before .before .before .blocks)) (m51 (c .before))
         lay13 = λ c. (cast-larger record { before = c .before; if3 = c .if3 }, (add-larger record { before = c .before; if3 = c .if3 }, (larger-requires
             record { before = c .before; if3 = c .if3 }, λ g. lay14 record { before = record { before = c .before; if3 = c .if3 }; larger = Called.called ps·5
-            r·5 (claims· .11) (cx t34 t46) (Num.vAt 5 λ x. x, (Num.vAt 21 λ x. x, tt)) (m50 (c .before)) g })))
+            r·5 (claims· .11) (cx t38 t49) (Num.vAt 5 λ x. x, (Num.vAt 21 λ x. x, tt)) (m54 (c .before)) g })))
         lay12 : (c : Else3) → at32 (c .before .before .before .before .before .before .before .before .before .blocks) (W3 (c .before .before)
-            (After-highest·gave (c .before))) (m40 (c .before .before) (After-highest·gave (c .before)))
+            (After-highest·gave (c .before))) (m44 (c .before .before) (After-highest·gave (c .before)))
         lay12 = λ c. lay13 record { before = c .before; if3 = c .if3 }
         lay11 : (c : After-not-rooted2) → at27 (c .before .before .before .before .before .before .before .before .before .before .blocks) (W3 (c .before
-            .before .before) (After-highest·gave (c .before .before))) (m43 (c .before) (After-not-rooted2·gave c))
-        lay11 = λ c. ((MutSlice.fix-len (Row.get 1 ((cx t2 t1) .locals) (m46 (c .before) (After-not-rooted2·gave c)) .ptr) (Row.get 1 ((cx t2 t1) .locals)
-            (m46 (c .before) (After-not-rooted2·gave c)) .name) (Row.get 1 ((cx t2 t1) .locals) (m46 (c .before) (After-not-rooted2·gave c)) .now) (dens (c
+            .before .before) (After-highest·gave (c .before .before))) (m47 (c .before) (After-not-rooted2·gave c))
+        lay11 = λ c. ((MutSlice.fix-len (Row.get 1 ((cx t2 t1) .locals) (m50 (c .before) (After-not-rooted2·gave c)) .ptr) (Row.get 1 ((cx t2 t1) .locals)
+            (m50 (c .before) (After-not-rooted2·gave c)) .name) (Row.get 1 ((cx t2 t1) .locals) (m50 (c .before) (After-not-rooted2·gave c)) .now) (dens (c
             .before .before .before .before .before .before .before .before .before .before .κs) (c .before .before .before .before .before .before .before
             .before .before .before .args) .0 .now) (same-length-3 record { before = c .before; not-rooted2 = c .not-rooted2 }), (Path'.refl, (tt, tt))),
             returns-3 record { before = c .before; not-rooted2 = c .not-rooted2 })
         lay10 : (c : Then3) → at30 (c .before .before .before .before .before .before .before .before .before .blocks) (W3 (c .before .before)
-            (After-highest·gave (c .before))) (m40 (c .before .before) (After-highest·gave (c .before)))
+            (After-highest·gave (c .before))) (m44 (c .before .before) (After-highest·gave (c .before)))
         lay10 = λ c. (not-rooted-requires-2 record { before = c .before; if3 = c .if3 }, λ g. lay11 record { before = record { before = c .before; if3 = c
-            .if3 }; not-rooted2 = Called.called ps·1 r·1 (claims· .3) (cx t40 t1) (Num.vAt 5 λ x. x, tt) (m42 (c .before)) g })
-        lay9 : (c : After-highest) → at66 (c .before .before .before .before .before .before .before .before .blocks) (W0 (c .before .before .before .before
+            .if3 }; not-rooted2 = Called.called ps·1 r·1 (claims· .3) (cx t44 t1) (Num.vAt 5 λ x. x, tt) (m46 (c .before)) g })
+        lay9 : (c : After-highest) → at67 (c .before .before .before .before .before .before .before .before .blocks) (W0 (c .before .before .before .before
             .before .before .before .before .κs) (c .before .before .before .before .before .before .before .before .args) (c .before .before .before .before
-            .before .before .before .before .blocks)) (m33 (c .before) (After-highest·gave c))
+            .before .before .before .before .blocks)) (m36 (c .before) (After-highest·gave c))
         lay9 = λ c. (cast-if3 record { before = c .before; highest = c .highest }, (add-if3 record { before = c .before; highest = c .highest }, (tt, (λ
-            taken. lay10 record { before = record { before = c .before; highest = c .highest }; if3 = record { taken = Tests.ltb-true 768 (Row.get 19 ((cx t34
-            t37) .locals) (m38 (c .before) (After-highest·gave c))) taken } }, λ left. lay12 record { before = record { before = c .before; highest = c
-            .highest }; if3 = record { left = Tests.ltb-false 768 (Row.get 19 ((cx t34 t37) .locals) (m38 (c .before) (After-highest·gave c))) left } }))))
-        lay8 : (c : Else2) → at70 (c .before .before .before .before .before .before .blocks) (W0 (c .before .before .before .before .before .before .κs) (c
+            taken. lay10 record { before = record { before = c .before; highest = c .highest }; if3 = record { taken = Tests.ltb-true 768 (Row.get 20 ((cx t38
+            t41) .locals) (m42 (c .before) (After-highest·gave c))) taken } }, λ left. lay12 record { before = record { before = c .before; highest = c
+            .highest }; if3 = record { left = Tests.ltb-false 768 (Row.get 20 ((cx t38 t41) .locals) (m42 (c .before) (After-highest·gave c))) left } }))))
+        lay8 : (c : Else2) → at74 (c .before .before .before .before .before .before .blocks) (W0 (c .before .before .before .before .before .before .κs) (c
             .before .before .before .before .before .before .args) (c .before .before .before .before .before .before .blocks)) (m30 (c .before))
-        lay8 = λ c. λ g. (Path'.refl, (highest-requires record { before = record { before = c .before; if2 = c .if2 }; highest-arg = record { given = g } }, λ
-            g'. lay9 record { before = record { before = record { before = c .before; if2 = c .if2 }; highest-arg = record { given = g } }; highest =
-            Called.called ps·4 r·4 (claims· .9) (cx t30 t32) (record { pos = 17; ty = y6; ref = λ x. x }, (Num.vAt 5 λ x. x, tt)) (m32 record { before = c
-            .before; if2 = c .if2 } g) g' }))
+        lay8 = λ c. λ g. (Path'.refl, (sub-highest record { before = record { before = c .before; if2 = c .if2 }; highest-arg = record { given = g } },
+            (cast-highest record { before = record { before = c .before; if2 = c .if2 }; highest-arg = record { given = g } }, (highest-requires record {
+            before = record { before = c .before; if2 = c .if2 }; highest-arg = record { given = g } }, λ g'. lay9 record { before = record { before = record
+            { before = c .before; if2 = c .if2 }; highest-arg = record { given = g } }; highest = Called.called ps·4 r·4 (claims· .9) (cx t30 t35) (record {
+            pos = 17; ty = y6; ref = λ x. x }, (Num.vAt 19 λ x. x, (Num.vAt 5 λ x. x, tt))) (m35 record { before = c .before; if2 = c .if2 } g) g' }))))
         lay7 : (c : Else2) → at22 (c .before .before .before .before .before .before .blocks) (W2 (c .before .before) (After-row-count·gave (c .before))) (m19
             (c .before .before) (After-row-count·gave (c .before)))
         lay7 = λ c. lay8 record { before = c .before; if2 = c .if2 }
@@ -1855,13 +1926,13 @@ module _ (claims· : Claims) where
             (c .before .before) (After-row-count·gave (c .before)))
         lay5 = λ c. (last-number-requires record { before = c .before; if2 = c .if2 }, λ g. lay6 record { before = record { before = c .before; if2 = c .if2
             }; last-number = Called.called ps·3 r·3 (claims· .7) (cx t22 t1) (record { pos = 4; st = []; d = 0; at = λ x. x }, tt) (m21 (c .before)) g })
-        lay4 : (c : After-row-count) → at73 (c .before .before .before .before .before .blocks) (W0 (c .before .before .before .before .before .κs) (c .before
+        lay4 : (c : After-row-count) → at77 (c .before .before .before .before .before .blocks) (W0 (c .before .before .before .before .before .κs) (c .before
             .before .before .before .before .args) (c .before .before .before .before .before .blocks)) (m17 (c .before) (After-row-count·gave c))
         lay4 = λ c. (tt, (λ taken. lay5 record { before = record { before = c .before; row-count = c .row-count }; if2 = record { taken = Tests.eqb-true
             (Row.get 7 ((cx t18 t1) .locals) (m18 (c .before) (After-row-count·gave c))) 0 taken } }, λ left. lay7 record { before = record { before = c
             .before; row-count = c .row-count }; if2 = record { left = Tests.eqb-false (Row.get 7 ((cx t18 t1) .locals) (m18 (c .before) (After-row-count·gave
             c))) 0 left } }))
-        lay3 : (c : Else1) → at75 (c .before .before .before .before .blocks) (W0 (c .before .before .before .before .κs) (c .before .before .before .before
+        lay3 : (c : Else1) → at79 (c .before .before .before .before .blocks) (W0 (c .before .before .before .before .κs) (c .before .before .before .before
             .args) (c .before .before .before .before .blocks)) (m15 (c .before))
         lay3 = λ c. (row-count-requires record { before = c .before; if1 = c .if1 }, λ g. lay4 record { before = record { before = c .before; if1 = c .if1 };
             row-count = Called.called ps·2 r·2 (claims· .5) (cx t16 t1) (Num.vFld 3 ((Syntax.field 1) ∷ []) 56 λ x. Reached.struct .as-values x .1 .0, (record
@@ -1872,13 +1943,13 @@ module _ (claims· : Claims) where
             (c .before) (After-not-rooted·gave c)) .name) (Row.get 1 ((cx t2 t1) .locals) (m14 (c .before) (After-not-rooted·gave c)) .now) (dens (c .before
             .before .before .before .before .κs) (c .before .before .before .before .before .args) .0 .now) (same-length record { before = c .before;
             not-rooted = c .not-rooted }), (Path'.refl, (tt, tt))), returns record { before = c .before; not-rooted = c .not-rooted })
-        lay1 : (c : After-can-root) → at81 (c .before .before .before .blocks) (W0 (c .before .before .before .κs) (c .before .before .before .args) (c
+        lay1 : (c : After-can-root) → at85 (c .before .before .before .blocks) (W0 (c .before .before .before .κs) (c .before .before .before .args) (c
             .before .before .before .blocks)) (m5 (c .before) (After-can-root·gave c))
         lay1 = λ c. (tt, (λ taken. (not-rooted-requires record { before = record { before = c .before; can-root = c .can-root }; if1 = record { taken = taken
             } }, λ g. lay2 record { before = record { before = record { before = c .before; can-root = c .can-root }; if1 = record { taken = taken } };
             not-rooted = Called.called ps·1 r·1 (claims· .3) (cx t14 t1) (Num.vAt 5 λ x. x, tt) (m12 record { before = c .before; can-root = c .can-root }) g
             }), λ left. lay3 record { before = record { before = c .before; can-root = c .can-root }; if1 = record { left = left } }))
-        pub laid : (c : Start) → at87 (c .blocks) (W0 (c .κs) (c .args) (c .blocks)) (m0 (c .κs) (c .args) (c .blocks))
+        pub laid : (c : Start) → at91 (c .blocks) (W0 (c .κs) (c .args) (c .blocks)) (m0 (c .κs) (c .args) (c .blocks))
         laid = λ c. (tt, λ g. λ g'. (Path'.refl, (can-root-requires record { before = record { before = c; q = record { given = g } }; can-root-arg = record {
             given = g' } }, λ g''. lay1 record { before = record { before = record { before = c; q = record { given = g } }; can-root-arg = record { given =
             g' } }; can-root = Called.called ps·0 r·0 (claims· .1) (cx t6 t1) (record { pos = 13; ty = y6; ref = λ x. x }, (record { pos = 2; ty = y14; ref =

@@ -1,5 +1,5 @@
 -- Generated: the needs of root at its contract, and how its theorem closes.
--- From 8029e4bfdc088cdd, as 82048d81ddf0ea72.
+-- From 4631d260fcc5882c, as 803aa572b0317268.
 use borrow.Fn.Run
 use borrow.Fn.Written
 use contract.Running.{givenOf, tablesOf}
@@ -57,6 +57,12 @@ Need-same-length-2 = lts.Need-same-length-2 callees self.Pre self.Post
 abbrev pub Need-returns-2 : Type 0
 Need-returns-2 = lts.Need-returns-2 callees self.Pre self.Post
 
+abbrev pub Need-sub-highest : Type 0
+Need-sub-highest = lts.Need-sub-highest callees self.Pre self.Post
+
+abbrev pub Need-cast-highest : Type 0
+Need-cast-highest = lts.Need-cast-highest callees self.Pre self.Post
+
 abbrev pub Need-highest-requires : Type 0
 Need-highest-requires = lts.Need-highest-requires callees self.Pre self.Post
 
@@ -97,8 +103,8 @@ abbrev pub Need-returns-4 : Type 0
 Need-returns-4 = lts.Need-returns-4 callees self.Pre self.Post
 
 module _ {M : Type 1} where
-  pub spec : Need-can-root-requires → Need-not-rooted-requires → Need-same-length → Need-returns → Need-row-count-requires → Need-last-number-requires → Need-same-length-2 → Need-returns-2 → Need-highest-requires → Need-cast-if3 → Need-add-if3 → Need-not-rooted-requires-2 → Need-same-length-3 → Need-returns-3 → Need-cast-larger → Need-add-larger → Need-larger-requires → Need-add-put-rows → Need-put-rows-requires → Need-same-length-4 → Need-returns-4 → lts.Closed callees self.Pre self.Post M
-  spec n0 n1 n2 n3 n4 n5 n6 n7 n8 n9 n10 n11 n12 n13 n14 n15 n16 n17 n18 n19 n20 = lts.spec callees self.Pre self.Post n0 n1 n2 n3 n4 n5 n6 n7 n8 n9 n10 n11 n12 n13 n14 n15 n16 n17 n18 n19 n20
+  pub spec : Need-can-root-requires → Need-not-rooted-requires → Need-same-length → Need-returns → Need-row-count-requires → Need-last-number-requires → Need-same-length-2 → Need-returns-2 → Need-sub-highest → Need-cast-highest → Need-highest-requires → Need-cast-if3 → Need-add-if3 → Need-not-rooted-requires-2 → Need-same-length-3 → Need-returns-3 → Need-cast-larger → Need-add-larger → Need-larger-requires → Need-add-put-rows → Need-put-rows-requires → Need-same-length-4 → Need-returns-4 → lts.Closed callees self.Pre self.Post M
+  spec n0 n1 n2 n3 n4 n5 n6 n7 n8 n9 n10 n11 n12 n13 n14 n15 n16 n17 n18 n19 n20 n21 n22 = lts.spec callees self.Pre self.Post n0 n1 n2 n3 n4 n5 n6 n7 n8 n9 n10 n11 n12 n13 n14 n15 n16 n17 n18 n19 n20 n21 n22
 
   pub close : lts.Closed callees self.Pre self.Post M → statement M
   unfolding code.routine tablesOf
