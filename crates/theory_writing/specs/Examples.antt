@@ -1,5 +1,5 @@
 -- Written streams computed, beside those of `PaperCases`: document 01's example of a program, and rows that tell the definitions from near misses of
--- them (the edits in must-fail/ each break one).
+-- them (the edits in must-fail/ and edits/ each break one).
 use mathlib.Core.Path.{_≡_, refl}
 use mathlib.Core.Bool.{Bool, true, false, cond, _&&_}
 use mathlib.Core.List.{[], _∷_}
