@@ -8,7 +8,7 @@ use native.Mathlib.Nat.{pow-suc}
 use native.Mathlib.Omega.{arith}
 use lib.ListN.{length, set, replicate, length-set, length-replicate}
 use lib.Seq.{getD-set-same, getD-set-other}
-use Rattle.theory_lists.specs.Lists.{differ, decide-eq, decide-le}
+use Rattle.theory_lists.specs.Lists.{differ, differ-comm, decide-eq, decide-le}
 use Rattle.theory_lists.specs.Maps.{getD-replicate-same}
 use Rattle.theory_reading.specs.Nodes.{Node, noNode, node, isChild, hasParent}
 use Rattle.theory_reading.specs.Deciding.{Decision, decided, complemented, Diagram, leaf, branch, walk, options}
@@ -58,12 +58,6 @@ Decides d f m t at = (w : ℕ) → w < 2 ^ m → complemented t (walk d (options
 complemented-no : (t : Bool) → complemented t (decided false) ≡ decided t
 complemented-no true = refl
 complemented-no false = refl
-
-differ-comm : (t u : Bool) → differ u t ≡ differ t u
-differ-comm true true = refl
-differ-comm true false = refl
-differ-comm false true = refl
-differ-comm false false = refl
 
 twice : (t u : Bool) (x : Decision) → complemented t (complemented u x) ≡ complemented (differ t u) x
 twice t u x = complemented-twice t u x ∙ ap (λ (v : Bool). complemented v x) (differ-comm t u)

@@ -92,7 +92,7 @@ fn is_settled(op: u32, a: bool, y: TableEdge) -> bool
     if y.number == 0 {
         return true;
     }
-    !differs(operate(op, a, y.complement), operate(op, a, !y.complement))
+    !differs(operate(op, a, false), operate(op, a, true))
 }
 
 // The terminals among x and y fix what the operator gives.
@@ -109,7 +109,7 @@ pub fn is_fixed(op: u32, x: TableEdge, y: TableEdge) -> bool
         return false;
     }
     !differs(
-        operate(op, x.complement, y.complement),
-        operate(op, !x.complement, y.complement),
+        operate(op, false, y.complement),
+        operate(op, true, y.complement),
     )
 }

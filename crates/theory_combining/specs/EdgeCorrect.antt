@@ -6,7 +6,7 @@ use mathlib.Core.List.{List, [], _∷_}
 use Prim.Native.Nat.{ℕ, _+_, _≤_}
 use native.Mathlib.Omega.{arith}
 use lib.Dec.{eqb, ltb}
-use Rattle.theory_lists.specs.Lists.{differ}
+use Rattle.theory_lists.specs.Lists.{differ, differ-comm}
 use Rattle.theory_reading.specs.Nodes.{Node, node}
 use Rattle.theory_writing.specs.Run.{digitAt}
 use Rattle.theory_applying.specs.Applying.{Source, firstSource, secondSource, fixed}
@@ -33,17 +33,24 @@ digit-most true false = omega arith
 digit-most false true = omega arith
 digit-most false false = omega arith
 
+-- whether the decision of an input counts, asked at no and yes
+either-way : (f : Bool → Bool) (c : Bool) → differ (f false) (f true) ≡ differ (f c) (f (not c))
+either-way f true = differ-comm (f true) (f false)
+either-way f false = refl
+
 -- what is fixed with one input, and with two
 pub fixed-one : (op : List Bool → Bool) (x : Source)
-    → (eqb (x .number) 0 || not (differ (op (x .complement ∷ [])) (op (not (x .complement) ∷ [])))) ≡ fixed op (x ∷ [])
+    → (eqb (x .number) 0 || not (differ (op (false ∷ [])) (op (true ∷ [])))) ≡ fixed op (x ∷ [])
 unfolding fixed
-fixed-one op x = refl
+fixed-one op x = ap (λ (d : Bool). eqb (x .number) 0 || not d) (either-way (λ a. op (a ∷ [])) (x .complement))
 
 pub fixed-two : (op : List Bool → Bool) (x y : Source)
     → (fixed (λ ds. op (x .complement ∷ ds)) (y ∷ []) && (eqb (x .number) 0 || (fixed (λ ds. op (not (x .complement) ∷ ds)) (y ∷ [])
-    && not (differ (op (x .complement ∷ y .complement ∷ [])) (op (not (x .complement) ∷ y .complement ∷ [])))))) ≡ fixed op (x ∷ y ∷ [])
+    && not (differ (op (false ∷ y .complement ∷ [])) (op (true ∷ y .complement ∷ [])))))) ≡ fixed op (x ∷ y ∷ [])
 unfolding fixed
-fixed-two op x y = refl
+fixed-two op x y =
+    ap (λ (d : Bool). fixed (λ ds. op (x .complement ∷ ds)) (y ∷ []) && (eqb (x .number) 0 || (fixed (λ ds. op (not (x .complement) ∷ ds)) (y ∷ []) && not d)))
+    (either-way (λ a. op (a ∷ y .complement ∷ [])) (x .complement))
 
 -- ---- An edge at the halves of a part ---------------------------------------------------------
 

@@ -62,6 +62,12 @@ pub is-false : (a : Bool) → (a ≡ true → ⊥) → a ≡ false
 is-false true h = absurd (h refl)
 is-false false h = refl
 
+pub differ-comm : (t u : Bool) → differ u t ≡ differ t u
+differ-comm true true = refl
+differ-comm true false = refl
+differ-comm false true = refl
+differ-comm false false = refl
+
 pub differ-false : (a b : Bool) → differ a b ≡ false → a ≡ b
 differ-false true true e = refl
 differ-false true false e = absurd (true≢false e)

@@ -1,2 +1,2 @@
 # crates/edges/src/lib.rt
-/^pub fn is_fixed/,/^}/s/^        operate(op, !x\.complement, y\.complement),/        operate(op, x.complement, y.complement),/
+/^pub fn is_fixed/,/^}/s/^        operate(op, true, y\.complement),/        operate(op, false, y.complement),/

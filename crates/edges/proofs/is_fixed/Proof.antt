@@ -55,23 +55,22 @@ differs-requires c κs = search needs
 
 returns-4 : tie.Need-returns-4
 returns-4 c = λ t u. (rw (
-  sym (c .before .before .before .before .before .before .before .before .before .before .is-settled .ensures u),
+  sym (c .before .before .before .before .before .before .before .before .before .is-settled .ensures u),
   not-false
-      (c .before .before .before .before .before .before .before .before .before .before .is-settled .result)
-      (c .before .before .before .before .before .before .before .before .before .if1 .left),
+      (c .before .before .before .before .before .before .before .before .before .is-settled .result)
+      (c .before .before .before .before .before .before .before .before .if1 .left),
   ne-eqb
-      (c .before .before .before .before .before .before .before .before .before .before .before .args .x .number) 0
-      (c .before .before .before .before .before .before .before .if2 .left),
-  sym (c .before .before .before .before .before .is-settled2 .ensures u),
-  not-false (c .before .before .before .before .before .is-settled2 .result) (c .before .before .before .before .if3 .left),
+      (c .before .before .before .before .before .before .before .before .before .before .args .x .number) 0
+      (c .before .before .before .before .before .before .if2 .left),
+  sym (c .before .before .before .before .is-settled2 .ensures u),
+  not-false (c .before .before .before .before .is-settled2 .result) (c .before .before .before .if3 .left),
   c .differs .ensures,
-  c
-      .before .before .before .operate .ensures,
+  c .before .before .operate .ensures,
   c .before .operate2 .ensures,
 ) refl)
-    ∙ fixed-two (operate (c .before .before .before .before .before .before .before .before .before .before .before .args .op))
-    (edgeIn (c .before .before .before .before .before .before .before .before .before .before .before .args .x) t)
-    (edgeIn (c .before .before .before .before .before .before .before .before .before .before .before .args .y) u)
+    ∙ fixed-two (operate (c .before .before .before .before .before .before .before .before .before .before .args .op))
+    (edgeIn (c .before .before .before .before .before .before .before .before .before .before .args .x) t)
+    (edgeIn (c .before .before .before .before .before .before .before .before .before .before .args .y) u)
 
 pub is-fixed-spec : {M : Type 1} → statement M
 is-fixed-spec =

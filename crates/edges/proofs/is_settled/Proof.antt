@@ -25,13 +25,13 @@ differs-requires c κs = search needs
 
 returns-2 : tie.Need-returns-2
 returns-2 c = λ t. (rw (
-  ne-eqb (c .before .before .before .before .before .before .args .y .number) 0 (c .before .before .before .before .if1 .left),
+  ne-eqb (c .before .before .before .before .before .args .y .number) 0 (c .before .before .before .if1 .left),
   c .differs .ensures,
-  c .before .before .before .operate .ensures,
+  c .before .before .operate .ensures,
   c .before .operate2 .ensures,
 ) refl)
-    ∙ fixed-one (λ ds. operate (c .before .before .before .before .before .before .args .op)
-    (c .before .before .before .before .before .before .args .a ∷ ds)) (edgeIn (c .before .before .before .before .before .before .args .y) t)
+    ∙ fixed-one (λ ds. operate (c .before .before .before .before .before .args .op)
+    (c .before .before .before .before .before .args .a ∷ ds)) (edgeIn (c .before .before .before .before .before .args .y) t)
 
 pub is-settled-spec : {M : Type 1} → statement M
 is-settled-spec =
