@@ -21,7 +21,8 @@ use Rattle.blocks.specs.Load.{LoadTo, load}
 use Rattle.blocks.specs.LoadLaws.{load-length}
 use Rattle.finder.specs.LeastDecided.{isValue, leastDecided, least-below, least-hits}
 use Rattle.finder.specs.TextSearch.{SearchTo, searchText, text-within, nodes-least}
-use Rattle.covering.specs.Covering.{opensFirst, opensSecond, noneSought, goesLater, coveredOf, foundBeside, BothTo, loadBoth}
+use Rattle.operators.specs.Operators.{opensFirst, opensSecond}
+use Rattle.covering.specs.Covering.{noneSought, goesLater, coveredOf, foundBeside, BothTo, loadBoth}
 use Rattle.covering.specs.Covering.{searchBy, searchIn, reachBy, reachIn, CoveredTo, coveredBy, coveredIn}
 use Rattle.covering.specs.declared.Found.{Found}
 use Rattle.node_records.specs.Records.{noRecord}

@@ -11,8 +11,8 @@ use Rattle.theory_reading.specs.Limits.{optionLimit}
 use Rattle.theory_reading.specs.Bytes.{dot}
 use Rattle.theory_reading.specs.Causes.{Result, refused, done}
 use Rattle.theory_reading.specs.Calls.{Checked}
-use Rattle.theory_writing.specs.Run.{operate}
 use Rattle.theory_combining.specs.Entering.{ignoresFirst, ignoresSecond}
+use Rattle.operators.specs.Operators.{opensFirst, opensSecond}
 use Rattle.blocks.specs.Load.{LoadTo, loadIn, load}
 use Rattle.finder.specs.TextSearch.{SearchTo, searched, searchText, searchNodes, outerEdge}
 use Rattle.finder.specs.LoadFrom.{LoadFromTo, loadFrom}
@@ -22,13 +22,6 @@ use Rattle.covering.specs.declared.LoadedBoth.{LoadedBoth}
 use Rattle.node_records.specs.declared.NodeRecord.{NodeRecord}
 
 -- ---- Definitions -----------------------------------------------------------------------------
-
--- the results differ for the two values of the first input, beside the decision d of the second; likewise of the second
-abbrev pub opensFirst : ℕ → Bool → Bool
-opensFirst op d = differ (operate op (false ∷ d ∷ [])) (operate op (true ∷ d ∷ []))
-
-abbrev pub opensSecond : ℕ → Bool → Bool
-opensSecond op d = differ (operate op (d ∷ false ∷ [])) (operate op (d ∷ true ∷ []))
 
 -- ---- Loading both streams --------------------------------------------------------------------
 

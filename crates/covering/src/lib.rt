@@ -6,12 +6,11 @@ ghost use Rattle.theory_combining.specs.Entering.{ignoresFirst, ignoresSecond};
 ghost use Rattle.answers.specs.Answers.{checkingOf};
 ghost use Rattle.blocks.specs.Load.{loadIn};
 ghost use Rattle.finder.specs.TextSearch.{searched};
-ghost use Rattle.covering.specs.Covering.{opensFirst, opensSecond, noneSought, hasPoint, goesLater, coveredOf, besideOf, loadBeside};
+ghost use Rattle.covering.specs.Covering.{noneSought, hasPoint, goesLater, coveredOf, besideOf, loadBeside};
 ghost use Rattle.covering.specs.Covering.{bothOf, loadBoth, searchIn, reachIn, coveredIn};
 use answers::Checking;
 use blocks::Loaded;
 use blocks::load;
-use edges::operate;
 use finder::load_from;
 use finder::search_nodes;
 use finder::search_text;
@@ -19,22 +18,10 @@ use node_records::Edge;
 use node_records::NodeRecord;
 use node_records::OPTION_LIMIT;
 use node_records::differs;
+use operators::opens_first;
+use operators::opens_second;
 
 // ---- What the operator asks
-
-// The results differ for the two values of the first input, beside the decision d of the second.
-fn opens_first(op: u32, d: bool) -> bool
-    ensures { λ r. ⌜ r ≡ opensFirst op d ⌝ }
-{
-    differs(operate(op, false, d), operate(op, true, d))
-}
-
-// Likewise of the second, beside the decision d of the first.
-fn opens_second(op: u32, d: bool) -> bool
-    ensures { λ r. ⌜ r ≡ opensSecond op d ⌝ }
-{
-    differs(operate(op, d, false), operate(op, d, true))
-}
 
 // The operator gives the same for both decisions of the first input, or of the second.
 pub fn ignores_first(op: u32) -> bool

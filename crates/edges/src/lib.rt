@@ -1,35 +1,19 @@
-// The operator, and inputs at edges of their own tables: at the two halves of a part, and where terminals fix what the operator gives.
+// Inputs at edges of their own tables: at the two halves of a part, and where terminals fix what the operator gives.
 ghost use mathlib.Core.Path.{_≡_};
 ghost use mathlib.Core.Bool.{true, _&&_, _||_};
 ghost use mathlib.Core.List.{List, [], _∷_};
 ghost use lib.Dec.{eqb, ltb};
-ghost use Rattle.theory_writing.specs.Run.{digitAt, operate};
+ghost use Rattle.theory_writing.specs.Run.{operate};
 ghost use Rattle.work_table.specs.Table.{getIn};
 ghost use Rattle.theory_applying.specs.Applying.{firstSource, secondSource, fixed};
 ghost use Rattle.edges.specs.Abstraction.{edgeIn};
 use node_records::Edge;
 use node_records::NodeRecord;
-use node_records::differs;
 use node_records::first_edge as first_child;
 use node_records::second_edge as second_child;
 use node_records::skips;
-use writer_numbers::either;
-
-// ---- The operator
-
-// The digit that two decisions give
-fn digit(a: bool, b: bool) -> u32
-    ensures { λ r. ⌜ r ≡ digitAt (a ∷ b ∷ []) ⌝ }
-{
-    either(a, either(b, 3, 2), either(b, 1, 0))
-}
-
-// What the operator gives for two decisions
-pub fn operate(op: u32, a: bool, b: bool) -> bool
-    ensures { λ r. ⌜ r ≡ operate op (a ∷ b ∷ []) ⌝ }
-{
-    (op >> digit(a, b)) % 2 == 1
-}
+use operators::opens_first;
+use operators::opens_second;
 
 // ---- Edges
 
@@ -92,7 +76,7 @@ fn is_settled(op: u32, a: bool, y: TableEdge) -> bool
     if y.number == 0 {
         return true;
     }
-    !differs(operate(op, a, false), operate(op, a, true))
+    !opens_second(op, a)
 }
 
 // The terminals among x and y fix what the operator gives.
@@ -108,8 +92,5 @@ pub fn is_fixed(op: u32, x: TableEdge, y: TableEdge) -> bool
     if !is_settled(op, !x.complement, y) {
         return false;
     }
-    !differs(
-        operate(op, false, y.complement),
-        operate(op, true, y.complement),
-    )
+    !opens_first(op, y.complement)
 }

@@ -8,7 +8,6 @@ use native.Mathlib.Omega.{arith}
 use lib.Dec.{eqb, ltb}
 use Rattle.theory_lists.specs.Lists.{differ, differ-comm}
 use Rattle.theory_reading.specs.Nodes.{Node, node}
-use Rattle.theory_writing.specs.Run.{digitAt}
 use Rattle.theory_applying.specs.Applying.{Source, firstSource, secondSource, fixed}
 use Rattle.theory_applying.specs.Operands.{Operand, atEdge, atTerminal, edgeOf, settle, firstOperand}
 use Rattle.work_table.specs.Table.{getIn}
@@ -18,20 +17,6 @@ use Rattle.node_records.specs.declared.Edge.{Edge}
 use Rattle.node_records.specs.declared.NodeRecord.{NodeRecord}
 
 -- ---- The operator ----------------------------------------------------------------------------
-
-pub digit-two : (a b : Bool) → cond a (cond b 3 2) (cond b 1 0) ≡ digitAt (a ∷ b ∷ [])
-unfolding digitAt
-digit-two true true = refl
-digit-two true false = refl
-digit-two false true = refl
-digit-two false false = refl
-
-pub digit-most : (a b : Bool) → digitAt (a ∷ b ∷ []) ≤ 3
-unfolding digitAt
-digit-most true true = omega arith
-digit-most true false = omega arith
-digit-most false true = omega arith
-digit-most false false = omega arith
 
 -- whether the decision of an input counts, asked at no and yes
 either-way : (f : Bool → Bool) (c : Bool) → differ (f false) (f true) ≡ differ (f c) (f (not c))

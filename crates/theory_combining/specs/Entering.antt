@@ -7,7 +7,7 @@ use mathlib.Core.Option.{none}
 use Prim.Native.Nat.{ℕ, _<_, _≤_, _^_}
 use native.Mathlib.Omega.{arith}
 use lib.ListN.{length, replicate, length-replicate}
-use Rattle.theory_lists.specs.Lists.{differ, and-l, and-r}
+use Rattle.theory_lists.specs.Lists.{not-differ-true, and-l, and-r}
 use Rattle.theory_reading.specs.Limits.{optionLimit, tableLimit}
 use Rattle.theory_reading.specs.Reading.{reading}
 use Rattle.theory_reading.specs.Deciding.{complemented, options, decision}
@@ -29,6 +29,7 @@ use Rattle.theory_applying.specs.MergeLaws.{merge-wrote}
 use Rattle.work_table.specs.TableLaws.{tableOf}
 use Rattle.blocks.specs.Blocks.{ReadBlock}
 use Rattle.blocks.specs.Load.{LoadTo, load}
+use Rattle.operators.specs.Operators.{opensFirst, opensSecond}
 use Rattle.theory_combining.specs.BlockReaders.{BlockReader, deepOf, sourceOf, endedOf, nextReader, begunOperand}
 use Rattle.theory_combining.specs.BlockReaderLaws.{heldOf, held-may, Reads, Ends, stream-laws}
 use Rattle.theory_combining.specs.RootOperand.{rootOperand, shownBy, root-may, root-fed, root-seated}
@@ -41,30 +42,20 @@ use Rattle.node_records.specs.Records.{noWriterRecord}
 
 -- it gives the same for both decisions of the first, or of the second
 abbrev pub ignoresFirst : ℕ → Bool
-ignoresFirst op =
-    not (differ (operate op (false ∷ false ∷ [])) (operate op (true ∷ false ∷ [])))
-    && not (differ (operate op (false ∷ true ∷ [])) (operate op (true ∷ true ∷ [])))
+ignoresFirst op = not (opensFirst op false) && not (opensFirst op true)
 
 abbrev pub ignoresSecond : ℕ → Bool
-ignoresSecond op =
-    not (differ (operate op (false ∷ false ∷ [])) (operate op (false ∷ true ∷ [])))
-    && not (differ (operate op (true ∷ false ∷ [])) (operate op (true ∷ true ∷ [])))
-
-alike : (a b : Bool) → not (differ a b) ≡ true → a ≡ b
-alike true true e = refl
-alike true false e = sym e
-alike false true e = e
-alike false false e = refl
+ignoresSecond op = not (opensSecond op false) && not (opensSecond op true)
 
 pub first-alike : (op : ℕ) → ignoresFirst op ≡ true → (a b : Bool) → operate op (false ∷ b ∷ []) ≡ operate op (a ∷ b ∷ [])
 first-alike op e false b = refl
-first-alike op e true false = alike _ _ (and-l (not (differ (operate op (false ∷ false ∷ [])) (operate op (true ∷ false ∷ [])))) _ e)
-first-alike op e true true = alike _ _ (and-r (not (differ (operate op (false ∷ false ∷ [])) (operate op (true ∷ false ∷ [])))) _ e)
+first-alike op e true false = not-differ-true _ _ (and-l (not (opensFirst op false)) _ e)
+first-alike op e true true = not-differ-true _ _ (and-r (not (opensFirst op false)) _ e)
 
 pub second-alike : (op : ℕ) → ignoresSecond op ≡ true → (a b : Bool) → operate op (a ∷ false ∷ []) ≡ operate op (a ∷ b ∷ [])
 second-alike op e a false = refl
-second-alike op e false true = alike _ _ (and-l (not (differ (operate op (false ∷ false ∷ [])) (operate op (false ∷ true ∷ [])))) _ e)
-second-alike op e true true = alike _ _ (and-r (not (differ (operate op (false ∷ false ∷ [])) (operate op (false ∷ true ∷ [])))) _ e)
+second-alike op e false true = not-differ-true _ _ (and-l (not (opensSecond op false)) _ e)
+second-alike op e true true = not-differ-true _ _ (and-r (not (opensSecond op false)) _ e)
 
 -- ---- An input --------------------------------------------------------------------------------
 

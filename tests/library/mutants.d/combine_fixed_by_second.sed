@@ -1,2 +1,2 @@
 # crates/edges/src/lib.rt
-/^pub fn is_fixed/,/^}/s/^        operate(op, true, y\.complement),/        operate(op, false, y.complement),/
+/^pub fn is_fixed/,/^}/s/^    !opens_first(op, y\.complement)/    true/

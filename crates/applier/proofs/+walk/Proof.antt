@@ -14,7 +14,7 @@ use Rattle.applier.proofs.is_alike.Reads as is-alike
 use Rattle.edges.proofs.is_fixed.Reads as is-fixed
 use Rattle.operation_cache.proofs.key_of.Reads as key-of
 use Rattle.operation_cache.proofs.note.Reads as note
-use Rattle.edges.proofs.operate.Reads as operates
+use Rattle.operators.proofs.operate.Reads as operates
 use Rattle.operation_cache.proofs.Lifted.recall as recall
 use Rattle.work_table.proofs.Lifted.get as get
 use Rattle.edges.proofs.second_edge.Reads as second-edge

@@ -1,5 +1,5 @@
 -- Generated: what callers cite of apply.
--- From 088687791c244a8b, as e7dbfbc1f9553c25.
+-- From 0a690c7b9d146405, as e7dbfbc1f9553c25.
 use Rattle.edges.proofs.TableEdge
 use Rattle.edges.proofs.TableEdge.Laws
 use Rattle.meeting.proofs.Progress

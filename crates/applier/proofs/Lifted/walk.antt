@@ -1,5 +1,5 @@
 -- Generated: what callers cite of walk.
--- From 088687791c244a8b, as 5cb55521d7734125.
+-- From 0a690c7b9d146405, as 5cb55521d7734125.
 use Rattle.edges.proofs.TableEdge
 use Rattle.edges.proofs.TableEdge.Laws
 use Rattle.meeting.proofs.Progress

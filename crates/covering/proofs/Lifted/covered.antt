@@ -1,5 +1,5 @@
 -- Generated: what callers cite of covered.
--- From 2d40ec7ffb554c72, as 97d306d09a1981fd.
+-- From c5a1cd68668b819d, as 97d306d09a1981fd.
 use Rattle.covering.proofs.LoadedBoth
 use Rattle.covering.proofs.LoadedBoth.Laws
 use Rattle.node_records.proofs.Tables.NodeRecord as NodeRecordT

@@ -1,5 +1,5 @@
 -- Generated: what callers cite of load_both.
--- From 2d40ec7ffb554c72, as 616e51d2182139f1.
+-- From c5a1cd68668b819d, as 616e51d2182139f1.
 use Rattle.covering.proofs.LoadedBoth
 use Rattle.covering.proofs.LoadedBoth.Laws
 use Rattle.node_records.proofs.Tables.NodeRecord as NodeRecordT

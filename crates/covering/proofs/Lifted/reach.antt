@@ -1,5 +1,5 @@
 -- Generated: what callers cite of reach.
--- From 2d40ec7ffb554c72, as 4a1e50e7956e78a7.
+-- From c5a1cd68668b819d, as 4a1e50e7956e78a7.
 use Rattle.blocks.proofs.Loaded
 use Rattle.blocks.proofs.Loaded.Laws
 use Rattle.covering.proofs.Found

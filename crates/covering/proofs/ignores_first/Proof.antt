@@ -1,6 +1,7 @@
 -- The operator beside each decision of the other. Assumes nothing.
 use mathlib.Core.Bool.{true, false}
-use Rattle.covering.specs.Covering.{opensFirst, asked, unasked}
+use Rattle.operators.specs.Operators.{opensFirst}
+use Rattle.covering.specs.Covering.{asked, unasked}
 use Rattle.covering.proofs.ignores_first.Statement.{statement}
 use Rattle.covering.proofs.ignores_first.Tie as tie
 

@@ -44,33 +44,21 @@ returns-3 c = λ t u. (rw (
     (edgeIn (c .before .before .before .before .before .before .before .args .x) t)
     (edgeIn (c .before .before .before .before .before .before .before .args .y) u)
 
-operate-requires : tie.Need-operate-requires
-operate-requires c κs = search needs
-
-operate-requires-2 : tie.Need-operate-requires-2
-operate-requires-2 c κs = search needs
-
-differs-requires : tie.Need-differs-requires
-differs-requires c κs = search needs
+opens-first-requires : tie.Need-opens-first-requires
+opens-first-requires c κs = search needs
 
 returns-4 : tie.Need-returns-4
-returns-4 c = λ t u. (rw (
-  sym (c .before .before .before .before .before .before .before .before .before .is-settled .ensures u),
-  not-false
-      (c .before .before .before .before .before .before .before .before .before .is-settled .result)
-      (c .before .before .before .before .before .before .before .before .if1 .left),
-  ne-eqb
-      (c .before .before .before .before .before .before .before .before .before .before .args .x .number) 0
-      (c .before .before .before .before .before .before .if2 .left),
-  sym (c .before .before .before .before .is-settled2 .ensures u),
-  not-false (c .before .before .before .before .is-settled2 .result) (c .before .before .before .if3 .left),
-  c .differs .ensures,
-  c .before .before .operate .ensures,
-  c .before .operate2 .ensures,
-) refl)
-    ∙ fixed-two (operate (c .before .before .before .before .before .before .before .before .before .before .args .op))
-    (edgeIn (c .before .before .before .before .before .before .before .before .before .before .args .x) t)
-    (edgeIn (c .before .before .before .before .before .before .before .before .before .before .args .y) u)
+returns-4 c = let a = c .before .before .before .before .before .before .before .before .args in
+    let first = c .before .before .before .before .before .before .before .is-settled in
+    let other = c .before .before .is-settled2 in
+    λ t u. (rw (
+      sym (first .ensures u),
+      not-false (first .result) (c .before .before .before .before .before .before .if1 .left),
+      ne-eqb (a .x .number) 0 (c .before .before .before .before .if2 .left),
+      sym (other .ensures u),
+      not-false (other .result) (c .before .if3 .left),
+      c .opens-first .ensures,
+    ) refl) ∙ fixed-two (operate (a .op)) (edgeIn (a .x) t) (edgeIn (a .y) u)
 
 pub is-fixed-spec : {M : Type 1} → statement M
 is-fixed-spec =
@@ -81,7 +69,5 @@ is-fixed-spec =
     returns-2
     is-settled-requires-2
     returns-3
-    operate-requires
-    operate-requires-2
-    differs-requires
+    opens-first-requires
     returns-4)

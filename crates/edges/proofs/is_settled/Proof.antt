@@ -14,25 +14,14 @@ returns : tie.Need-returns
 returns c = λ t. (rw (c .if1 .taken) refl) ∙ fixed-one (λ ds. operate (c .before .before .args .op) (c .before .before .args .a ∷ ds))
     (edgeIn (c .before .before .args .y) t)
 
-operate-requires : tie.Need-operate-requires
-operate-requires c κs = search needs
-
-operate-requires-2 : tie.Need-operate-requires-2
-operate-requires-2 c κs = search needs
-
-differs-requires : tie.Need-differs-requires
-differs-requires c κs = search needs
+opens-second-requires : tie.Need-opens-second-requires
+opens-second-requires c κs = search needs
 
 returns-2 : tie.Need-returns-2
-returns-2 c = λ t. (rw (
-  ne-eqb (c .before .before .before .before .before .args .y .number) 0 (c .before .before .before .if1 .left),
-  c .differs .ensures,
-  c .before .before .operate .ensures,
-  c .before .operate2 .ensures,
-) refl)
-    ∙ fixed-one (λ ds. operate (c .before .before .before .before .before .args .op)
-    (c .before .before .before .before .before .args .a ∷ ds)) (edgeIn (c .before .before .before .before .before .args .y) t)
+returns-2 c = let a = c .before .before .before .args in
+    λ t. (rw (ne-eqb (a .y .number) 0 (c .before .if1 .left), c .opens-second .ensures) refl)
+    ∙ fixed-one (λ ds. operate (a .op) (a .a ∷ ds)) (edgeIn (a .y) t)
 
 pub is-settled-spec : {M : Type 1} → statement M
 is-settled-spec =
-    tie.close (tie.spec returns operate-requires operate-requires-2 differs-requires returns-2)
+    tie.close (tie.spec returns opens-second-requires returns-2)

@@ -1,5 +1,5 @@
 -- Generated: the derivation of a body.
--- From 088687791c244a8b, as f7fb4756f14c08b4.
+-- From 0a690c7b9d146405, as 5242f3a6104802f8.
 use Prim.Native.Nat
 use Rattle.edges.proofs.TableEdge
 use Rattle.edges.proofs.TableEdge.Laws
@@ -767,8 +767,8 @@ hs = Syntax.valueLocal ∷ Syntax.valueLocal ∷ Syntax.valueLocal ∷ Syntax.va
 abbrev b0 : Syntax.Body
 b0 = Syntax.assign (Syntax.place 39 []) (Syntax.op2 Syntax.eq (Syntax.copy (Syntax.place 3 [])) (Syntax.int Syntax.w32 0))
 abbrev b1 : Syntax.Body
-b1 = Syntax.call "edges::operate" ((Syntax.copy (Syntax.place 1 [])) ∷ (Syntax.copy (Syntax.place 6 ((Syntax.field 1) ∷ []))) ∷ (Syntax.copy (Syntax.place 7
-    ((Syntax.field 1) ∷ []))) ∷ []) (Syntax.place 41 [])
+b1 = Syntax.call "operators::operate" ((Syntax.copy (Syntax.place 1 [])) ∷ (Syntax.copy (Syntax.place 6 ((Syntax.field 1) ∷ []))) ∷ (Syntax.copy (Syntax.place
+    7 ((Syntax.field 1) ∷ []))) ∷ []) (Syntax.place 41 [])
 abbrev b2 : Syntax.Body
 b2 = Syntax.call "meeting::constant" ((Syntax.copy (Syntax.place 41 [])) ∷ []) (Syntax.place 40 [])
 abbrev b3 : Syntax.Body
@@ -789,8 +789,8 @@ abbrev b10 : Syntax.Body
 b10 = Syntax.call "edges::is_fixed" ((Syntax.copy (Syntax.place 1 [])) ∷ (Syntax.copy (Syntax.place 6 [])) ∷ (Syntax.copy (Syntax.place 7 [])) ∷ [])
     (Syntax.place 42 [])
 abbrev b11 : Syntax.Body
-b11 = Syntax.call "edges::operate" ((Syntax.copy (Syntax.place 1 [])) ∷ (Syntax.copy (Syntax.place 6 ((Syntax.field 1) ∷ []))) ∷ (Syntax.copy (Syntax.place 7
-    ((Syntax.field 1) ∷ []))) ∷ []) (Syntax.place 44 [])
+b11 = Syntax.call "operators::operate" ((Syntax.copy (Syntax.place 1 [])) ∷ (Syntax.copy (Syntax.place 6 ((Syntax.field 1) ∷ []))) ∷ (Syntax.copy
+    (Syntax.place 7 ((Syntax.field 1) ∷ []))) ∷ []) (Syntax.place 44 [])
 abbrev b12 : Syntax.Body
 b12 = Syntax.call "meeting::constant" ((Syntax.copy (Syntax.place 44 [])) ∷ []) (Syntax.place 43 [])
 abbrev b13 : Syntax.Body
@@ -918,8 +918,8 @@ abbrev b64 : Syntax.Body
 b64 = Syntax.call "edges::second_edge" ((Syntax.copy (Syntax.place 4 [])) ∷ (Syntax.copy (Syntax.place 7 [])) ∷ (Syntax.copy (Syntax.place 16 [])) ∷ [])
     (Syntax.place 31 [])
 abbrev b65 : Syntax.Body
-b65 = Syntax.call "edges::operate" ((Syntax.copy (Syntax.place 1 [])) ∷ (Syntax.copy (Syntax.place 30 ((Syntax.field 1) ∷ []))) ∷ (Syntax.copy (Syntax.place
-    31 ((Syntax.field 1) ∷ []))) ∷ []) (Syntax.place 32 [])
+b65 = Syntax.call "operators::operate" ((Syntax.copy (Syntax.place 1 [])) ∷ (Syntax.copy (Syntax.place 30 ((Syntax.field 1) ∷ []))) ∷ (Syntax.copy
+    (Syntax.place 31 ((Syntax.field 1) ∷ []))) ∷ []) (Syntax.place 32 [])
 abbrev b66 : Syntax.Body
 b66 = Syntax.call "node_records::differs" ((Syntax.copy (Syntax.place 28 ((Syntax.field 4) ∷ []))) ∷ (Syntax.copy (Syntax.place 32 [])) ∷ []) (Syntax.place 33
     [])
@@ -2624,7 +2624,7 @@ module _ (claims· : Claims) where
     module _ (M : Type 1) where
       abbrev pub Closed : Type 2
       Closed = (𝓤 : URA.URA M) (H : Wp.Heap 𝓤) (A : Atoms.Atoms 𝓤) (W : Kit.Given 𝓤 H A) (𝓣 : Wp.Tables 𝓤 H) (known0 : Plain.Known 𝓤 H A W 𝓣 0 ps·0 r·0
-          (claims· .0) (claims· .1) "edges::operate") (known1 : Plain.Known 𝓤 H A W 𝓣 0 ps·1 r·1 (claims· .2) (claims· .3) "meeting::constant") (known2 :
+          (claims· .0) (claims· .1) "operators::operate") (known1 : Plain.Known 𝓤 H A W 𝓣 0 ps·1 r·1 (claims· .2) (claims· .3) "meeting::constant") (known2 :
           Plain.Known 𝓤 H A W 𝓣 0 ps·2 r·2 (claims· .4) (claims· .5) "meeting::kept") (known3 : Plain.Known 𝓤 H A W 𝓣 0 ps·3 r·3 (claims· .6) (claims· .7)
           "edges::is_fixed") (known4 : Plain.Known 𝓤 H A W 𝓣 1 ps·4 r·4 (claims· .8) (claims· .9) "work_table::get") (known5 : Plain.Known 𝓤 H A W 𝓣 0 ps·5
           r·5 (claims· .10) (claims· .11) "operation_cache::key_of") (known6 : Plain.Known 𝓤 H A W 𝓣 0 ps·6 r·6 (claims· .12) (claims· .13)
@@ -3273,7 +3273,7 @@ module _ (claims· : Claims) where
       Φ = at313
       module _ {M : Type 1} (𝓤 : URA.URA M) (H : Wp.Heap 𝓤) (A : Atoms.Atoms 𝓤) (W : Kit.Given 𝓤 H A) (𝓣 : Wp.Tables 𝓤 H) where
         abbrev Knowns : Type 1
-        Knowns = Plain.Known 𝓤 H A W 𝓣 0 ps·0 r·0 (claims· .0) (claims· .1) "edges::operate" × Plain.Known 𝓤 H A W 𝓣 0 ps·1 r·1 (claims· .2) (claims· .3)
+        Knowns = Plain.Known 𝓤 H A W 𝓣 0 ps·0 r·0 (claims· .0) (claims· .1) "operators::operate" × Plain.Known 𝓤 H A W 𝓣 0 ps·1 r·1 (claims· .2) (claims· .3)
             "meeting::constant" × Plain.Known 𝓤 H A W 𝓣 0 ps·2 r·2 (claims· .4) (claims· .5) "meeting::kept" × Plain.Known 𝓤 H A W 𝓣 0 ps·3 r·3 (claims· .6)
             (claims· .7) "edges::is_fixed" × Plain.Known 𝓤 H A W 𝓣 1 ps·4 r·4 (claims· .8) (claims· .9) "work_table::get" × Plain.Known 𝓤 H A W 𝓣 0 ps·5 r·5
             (claims· .10) (claims· .11) "operation_cache::key_of" × Plain.Known 𝓤 H A W 𝓣 0 ps·6 r·6 (claims· .12) (claims· .13) "operation_cache::slot" ×
@@ -4250,8 +4250,8 @@ module _ (claims· : Claims) where
               TableEdge.the-type) y6 Path'.refl)) d11
           d13 : Typed.Typed 𝓤 H A 𝓣 E G6 b7 Δ1 at13
           d13 = Typed.s-seq 𝓤 H A W 𝓣 E G6 G7 b1 b6 Δ1 (Typed.both s4) at12 (Plain.t-call-plain 𝓤 H A W 𝓣 0 ps·0 r·0 (claims· .0) (claims· .1)
-              "edges::operate" (known .0) E (λ pos β. β) G6 (Num.vAt 1 λ x. x, (Bool.bFld 6 ((Syntax.field 1) ∷ []) 4 λ x. TableEdge.struct .as-values x .1
-              .0, (Bool.bFld 7 ((Syntax.field 1) ∷ []) 4 λ x. TableEdge.struct .as-values x .1 .0, tt))) 41 [] (Call.sub-id 𝓤 H A W (G6 .slots))
+              "operators::operate" (known .0) E (λ pos β. β) G6 (Num.vAt 1 λ x. x, (Bool.bFld 6 ((Syntax.field 1) ∷ []) 4 λ x. TableEdge.struct .as-values x
+              .1 .0, (Bool.bFld 7 ((Syntax.field 1) ∷ []) 4 λ x. TableEdge.struct .as-values x .1 .0, tt))) 41 [] (Call.sub-id 𝓤 H A W (G6 .slots))
               ((Scalar.reads-sc 𝓤 H A W (Row.sInt Syntax.w32), Path'.refl), ((Reads.reads-field 𝓤 H A W TableEdge.the-type Laws.the-laws 1 Syntax.tyBool 4
               Path'.refl, Path'.refl), ((Reads.reads-field 𝓤 H A W TableEdge.the-type Laws.the-laws 1 Syntax.tyBool 4 Path'.refl, Path'.refl), tt)))
               (Reads'.room-gone 𝓤 H A Syntax.tyBool) tt Path'.refl) d12
@@ -4313,8 +4313,8 @@ module _ (claims· : Claims) where
               TableEdge.the-type) y6 Path'.refl)) d29
           d31 : Typed.Typed 𝓤 H A 𝓣 E G23 b17 Δ2 at31
           d31 = Typed.s-seq 𝓤 H A W 𝓣 E G23 G24 b11 b16 Δ2 (Typed.both s20) at30 (Plain.t-call-plain 𝓤 H A W 𝓣 0 ps·0 r·0 (claims· .0) (claims· .1)
-              "edges::operate" (known .0) E (λ pos β. β) G23 (Num.vAt 1 λ x. x, (Bool.bFld 6 ((Syntax.field 1) ∷ []) 4 λ x. TableEdge.struct .as-values x .1
-              .0, (Bool.bFld 7 ((Syntax.field 1) ∷ []) 4 λ x. TableEdge.struct .as-values x .1 .0, tt))) 44 [] (Call.sub-id 𝓤 H A W (G23 .slots))
+              "operators::operate" (known .0) E (λ pos β. β) G23 (Num.vAt 1 λ x. x, (Bool.bFld 6 ((Syntax.field 1) ∷ []) 4 λ x. TableEdge.struct .as-values x
+              .1 .0, (Bool.bFld 7 ((Syntax.field 1) ∷ []) 4 λ x. TableEdge.struct .as-values x .1 .0, tt))) 44 [] (Call.sub-id 𝓤 H A W (G23 .slots))
               ((Scalar.reads-sc 𝓤 H A W (Row.sInt Syntax.w32), Path'.refl), ((Reads.reads-field 𝓤 H A W TableEdge.the-type Laws.the-laws 1 Syntax.tyBool 4
               Path'.refl, Path'.refl), ((Reads.reads-field 𝓤 H A W TableEdge.the-type Laws.the-laws 1 Syntax.tyBool 4 Path'.refl, Path'.refl), tt)))
               (Reads'.room-gone 𝓤 H A Syntax.tyBool) tt Path'.refl) d30
@@ -5087,8 +5087,8 @@ module _ (claims· : Claims) where
               Path'.refl, Path'.refl), ((Scalar.reads-sc 𝓤 H A W Row.sBool, Path'.refl), tt)) (Reads'.room-gone 𝓤 H A Syntax.tyBool) tt Path'.refl) d229
           d231 : Typed.Typed 𝓤 H A 𝓣 E G153 b145 Δ0 at231
           d231 = Typed.s-seq 𝓤 H A W 𝓣 E G153 G154 b65 b144 Δ0 (Typed.both s148) at230 (Plain.t-call-plain 𝓤 H A W 𝓣 0 ps·0 r·0 (claims· .0) (claims· .1)
-              "edges::operate" (known .0) E (λ pos β. β) G153 (Num.vAt 1 λ x. x, (Bool.bFld 30 ((Syntax.field 1) ∷ []) 4 λ x. TableEdge.struct .as-values x .1
-              .0, (Bool.bFld 31 ((Syntax.field 1) ∷ []) 4 λ x. TableEdge.struct .as-values x .1 .0, tt))) 32 [] (Call.sub-id 𝓤 H A W (G153 .slots))
+              "operators::operate" (known .0) E (λ pos β. β) G153 (Num.vAt 1 λ x. x, (Bool.bFld 30 ((Syntax.field 1) ∷ []) 4 λ x. TableEdge.struct .as-values
+              x .1 .0, (Bool.bFld 31 ((Syntax.field 1) ∷ []) 4 λ x. TableEdge.struct .as-values x .1 .0, tt))) 32 [] (Call.sub-id 𝓤 H A W (G153 .slots))
               ((Scalar.reads-sc 𝓤 H A W (Row.sInt Syntax.w32), Path'.refl), ((Reads.reads-field 𝓤 H A W TableEdge.the-type Laws.the-laws 1 Syntax.tyBool 4
               Path'.refl, Path'.refl), ((Reads.reads-field 𝓤 H A W TableEdge.the-type Laws.the-laws 1 Syntax.tyBool 4 Path'.refl, Path'.refl), tt)))
               (Reads'.room-gone 𝓤 H A Syntax.tyBool) tt Path'.refl) d230
@@ -7590,7 +7590,7 @@ module _ (claims· : Claims) where
               good .1 .0 .1 }; d = record { fits = good .1 .1 .0 .1 }; i = record { fits = good .1 .1 .1 .0 .1 }; m = record { fits = good .1 .1 .1 .1 .0 .1 }
               }; pre = pre }
         module _ {M : Type 1} (𝓤 : URA.URA M) (H : Wp.Heap 𝓤) (A : Atoms.Atoms 𝓤) (W : Kit.Given 𝓤 H A) (𝓣 : Wp.Tables 𝓤 H) (known0 : Plain.Known 𝓤 H A W 𝓣 0
-            ps·0 r·0 (claims· .0) (claims· .1) "edges::operate") (known1 : Plain.Known 𝓤 H A W 𝓣 0 ps·1 r·1 (claims· .2) (claims· .3) "meeting::constant")
+            ps·0 r·0 (claims· .0) (claims· .1) "operators::operate") (known1 : Plain.Known 𝓤 H A W 𝓣 0 ps·1 r·1 (claims· .2) (claims· .3) "meeting::constant")
             (known2 : Plain.Known 𝓤 H A W 𝓣 0 ps·2 r·2 (claims· .4) (claims· .5) "meeting::kept") (known3 : Plain.Known 𝓤 H A W 𝓣 0 ps·3 r·3 (claims· .6)
             (claims· .7) "edges::is_fixed") (known4 : Plain.Known 𝓤 H A W 𝓣 1 ps·4 r·4 (claims· .8) (claims· .9) "work_table::get") (known5 : Plain.Known 𝓤 H
             A W 𝓣 0 ps·5 r·5 (claims· .10) (claims· .11) "operation_cache::key_of") (known6 : Plain.Known 𝓤 H A W 𝓣 0 ps·6 r·6 (claims· .12) (claims· .13)

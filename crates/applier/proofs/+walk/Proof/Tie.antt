@@ -1,5 +1,5 @@
 -- Generated: how the theorem of walk, which calls itself, closes.
--- From 088687791c244a8b, as 83fc54472aeef87e.
+-- From 0a690c7b9d146405, as f783200a4acefa42.
 use Prim.Native.Nat.{ℕ, _<_}
 use borrow.Fn.Kinds.{In}
 use borrow.Fn.PlainCycle
@@ -13,9 +13,9 @@ use lib.Cycle
 use lib.NonEmpty
 use prog.Model
 use prog.Wp
-use Rattle.edges.proofs.operate.Reads as operate-reads
-use Rattle.edges.proofs.operate.Met as operate-met
-use Rattle.edges.proofs.operate.Symbol as operate-symbol
+use Rattle.operators.proofs.operate.Reads as operate-reads
+use Rattle.operators.proofs.operate.Met as operate-met
+use Rattle.operators.proofs.operate.Symbol as operate-symbol
 use Rattle.meeting.proofs.constant.Reads as constant-reads
 use Rattle.meeting.proofs.constant.Met as constant-met
 use Rattle.meeting.proofs.constant.Symbol as constant-symbol
@@ -105,7 +105,7 @@ module _ (μ : PlainCycle.Measures 6 self.ps ℕ) where
         PlainCycle.at-measure-plain 𝓤 H (𝓖 .A) 6 self.ps self.r self.Pre self.Post μ (𝓡 .run code.walk-routine) t
         (PlainRun.plain-entry 𝓤 H 𝓜 𝓖 𝓡 code.env 6 self.ps self.r (here t) self.Post Key.name code.walk-function (code.walk-unfolded 𝓤 H 𝓜 𝓡)
         (closed t 𝓤 H (𝓖 .A) (Running.givenOf 𝓤 H 𝓜 𝓖) (Run.Over 𝓤 H 𝓜 𝓖 𝓡 code.env)
-        (operate-reads.known record { M = M; 𝓤 = 𝓤; H = H; 𝓜 = 𝓜; 𝓖 = 𝓖; 𝓡 = 𝓡 } code.env operate-symbol.name operate-symbol.routine code.calls-edges·operate (operate-met.met 𝓤 H 𝓜 𝓖 𝓡))
+        (operate-reads.known record { M = M; 𝓤 = 𝓤; H = H; 𝓜 = 𝓜; 𝓖 = 𝓖; 𝓡 = 𝓡 } code.env operate-symbol.name operate-symbol.routine code.calls-operators·operate (operate-met.met 𝓤 H 𝓜 𝓖 𝓡))
         (constant-reads.known record { M = M; 𝓤 = 𝓤; H = H; 𝓜 = 𝓜; 𝓖 = 𝓖; 𝓡 = 𝓡 } code.env constant-symbol.name constant-symbol.routine code.calls-meeting·constant (constant-met.met 𝓤 H 𝓜 𝓖 𝓡))
         (kept-reads.known record { M = M; 𝓤 = 𝓤; H = H; 𝓜 = 𝓜; 𝓖 = 𝓖; 𝓡 = 𝓡 } code.env kept-symbol.name kept-symbol.routine code.calls-meeting·kept (kept-met.met 𝓤 H 𝓜 𝓖 𝓡))
         (is-fixed-reads.known record { M = M; 𝓤 = 𝓤; H = H; 𝓜 = 𝓜; 𝓖 = 𝓖; 𝓡 = 𝓡 } code.env is-fixed-symbol.name is-fixed-symbol.routine code.calls-edges·is-fixed (is-fixed-met.met 𝓤 H 𝓜 𝓖 𝓡))

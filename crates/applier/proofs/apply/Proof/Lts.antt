@@ -1,5 +1,5 @@
 -- Generated: the derivation of a body.
--- From 088687791c244a8b, as 937b953d4a4f9efe.
+-- From 0a690c7b9d146405, as 937b953d4a4f9efe.
 use Prim.Native.Nat
 use Rattle.edges.proofs.TableEdge
 use Rattle.edges.proofs.TableEdge.Laws

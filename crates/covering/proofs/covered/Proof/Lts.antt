@@ -1,5 +1,5 @@
 -- Generated: the derivation of a body.
--- From 2d40ec7ffb554c72, as 2d0f566a98f30ca1.
+-- From c5a1cd68668b819d, as d412b201849d8848.
 use Prim.Native.Nat
 use Rattle.blocks.proofs.Loaded
 use Rattle.blocks.proofs.Loaded.Laws
@@ -279,9 +279,9 @@ b15 = Syntax.assign (Syntax.place 13 []) (Syntax.addrOf (Syntax.place 6 ((Syntax
 abbrev b16 : Syntax.Body
 b16 = Syntax.assign (Syntax.place 14 []) (Syntax.aggregate ((Syntax.copy (Syntax.place 13 [])) ∷ (Syntax.copy (Syntax.place 6 ((Syntax.field 1) ∷ []))) ∷ []))
 abbrev b17 : Syntax.Body
-b17 = Syntax.call "covering::opens_first" ((Syntax.copy (Syntax.place 2 [])) ∷ Syntax.opdFalse ∷ []) (Syntax.place 15 [])
+b17 = Syntax.call "operators::opens_first" ((Syntax.copy (Syntax.place 2 [])) ∷ Syntax.opdFalse ∷ []) (Syntax.place 15 [])
 abbrev b18 : Syntax.Body
-b18 = Syntax.call "covering::opens_first" ((Syntax.copy (Syntax.place 2 [])) ∷ Syntax.opdTrue ∷ []) (Syntax.place 16 [])
+b18 = Syntax.call "operators::opens_first" ((Syntax.copy (Syntax.place 2 [])) ∷ Syntax.opdTrue ∷ []) (Syntax.place 16 [])
 abbrev b19 : Syntax.Body
 b19 = Syntax.call "covering::reach" ((Syntax.copy (Syntax.place 1 [])) ∷ (Syntax.copy (Syntax.place 4 [])) ∷ (Syntax.copy (Syntax.place 14 [])) ∷ (Syntax.copy
     (Syntax.place 7 ((Syntax.field 1) ∷ []))) ∷ (Syntax.copy (Syntax.place 7 ((Syntax.field 3) ∷ []))) ∷ (Syntax.copy (Syntax.place 8 [])) ∷ (Syntax.copy
@@ -307,9 +307,9 @@ b28 = Syntax.assign (Syntax.place 17 []) (Syntax.addrOf (Syntax.place 5 ((Syntax
 abbrev b29 : Syntax.Body
 b29 = Syntax.assign (Syntax.place 18 []) (Syntax.aggregate ((Syntax.copy (Syntax.place 17 [])) ∷ (Syntax.copy (Syntax.place 5 ((Syntax.field 1) ∷ []))) ∷ []))
 abbrev b30 : Syntax.Body
-b30 = Syntax.call "covering::opens_second" ((Syntax.copy (Syntax.place 2 [])) ∷ Syntax.opdFalse ∷ []) (Syntax.place 10 [])
+b30 = Syntax.call "operators::opens_second" ((Syntax.copy (Syntax.place 2 [])) ∷ Syntax.opdFalse ∷ []) (Syntax.place 10 [])
 abbrev b31 : Syntax.Body
-b31 = Syntax.call "covering::opens_second" ((Syntax.copy (Syntax.place 2 [])) ∷ Syntax.opdTrue ∷ []) (Syntax.place 19 [])
+b31 = Syntax.call "operators::opens_second" ((Syntax.copy (Syntax.place 2 [])) ∷ Syntax.opdTrue ∷ []) (Syntax.place 19 [])
 abbrev b32 : Syntax.Body
 b32 = Syntax.call "covering::reach" ((Syntax.copy (Syntax.place 1 [])) ∷ (Syntax.copy (Syntax.place 3 [])) ∷ (Syntax.copy (Syntax.place 18 [])) ∷ (Syntax.copy
     (Syntax.place 7 ((Syntax.field 0) ∷ []))) ∷ (Syntax.copy (Syntax.place 7 ((Syntax.field 2) ∷ []))) ∷ (Syntax.copy (Syntax.place 9 [])) ∷ (Syntax.copy
@@ -533,9 +533,9 @@ module _ (claims· : Claims) where
     module _ (M : Type 1) where
       abbrev pub Closed : Type 2
       Closed = (𝓤 : URA.URA M) (H : Wp.Heap 𝓤) (A : Atoms.Atoms 𝓤) (W : Kit.Given 𝓤 H A) (𝓣 : Wp.Tables 𝓤 H) (known0 : Plain.Known 𝓤 H A W 𝓣 0 ps·0 r·0
-          (claims· .0) (claims· .1) "covering::ignores_both") (known1 : Plain.Known 𝓤 H A W 𝓣 0 ps·1 r·1 (claims· .2) (claims· .3) "covering::opens_first")
+          (claims· .0) (claims· .1) "covering::ignores_both") (known1 : Plain.Known 𝓤 H A W 𝓣 0 ps·1 r·1 (claims· .2) (claims· .3) "operators::opens_first")
           (known2 : Plain.Known 𝓤 H A W 𝓣 2 ps·2 r·2 (claims· .4) (claims· .5) "covering::reach") (known3 : Plain.Known 𝓤 H A W 𝓣 0 ps·3 r·3 (claims· .6)
-          (claims· .7) "covering::opens_second") → Statement.Triple 𝓤 (Wp.WpFn 𝓤 H (𝓣 .C) (𝓣 .Λ) (Function.fnOf 4 ps r xs m hs body)) (Function.plainOf 𝓤 H A
+          (claims· .7) "operators::opens_second") → Statement.Triple 𝓤 (Wp.WpFn 𝓤 H (𝓣 .C) (𝓣 .Λ) (Function.fnOf 4 ps r xs m hs body)) (Function.plainOf 𝓤 H A
           4 ps r Pre· Post·)
     module _ where
       abbrev at0 : Typed.TF (cx t2 t1) O1
@@ -683,8 +683,8 @@ module _ (claims· : Claims) where
       module _ {M : Type 1} (𝓤 : URA.URA M) (H : Wp.Heap 𝓤) (A : Atoms.Atoms 𝓤) (W : Kit.Given 𝓤 H A) (𝓣 : Wp.Tables 𝓤 H) where
         abbrev Knowns : Type 1
         Knowns = Plain.Known 𝓤 H A W 𝓣 0 ps·0 r·0 (claims· .0) (claims· .1) "covering::ignores_both" × Plain.Known 𝓤 H A W 𝓣 0 ps·1 r·1 (claims· .2) (claims·
-            .3) "covering::opens_first" × Plain.Known 𝓤 H A W 𝓣 2 ps·2 r·2 (claims· .4) (claims· .5) "covering::reach" × Plain.Known 𝓤 H A W 𝓣 0 ps·3 r·3
-            (claims· .6) (claims· .7) "covering::opens_second"
+            .3) "operators::opens_first" × Plain.Known 𝓤 H A W 𝓣 2 ps·2 r·2 (claims· .4) (claims· .5) "covering::reach" × Plain.Known 𝓤 H A W 𝓣 0 ps·3 r·3
+            (claims· .6) (claims· .7) "operators::opens_second"
       module _ (κs : Lifetimes.Lfts 4) (qs : Lifetimes.Shares 4) where
         abbrev K0 : Row.Life
         K0 = Row.lease (κs .1 .1 .1 .0) (qs .1 .1 .1 .0)
@@ -877,14 +877,14 @@ module _ (claims· : Claims) where
               ((Scalar.reads-sc 𝓤 H A W Row.sBool, Path'.refl), tt))))))))) (Reads.room-gone 𝓤 H A y0) (tt, (tt, tt)) Path'.refl) d34
           d36 : Typed.Typed 𝓤 H A 𝓣 E (gx g16 t1 l2) b22 Δ3 at36
           d36 = Typed.s-seq 𝓤 H A W 𝓣 E (gx g16 t1 l2) (gx g16 t17 l2) b18 b21 Δ3 (Typed.both s28) at35 (Plain.t-call-plain 𝓤 H A W 𝓣 0 ps·1 r·1 (claims· .2)
-              (claims· .3) "covering::opens_first" (known .1) E (λ pos β. β) (gx g16 t1 l2) (Num.vAt 2 λ x. x, (Bool.bLit Bool'.true, tt)) 16 [] (Call.sub-id
+              (claims· .3) "operators::opens_first" (known .1) E (λ pos β. β) (gx g16 t1 l2) (Num.vAt 2 λ x. x, (Bool.bLit Bool'.true, tt)) 16 [] (Call.sub-id
               𝓤 H A W ((gx g16 t1 l2) .slots)) ((Scalar.reads-sc 𝓤 H A W (Row.sInt Syntax.w32), Path'.refl), (tt, tt)) (Reads.room-gone 𝓤 H A Syntax.tyBool)
               tt Path'.refl) d35
           d37 : Typed.Typed 𝓤 H A 𝓣 E (gx g15 t1 l2) b23 Δ3 at37
           d37 = Typed.s-seq 𝓤 H A W 𝓣 E (gx g15 t1 l2) (gx g16 t1 l2) b17 b22 Δ3 (Typed.both s27) at36 (Plain.t-call-plain 𝓤 H A W 𝓣 0 ps·1 r·1 (claims· .2)
-              (claims· .3) "covering::opens_first" (known .1) E (λ pos β. β) (gx g15 t1 l2) (Num.vAt 2 λ x. x, (Bool.bLit Bool'.false, tt)) 15 [] (Call.sub-id
-              𝓤 H A W ((gx g15 t1 l2) .slots)) ((Scalar.reads-sc 𝓤 H A W (Row.sInt Syntax.w32), Path'.refl), (tt, tt)) (Reads.room-gone 𝓤 H A Syntax.tyBool)
-              tt Path'.refl) d36
+              (claims· .3) "operators::opens_first" (known .1) E (λ pos β. β) (gx g15 t1 l2) (Num.vAt 2 λ x. x, (Bool.bLit Bool'.false, tt)) 15 []
+              (Call.sub-id 𝓤 H A W ((gx g15 t1 l2) .slots)) ((Scalar.reads-sc 𝓤 H A W (Row.sInt Syntax.w32), Path'.refl), (tt, tt)) (Reads.room-gone 𝓤 H A
+              Syntax.tyBool) tt Path'.refl) d36
           d38 : Typed.Typed 𝓤 H A 𝓣 E (gx g14 t1 l2) b24 Δ3 at38
           d38 = Typed.s-seq 𝓤 H A W 𝓣 E (gx g14 t1 l2) (gx g15 t1 l2) b16 b23 Δ3 (Typed.ask s26) at37 (Relend.t-sl-aggregate 𝓤 H A W E NodeRecordT.row 𝓣
               (Relend.asMut NodeRecordT.row) (gx g14 t1 l2) 13 14 4 y1 y1 (λ x. x) (Scalar.oFld 6 ((Syntax.field 1) ∷ []) y0 8 λ v. Shared.lenV (v .0))
@@ -963,12 +963,12 @@ module _ (claims· : Claims) where
               ((Scalar.reads-sc 𝓤 H A W Row.sBool, Path'.refl), tt))))))))) (Reads.room-gone 𝓤 H A y0) (tt, (tt, tt)) Path'.refl) d55
           d57 : Typed.Typed 𝓤 H A 𝓣 E (gx g24 t23 l6) b35 Δ0 at57
           d57 = Typed.s-seq 𝓤 H A W 𝓣 E (gx g24 t23 l6) (gx g24 t25 l6) b31 b34 Δ0 (Typed.both s45) at56 (Plain.t-call-plain 𝓤 H A W 𝓣 0 ps·3 r·3 (claims· .6)
-              (claims· .7) "covering::opens_second" (known .3) E (λ pos β. β) (gx g24 t23 l6) (Num.vAt 2 λ x. x, (Bool.bLit Bool'.true, tt)) 19 []
+              (claims· .7) "operators::opens_second" (known .3) E (λ pos β. β) (gx g24 t23 l6) (Num.vAt 2 λ x. x, (Bool.bLit Bool'.true, tt)) 19 []
               (Call.sub-id 𝓤 H A W ((gx g24 t23 l6) .slots)) ((Scalar.reads-sc 𝓤 H A W (Row.sInt Syntax.w32), Path'.refl), (tt, tt)) (Reads.room-gone 𝓤 H A
               Syntax.tyBool) tt Path'.refl) d56
           d58 : Typed.Typed 𝓤 H A 𝓣 E (gx g21 t23 l6) b36 Δ0 at58
           d58 = Typed.s-seq 𝓤 H A W 𝓣 E (gx g21 t23 l6) (gx g24 t23 l6) b30 b35 Δ0 (Typed.both s44) at57 (Plain.t-call-plain 𝓤 H A W 𝓣 0 ps·3 r·3 (claims· .6)
-              (claims· .7) "covering::opens_second" (known .3) E (λ pos β. β) (gx g21 t23 l6) (Num.vAt 2 λ x. x, (Bool.bLit Bool'.false, tt)) 10 []
+              (claims· .7) "operators::opens_second" (known .3) E (λ pos β. β) (gx g21 t23 l6) (Num.vAt 2 λ x. x, (Bool.bLit Bool'.false, tt)) 10 []
               (Call.sub-id 𝓤 H A W ((gx g21 t23 l6) .slots)) ((Scalar.reads-sc 𝓤 H A W (Row.sInt Syntax.w32), Path'.refl), (tt, tt)) (Reads.room-gone 𝓤 H A
               Syntax.tyBool) tt Path'.refl) d57
           d59 : Typed.Typed 𝓤 H A 𝓣 E (gx g21 t22 l6) b37 Δ0 at59
@@ -1455,8 +1455,8 @@ module _ (claims· : Claims) where
               second = record { fits = good .1 .1 .1 .1 .1 .1 .1 .1 .0 .1 } }; pre = pre }
         module _ {M : Type 1} (𝓤 : URA.URA M) (H : Wp.Heap 𝓤) (A : Atoms.Atoms 𝓤) (W : Kit.Given 𝓤 H A) (𝓣 : Wp.Tables 𝓤 H) (known0 : Plain.Known 𝓤 H A W 𝓣 0
             ps·0 r·0 (claims· .0) (claims· .1) "covering::ignores_both") (known1 : Plain.Known 𝓤 H A W 𝓣 0 ps·1 r·1 (claims· .2) (claims· .3)
-            "covering::opens_first") (known2 : Plain.Known 𝓤 H A W 𝓣 2 ps·2 r·2 (claims· .4) (claims· .5) "covering::reach") (known3 : Plain.Known 𝓤 H A W 𝓣 0
-            ps·3 r·3 (claims· .6) (claims· .7) "covering::opens_second") where
+            "operators::opens_first") (known2 : Plain.Known 𝓤 H A W 𝓣 2 ps·2 r·2 (claims· .4) (claims· .5) "covering::reach") (known3 : Plain.Known 𝓤 H A W 𝓣
+            0 ps·3 r·3 (claims· .6) (claims· .7) "operators::opens_second") where
           pub spec : Statement.Triple 𝓤 (Wp.WpFn 𝓤 H (𝓣 .C) (𝓣 .Λ) (Function.fnOf 4 ps r xs m hs body)) (Function.plainOf 𝓤 H A 4 ps r Pre· Post·)
           spec = Plain.t-fn-plain 𝓤 H A W 𝓣 4 ps r xs m hs body (λ κs qs bs. Φ) (λ κs qs bs bd. typed κs qs 𝓤 H A W 𝓣 (known0, known1, known2, known3) bs bd)
               Pre· Post· asked

@@ -1,20 +1,20 @@
 -- Generated: the needs of covered at its contract, and how its theorem closes.
--- From 2d40ec7ffb554c72, as 6badf3e5cecf981d.
+-- From c5a1cd68668b819d, as 9a75334873cd99e0.
 use borrow.Fn.Run
 use borrow.Fn.Written
 use contract.Running.{givenOf, tablesOf}
 use Rattle.covering.proofs.ignores_both.Reads as ignores-both-reads
 use Rattle.covering.proofs.ignores_both.Met as ignores-both-met
 use Rattle.covering.proofs.ignores_both.Symbol as ignores-both-symbol
-use Rattle.covering.proofs.opens_first.Reads as opens-first-reads
-use Rattle.covering.proofs.opens_first.Met as opens-first-met
-use Rattle.covering.proofs.opens_first.Symbol as opens-first-symbol
+use Rattle.operators.proofs.opens_first.Reads as opens-first-reads
+use Rattle.operators.proofs.opens_first.Met as opens-first-met
+use Rattle.operators.proofs.opens_first.Symbol as opens-first-symbol
 use Rattle.covering.proofs.Lifted.reach as reach-reads
 use Rattle.covering.proofs.reach.Met as reach-met
 use Rattle.covering.proofs.reach.Symbol as reach-symbol
-use Rattle.covering.proofs.opens_second.Reads as opens-second-reads
-use Rattle.covering.proofs.opens_second.Met as opens-second-met
-use Rattle.covering.proofs.opens_second.Symbol as opens-second-symbol
+use Rattle.operators.proofs.opens_second.Reads as opens-second-reads
+use Rattle.operators.proofs.opens_second.Met as opens-second-met
+use Rattle.operators.proofs.opens_second.Symbol as opens-second-symbol
 use Rattle.covering.proofs.covered.Key
 use Rattle.covering.proofs.covered.Code as code
 use Rattle.covering.proofs.covered.Statement.{statement}
@@ -76,6 +76,6 @@ module _ {M : Type 1} where
       Written.close 4 self.ps self.r self.Ghost self.requires self.ensures self.pre-read self.Pinned self.Owned self.post-read record { M = M; 𝓤 = 𝓤; H = H; 𝓜 = 𝓜; 𝓖 = 𝓖; 𝓡 = 𝓡 } code.env Key.name code.function (code.unfolded 𝓤 H 𝓜 𝓡)
       (λ κs a g. tt) (λ κs. self.owns κs record { M = M; 𝓤 = 𝓤; H = H; 𝓜 = 𝓜; 𝓖 = 𝓖; 𝓡 = 𝓡 }) (self.passes record { M = M; 𝓤 = 𝓤; H = H; 𝓜 = 𝓜; 𝓖 = 𝓖; 𝓡 = 𝓡 }) λ g. closed 𝓤 H (𝓖 .A) (givenOf 𝓤 H 𝓜 𝓖) (Run.Over 𝓤 H 𝓜 𝓖 𝓡 code.env)
       (ignores-both-reads.known record { M = M; 𝓤 = 𝓤; H = H; 𝓜 = 𝓜; 𝓖 = 𝓖; 𝓡 = 𝓡 } code.env ignores-both-symbol.name ignores-both-symbol.routine code.calls-covering·ignores-both (ignores-both-met.met 𝓤 H 𝓜 𝓖 𝓡))
-      (opens-first-reads.known record { M = M; 𝓤 = 𝓤; H = H; 𝓜 = 𝓜; 𝓖 = 𝓖; 𝓡 = 𝓡 } code.env opens-first-symbol.name opens-first-symbol.routine code.calls-covering·opens-first (opens-first-met.met 𝓤 H 𝓜 𝓖 𝓡))
+      (opens-first-reads.known record { M = M; 𝓤 = 𝓤; H = H; 𝓜 = 𝓜; 𝓖 = 𝓖; 𝓡 = 𝓡 } code.env opens-first-symbol.name opens-first-symbol.routine code.calls-operators·opens-first (opens-first-met.met 𝓤 H 𝓜 𝓖 𝓡))
       (reach-reads.known record { M = M; 𝓤 = 𝓤; H = H; 𝓜 = 𝓜; 𝓖 = 𝓖; 𝓡 = 𝓡 } code.env reach-symbol.name reach-symbol.routine code.calls-covering·reach (reach-met.met 𝓤 H 𝓜 𝓖 𝓡))
-      (opens-second-reads.known record { M = M; 𝓤 = 𝓤; H = H; 𝓜 = 𝓜; 𝓖 = 𝓖; 𝓡 = 𝓡 } code.env opens-second-symbol.name opens-second-symbol.routine code.calls-covering·opens-second (opens-second-met.met 𝓤 H 𝓜 𝓖 𝓡))
+      (opens-second-reads.known record { M = M; 𝓤 = 𝓤; H = H; 𝓜 = 𝓜; 𝓖 = 𝓖; 𝓡 = 𝓡 } code.env opens-second-symbol.name opens-second-symbol.routine code.calls-operators·opens-second (opens-second-met.met 𝓤 H 𝓜 𝓖 𝓡))

@@ -1,5 +1,5 @@
 -- Generated: the derivation of a body.
--- From 2d40ec7ffb554c72, as 96bd0982c3006aa8.
+-- From c5a1cd68668b819d, as 96bd0982c3006aa8.
 use Prim.Native.Nat
 use Rattle.blocks.proofs.Block
 use Rattle.blocks.proofs.Block.Laws

@@ -1,5 +1,5 @@
 -- Generated: the derivation of a body.
--- From 2d40ec7ffb554c72, as d3e280e35f0fa27a.
+-- From c5a1cd68668b819d, as d3e280e35f0fa27a.
 use Prim.Native.Nat
 use Rattle.answers.proofs.Checked
 use Rattle.answers.proofs.Checked.Laws

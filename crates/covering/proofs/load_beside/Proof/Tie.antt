@@ -1,5 +1,5 @@
 -- Generated: the needs of load_beside at its contract, and how its theorem closes.
--- From 2d40ec7ffb554c72, as 61c15cc65e959427.
+-- From c5a1cd68668b819d, as 61c15cc65e959427.
 use borrow.Fn.Run
 use borrow.Fn.Written
 use contract.Running.{givenOf, tablesOf}

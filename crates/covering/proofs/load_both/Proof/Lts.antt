@@ -1,5 +1,5 @@
 -- Generated: the derivation of a body.
--- From 2d40ec7ffb554c72, as 40c8be6478946e38.
+-- From c5a1cd68668b819d, as bdf1d588ad06c91a.
 use Prim.Native.Nat
 use Rattle.answers.proofs.Checked
 use Rattle.answers.proofs.Checked.Laws
@@ -361,9 +361,9 @@ b6 = Syntax.assign (Syntax.place 21 []) (Syntax.aggregate ((Syntax.copy (Syntax.
 abbrev b7 : Syntax.Body
 b7 = Syntax.call "covering::covered_in" ((Syntax.copy (Syntax.place 8 [])) ∷ []) (Syntax.place 22 [])
 abbrev b8 : Syntax.Body
-b8 = Syntax.call "covering::opens_second" ((Syntax.copy (Syntax.place 2 [])) ∷ Syntax.opdFalse ∷ []) (Syntax.place 23 [])
+b8 = Syntax.call "operators::opens_second" ((Syntax.copy (Syntax.place 2 [])) ∷ Syntax.opdFalse ∷ []) (Syntax.place 23 [])
 abbrev b9 : Syntax.Body
-b9 = Syntax.call "covering::opens_second" ((Syntax.copy (Syntax.place 2 [])) ∷ Syntax.opdTrue ∷ []) (Syntax.place 24 [])
+b9 = Syntax.call "operators::opens_second" ((Syntax.copy (Syntax.place 2 [])) ∷ Syntax.opdTrue ∷ []) (Syntax.place 24 [])
 abbrev b10 : Syntax.Body
 b10 = Syntax.call "covering::load_beside" ((Syntax.copy (Syntax.place 1 [])) ∷ (Syntax.copy (Syntax.place 3 [])) ∷ (Syntax.copy (Syntax.place 21 [])) ∷
     (Syntax.copy (Syntax.place 22 [])) ∷ (Syntax.copy (Syntax.place 23 [])) ∷ (Syntax.copy (Syntax.place 24 [])) ∷ []) (Syntax.place 9 [])
@@ -426,9 +426,9 @@ b37 = Syntax.assign (Syntax.place 29 []) (Syntax.aggregate ((Syntax.copy (Syntax
 abbrev b38 : Syntax.Body
 b38 = Syntax.call "covering::covered_in" ((Syntax.copy (Syntax.place 13 [])) ∷ []) (Syntax.place 30 [])
 abbrev b39 : Syntax.Body
-b39 = Syntax.call "covering::opens_first" ((Syntax.copy (Syntax.place 2 [])) ∷ Syntax.opdFalse ∷ []) (Syntax.place 31 [])
+b39 = Syntax.call "operators::opens_first" ((Syntax.copy (Syntax.place 2 [])) ∷ Syntax.opdFalse ∷ []) (Syntax.place 31 [])
 abbrev b40 : Syntax.Body
-b40 = Syntax.call "covering::opens_first" ((Syntax.copy (Syntax.place 2 [])) ∷ Syntax.opdTrue ∷ []) (Syntax.place 32 [])
+b40 = Syntax.call "operators::opens_first" ((Syntax.copy (Syntax.place 2 [])) ∷ Syntax.opdTrue ∷ []) (Syntax.place 32 [])
 abbrev b41 : Syntax.Body
 b41 = Syntax.call "covering::load_beside" ((Syntax.copy (Syntax.place 1 [])) ∷ (Syntax.copy (Syntax.place 4 [])) ∷ (Syntax.copy (Syntax.place 29 [])) ∷
     (Syntax.copy (Syntax.place 30 [])) ∷ (Syntax.copy (Syntax.place 31 [])) ∷ (Syntax.copy (Syntax.place 32 [])) ∷ []) (Syntax.place 14 [])
@@ -886,9 +886,9 @@ module _ (claims· : Claims) where
       Closed = (𝓤 : URA.URA M) (H : Wp.Heap 𝓤) (A : Atoms.Atoms 𝓤) (W : Kit.Given 𝓤 H A) (𝓣 : Wp.Tables 𝓤 H) (known0 : Plain.Known 𝓤 H A W 𝓣 2 ps·0 r·0
           (claims· .0) (claims· .1) "covering::goes_later") (known1 : Plain.Known 𝓤 H A W 𝓣 2 ps·1 r·1 (claims· .2) (claims· .3) "blocks::load") (known2 :
           Plain.Known 𝓤 H A W 𝓣 0 ps·2 r·2 (claims· .4) (claims· .5) "covering::covered_in") (known3 : Plain.Known 𝓤 H A W 𝓣 0 ps·3 r·3 (claims· .6) (claims·
-          .7) "covering::opens_second") (known4 : Plain.Known 𝓤 H A W 𝓣 2 ps·4 r·4 (claims· .8) (claims· .9) "covering::load_beside") (known5 : Plain.Known 𝓤
+          .7) "operators::opens_second") (known4 : Plain.Known 𝓤 H A W 𝓣 2 ps·4 r·4 (claims· .8) (claims· .9) "covering::load_beside") (known5 : Plain.Known 𝓤
           H A W 𝓣 0 ps·5 r·5 (claims· .10) (claims· .11) "covering::none_sought") (known6 : Plain.Known 𝓤 H A W 𝓣 0 ps·6 r·6 (claims· .12) (claims· .13)
-          "covering::opens_first") → Statement.Triple 𝓤 (Wp.WpFn 𝓤 H (𝓣 .C) (𝓣 .Λ) (Function.fnOf 4 ps r xs m hs body)) (Function.plainOf 𝓤 H A 4 ps r Pre·
+          "operators::opens_first") → Statement.Triple 𝓤 (Wp.WpFn 𝓤 H (𝓣 .C) (𝓣 .Λ) (Function.fnOf 4 ps r xs m hs body)) (Function.plainOf 𝓤 H A 4 ps r Pre·
           Post·)
     module _ where
       abbrev at0 : (bs : List Nat.ℕ) → Typed.TF T40 O1
@@ -1053,9 +1053,9 @@ module _ (claims· : Claims) where
         abbrev Knowns : Type 1
         Knowns = Plain.Known 𝓤 H A W 𝓣 2 ps·0 r·0 (claims· .0) (claims· .1) "covering::goes_later" × Plain.Known 𝓤 H A W 𝓣 2 ps·1 r·1 (claims· .2) (claims·
             .3) "blocks::load" × Plain.Known 𝓤 H A W 𝓣 0 ps·2 r·2 (claims· .4) (claims· .5) "covering::covered_in" × Plain.Known 𝓤 H A W 𝓣 0 ps·3 r·3 (claims·
-            .6) (claims· .7) "covering::opens_second" × Plain.Known 𝓤 H A W 𝓣 2 ps·4 r·4 (claims· .8) (claims· .9) "covering::load_beside" × Plain.Known 𝓤 H A
-            W 𝓣 0 ps·5 r·5 (claims· .10) (claims· .11) "covering::none_sought" × Plain.Known 𝓤 H A W 𝓣 0 ps·6 r·6 (claims· .12) (claims· .13)
-            "covering::opens_first"
+            .6) (claims· .7) "operators::opens_second" × Plain.Known 𝓤 H A W 𝓣 2 ps·4 r·4 (claims· .8) (claims· .9) "covering::load_beside" × Plain.Known 𝓤 H
+            A W 𝓣 0 ps·5 r·5 (claims· .10) (claims· .11) "covering::none_sought" × Plain.Known 𝓤 H A W 𝓣 0 ps·6 r·6 (claims· .12) (claims· .13)
+            "operators::opens_first"
       module _ (κs : Lifetimes.Lfts 4) (qs : Lifetimes.Shares 4) where
         abbrev K0 : Row.Life
         K0 = Row.lease (κs .1 .1 .1 .0) (qs .1 .1 .1 .0)
@@ -1421,11 +1421,11 @@ module _ (claims· : Claims) where
               d18
           d20 : Typed.Typed 𝓤 H A 𝓣 E G20 b21 Δ1 (at20 bs)
           d20 = Typed.s-seq 𝓤 H A W 𝓣 E G20 G21 b9 b20 Δ1 (Typed.both (s18 bs)) (at19 bs) (Plain.t-call-plain 𝓤 H A W 𝓣 0 ps·3 r·3 (claims· .6) (claims· .7)
-              "covering::opens_second" (known .3) E (λ pos β. β) G20 (Num.vAt 2 λ x. x, (Bool.bLit Bool'.true, tt)) 24 [] (Call.sub-id 𝓤 H A W (G20 .slots))
+              "operators::opens_second" (known .3) E (λ pos β. β) G20 (Num.vAt 2 λ x. x, (Bool.bLit Bool'.true, tt)) 24 [] (Call.sub-id 𝓤 H A W (G20 .slots))
               ((Scalar.reads-sc 𝓤 H A W (Row.sInt Syntax.w32), Path'.refl), (tt, tt)) (Reads'.room-gone 𝓤 H A Syntax.tyBool) tt Path'.refl) d19
           d21 : Typed.Typed 𝓤 H A 𝓣 E G19 b22 Δ1 (at21 bs)
           d21 = Typed.s-seq 𝓤 H A W 𝓣 E G19 G20 b8 b21 Δ1 (Typed.both (s17 bs)) (at20 bs) (Plain.t-call-plain 𝓤 H A W 𝓣 0 ps·3 r·3 (claims· .6) (claims· .7)
-              "covering::opens_second" (known .3) E (λ pos β. β) G19 (Num.vAt 2 λ x. x, (Bool.bLit Bool'.false, tt)) 23 [] (Call.sub-id 𝓤 H A W (G19 .slots))
+              "operators::opens_second" (known .3) E (λ pos β. β) G19 (Num.vAt 2 λ x. x, (Bool.bLit Bool'.false, tt)) 23 [] (Call.sub-id 𝓤 H A W (G19 .slots))
               ((Scalar.reads-sc 𝓤 H A W (Row.sInt Syntax.w32), Path'.refl), (tt, tt)) (Reads'.room-gone 𝓤 H A Syntax.tyBool) tt Path'.refl) d20
           d22 : Typed.Typed 𝓤 H A 𝓣 E G18 b22 Δ1 (at22 bs)
           d22 = Typed.g-pre 𝓤 H A W 𝓣 E G18 G19 b22 Δ1 (Typed.pass T18 T19 (s16 bs)) (at21 bs) (Scalar.g-room 𝓤 H A W E G18 8 y5 (Local.room-whole 𝓤 H A W
@@ -1640,11 +1640,11 @@ module _ (claims· : Claims) where
               d57
           d59 : Typed.Typed 𝓤 H A 𝓣 E G55 b52 Δ0 (at59 bs)
           d59 = Typed.s-seq 𝓤 H A W 𝓣 E G55 G56 b40 b51 Δ0 (Typed.both (s53 bs)) (at58 bs) (Plain.t-call-plain 𝓤 H A W 𝓣 0 ps·6 r·6 (claims· .12) (claims·
-              .13) "covering::opens_first" (known .6) E (λ pos β. β) G55 (Num.vAt 2 λ x. x, (Bool.bLit Bool'.true, tt)) 32 [] (Call.sub-id 𝓤 H A W (G55
+              .13) "operators::opens_first" (known .6) E (λ pos β. β) G55 (Num.vAt 2 λ x. x, (Bool.bLit Bool'.true, tt)) 32 [] (Call.sub-id 𝓤 H A W (G55
               .slots)) ((Scalar.reads-sc 𝓤 H A W (Row.sInt Syntax.w32), Path'.refl), (tt, tt)) (Reads'.room-gone 𝓤 H A Syntax.tyBool) tt Path'.refl) d58
           d60 : Typed.Typed 𝓤 H A 𝓣 E G54 b53 Δ0 (at60 bs)
           d60 = Typed.s-seq 𝓤 H A W 𝓣 E G54 G55 b39 b52 Δ0 (Typed.both (s52 bs)) (at59 bs) (Plain.t-call-plain 𝓤 H A W 𝓣 0 ps·6 r·6 (claims· .12) (claims·
-              .13) "covering::opens_first" (known .6) E (λ pos β. β) G54 (Num.vAt 2 λ x. x, (Bool.bLit Bool'.false, tt)) 31 [] (Call.sub-id 𝓤 H A W (G54
+              .13) "operators::opens_first" (known .6) E (λ pos β. β) G54 (Num.vAt 2 λ x. x, (Bool.bLit Bool'.false, tt)) 31 [] (Call.sub-id 𝓤 H A W (G54
               .slots)) ((Scalar.reads-sc 𝓤 H A W (Row.sInt Syntax.w32), Path'.refl), (tt, tt)) (Reads'.room-gone 𝓤 H A Syntax.tyBool) tt Path'.refl) d59
           d61 : Typed.Typed 𝓤 H A 𝓣 E G53 b53 Δ0 (at61 bs)
           d61 = Typed.g-pre 𝓤 H A W 𝓣 E G53 G54 b53 Δ0 (Typed.pass T53 T54 (s51 bs)) (at60 bs) (Scalar.g-room 𝓤 H A W E G53 13 y5 (Local.room-whole 𝓤 H A W
@@ -2428,9 +2428,9 @@ module _ (claims· : Claims) where
         module _ {M : Type 1} (𝓤 : URA.URA M) (H : Wp.Heap 𝓤) (A : Atoms.Atoms 𝓤) (W : Kit.Given 𝓤 H A) (𝓣 : Wp.Tables 𝓤 H) (known0 : Plain.Known 𝓤 H A W 𝓣 2
             ps·0 r·0 (claims· .0) (claims· .1) "covering::goes_later") (known1 : Plain.Known 𝓤 H A W 𝓣 2 ps·1 r·1 (claims· .2) (claims· .3) "blocks::load")
             (known2 : Plain.Known 𝓤 H A W 𝓣 0 ps·2 r·2 (claims· .4) (claims· .5) "covering::covered_in") (known3 : Plain.Known 𝓤 H A W 𝓣 0 ps·3 r·3 (claims·
-            .6) (claims· .7) "covering::opens_second") (known4 : Plain.Known 𝓤 H A W 𝓣 2 ps·4 r·4 (claims· .8) (claims· .9) "covering::load_beside") (known5 :
-            Plain.Known 𝓤 H A W 𝓣 0 ps·5 r·5 (claims· .10) (claims· .11) "covering::none_sought") (known6 : Plain.Known 𝓤 H A W 𝓣 0 ps·6 r·6 (claims· .12)
-            (claims· .13) "covering::opens_first") where
+            .6) (claims· .7) "operators::opens_second") (known4 : Plain.Known 𝓤 H A W 𝓣 2 ps·4 r·4 (claims· .8) (claims· .9) "covering::load_beside") (known5
+            : Plain.Known 𝓤 H A W 𝓣 0 ps·5 r·5 (claims· .10) (claims· .11) "covering::none_sought") (known6 : Plain.Known 𝓤 H A W 𝓣 0 ps·6 r·6 (claims· .12)
+            (claims· .13) "operators::opens_first") where
           pub spec : Statement.Triple 𝓤 (Wp.WpFn 𝓤 H (𝓣 .C) (𝓣 .Λ) (Function.fnOf 4 ps r xs m hs body)) (Function.plainOf 𝓤 H A 4 ps r Pre· Post·)
           spec = Plain.t-fn-plain 𝓤 H A W 𝓣 4 ps r xs m hs body (λ κs qs bs. Φ bs) (λ κs qs bs bd. typed κs qs 𝓤 H A W 𝓣 (known0, known1, known2, known3,
               known4, known5, known6) bs bd) Pre· Post· asked

@@ -1,5 +1,5 @@
 -- Generated: the needs of load_both at its contract, and how its theorem closes.
--- From 2d40ec7ffb554c72, as 2fc41dbc7489ac75.
+-- From c5a1cd68668b819d, as 0bf76c873514005f.
 use borrow.Fn.Run
 use borrow.Fn.Written
 use contract.Running.{givenOf, tablesOf}
@@ -12,18 +12,18 @@ use Rattle.blocks.proofs.load.Symbol as load-symbol
 use Rattle.covering.proofs.covered_in.Reads as covered-in-reads
 use Rattle.covering.proofs.covered_in.Met as covered-in-met
 use Rattle.covering.proofs.covered_in.Symbol as covered-in-symbol
-use Rattle.covering.proofs.opens_second.Reads as opens-second-reads
-use Rattle.covering.proofs.opens_second.Met as opens-second-met
-use Rattle.covering.proofs.opens_second.Symbol as opens-second-symbol
+use Rattle.operators.proofs.opens_second.Reads as opens-second-reads
+use Rattle.operators.proofs.opens_second.Met as opens-second-met
+use Rattle.operators.proofs.opens_second.Symbol as opens-second-symbol
 use Rattle.covering.proofs.Lifted.load_beside as load-beside-reads
 use Rattle.covering.proofs.load_beside.Met as load-beside-met
 use Rattle.covering.proofs.load_beside.Symbol as load-beside-symbol
 use Rattle.covering.proofs.none_sought.Reads as none-sought-reads
 use Rattle.covering.proofs.none_sought.Met as none-sought-met
 use Rattle.covering.proofs.none_sought.Symbol as none-sought-symbol
-use Rattle.covering.proofs.opens_first.Reads as opens-first-reads
-use Rattle.covering.proofs.opens_first.Met as opens-first-met
-use Rattle.covering.proofs.opens_first.Symbol as opens-first-symbol
+use Rattle.operators.proofs.opens_first.Reads as opens-first-reads
+use Rattle.operators.proofs.opens_first.Met as opens-first-met
+use Rattle.operators.proofs.opens_first.Symbol as opens-first-symbol
 use Rattle.covering.proofs.load_both.Key
 use Rattle.covering.proofs.load_both.Code as code
 use Rattle.covering.proofs.load_both.Statement.{statement}
@@ -102,7 +102,7 @@ module _ {M : Type 1} where
       (goes-later-reads.known record { M = M; 𝓤 = 𝓤; H = H; 𝓜 = 𝓜; 𝓖 = 𝓖; 𝓡 = 𝓡 } code.env goes-later-symbol.name goes-later-symbol.routine code.calls-covering·goes-later (goes-later-met.met 𝓤 H 𝓜 𝓖 𝓡))
       (load-reads.known record { M = M; 𝓤 = 𝓤; H = H; 𝓜 = 𝓜; 𝓖 = 𝓖; 𝓡 = 𝓡 } code.env load-symbol.name load-symbol.routine code.calls-blocks·load (load-met.met 𝓤 H 𝓜 𝓖 𝓡))
       (covered-in-reads.known record { M = M; 𝓤 = 𝓤; H = H; 𝓜 = 𝓜; 𝓖 = 𝓖; 𝓡 = 𝓡 } code.env covered-in-symbol.name covered-in-symbol.routine code.calls-covering·covered-in (covered-in-met.met 𝓤 H 𝓜 𝓖 𝓡))
-      (opens-second-reads.known record { M = M; 𝓤 = 𝓤; H = H; 𝓜 = 𝓜; 𝓖 = 𝓖; 𝓡 = 𝓡 } code.env opens-second-symbol.name opens-second-symbol.routine code.calls-covering·opens-second (opens-second-met.met 𝓤 H 𝓜 𝓖 𝓡))
+      (opens-second-reads.known record { M = M; 𝓤 = 𝓤; H = H; 𝓜 = 𝓜; 𝓖 = 𝓖; 𝓡 = 𝓡 } code.env opens-second-symbol.name opens-second-symbol.routine code.calls-operators·opens-second (opens-second-met.met 𝓤 H 𝓜 𝓖 𝓡))
       (load-beside-reads.known record { M = M; 𝓤 = 𝓤; H = H; 𝓜 = 𝓜; 𝓖 = 𝓖; 𝓡 = 𝓡 } code.env load-beside-symbol.name load-beside-symbol.routine code.calls-covering·load-beside (load-beside-met.met 𝓤 H 𝓜 𝓖 𝓡))
       (none-sought-reads.known record { M = M; 𝓤 = 𝓤; H = H; 𝓜 = 𝓜; 𝓖 = 𝓖; 𝓡 = 𝓡 } code.env none-sought-symbol.name none-sought-symbol.routine code.calls-covering·none-sought (none-sought-met.met 𝓤 H 𝓜 𝓖 𝓡))
-      (opens-first-reads.known record { M = M; 𝓤 = 𝓤; H = H; 𝓜 = 𝓜; 𝓖 = 𝓖; 𝓡 = 𝓡 } code.env opens-first-symbol.name opens-first-symbol.routine code.calls-covering·opens-first (opens-first-met.met 𝓤 H 𝓜 𝓖 𝓡))
+      (opens-first-reads.known record { M = M; 𝓤 = 𝓤; H = H; 𝓜 = 𝓜; 𝓖 = 𝓖; 𝓡 = 𝓡 } code.env opens-first-symbol.name opens-first-symbol.routine code.calls-operators·opens-first (opens-first-met.met 𝓤 H 𝓜 𝓖 𝓡))

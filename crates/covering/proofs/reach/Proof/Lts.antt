@@ -1,5 +1,5 @@
 -- Generated: the derivation of a body.
--- From 2d40ec7ffb554c72, as 34c4aef7dd31a0d5.
+-- From c5a1cd68668b819d, as 34c4aef7dd31a0d5.
 use Prim.Native.Nat
 use Rattle.blocks.proofs.Loaded
 use Rattle.blocks.proofs.Loaded.Laws

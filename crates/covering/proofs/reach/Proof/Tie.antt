@@ -1,5 +1,5 @@
 -- Generated: the needs of reach at its contract, and how its theorem closes.
--- From 2d40ec7ffb554c72, as bcf917a2868bc38a.
+-- From c5a1cd68668b819d, as bcf917a2868bc38a.
 use borrow.Fn.Run
 use borrow.Fn.Written
 use contract.Running.{givenOf, tablesOf}

@@ -1,5 +1,5 @@
 -- Generated: the needs of first_on at its contract, and how its theorem closes.
--- From ceff48a87e0890f4, as 24cf2d06d52ef20d.
+-- From 7c74882b79d27326, as 24cf2d06d52ef20d.
 use borrow.Fn.Run
 use borrow.Fn.Written
 use contract.Running.{givenOf, tablesOf}

@@ -1,5 +1,5 @@
 -- Generated: the derivation of a body.
--- From ceff48a87e0890f4, as 12d56ebae4bdf1fe.
+-- From 7c74882b79d27326, as df389b3205001aaf.
 use Prim.Native.Nat
 use Rattle.blocks.proofs.Block
 use Rattle.blocks.proofs.Block.Laws
@@ -463,8 +463,8 @@ abbrev b3 : Syntax.Body
 b3 = Syntax.call "operands::first_value" ((Syntax.copy (Syntax.place 5 ((Syntax.field 0) ∷ []))) ∷ (Syntax.copy (Syntax.place 5 ((Syntax.field 1) ∷ []))) ∷
     []) (Syntax.place 22 [])
 abbrev b4 : Syntax.Body
-b4 = Syntax.call "edges::operate" ((Syntax.copy (Syntax.place 1 ((Syntax.field 1) ∷ []))) ∷ (Syntax.copy (Syntax.place 21 [])) ∷ (Syntax.copy (Syntax.place 22
-    [])) ∷ []) (Syntax.place 20 [])
+b4 = Syntax.call "operators::operate" ((Syntax.copy (Syntax.place 1 ((Syntax.field 1) ∷ []))) ∷ (Syntax.copy (Syntax.place 21 [])) ∷ (Syntax.copy
+    (Syntax.place 22 [])) ∷ []) (Syntax.place 20 [])
 abbrev b5 : Syntax.Body
 b5 = Syntax.call "pending_text::push_tilde" ((Syntax.copy (Syntax.place 19 [])) ∷ (Syntax.int Syntax.w64 0) ∷ (Syntax.copy (Syntax.place 20 [])) ∷ [])
     (Syntax.place 15 [])
@@ -993,9 +993,9 @@ module _ (claims· : Claims) where
     module _ (M : Type 1) where
       abbrev pub Closed : Type 2
       Closed = (𝓤 : URA.URA M) (H : Wp.Heap 𝓤) (A : Atoms.Atoms 𝓤) (W : Kit.Given 𝓤 H A) (𝓣 : Wp.Tables 𝓤 H) (known0 : Plain.Known 𝓤 H A W 𝓣 0 ps·0 r·0
-          (claims· .0) (claims· .1) "operands::first_value") (known1 : Plain.Known 𝓤 H A W 𝓣 0 ps·1 r·1 (claims· .2) (claims· .3) "edges::operate") (known2 :
-          Plain.Known 𝓤 H A W 𝓣 1 ps·2 r·2 (claims· .4) (claims· .5) "pending_text::push_tilde") (known3 : Plain.Known 𝓤 H A W 𝓣 0 ps·3 r·3 (claims· .6)
-          (claims· .7) "meeting::progress_after") (known4 : Plain.Known 𝓤 H A W 𝓣 10 ps·4 r·4 (claims· .8) (claims· .9) "text_walk::texts") (known5 :
+          (claims· .0) (claims· .1) "operands::first_value") (known1 : Plain.Known 𝓤 H A W 𝓣 0 ps·1 r·1 (claims· .2) (claims· .3) "operators::operate")
+          (known2 : Plain.Known 𝓤 H A W 𝓣 1 ps·2 r·2 (claims· .4) (claims· .5) "pending_text::push_tilde") (known3 : Plain.Known 𝓤 H A W 𝓣 0 ps·3 r·3 (claims·
+          .6) (claims· .7) "meeting::progress_after") (known4 : Plain.Known 𝓤 H A W 𝓣 10 ps·4 r·4 (claims· .8) (claims· .9) "text_walk::texts") (known5 :
           Plain.Known 𝓤 H A W 𝓣 2 ps·5 r·5 (claims· .10) (claims· .11) "text_walk::finish") → Statement.Triple 𝓤 (Wp.WpFn 𝓤 H (𝓣 .C) (𝓣 .Λ) (Function.fnOf 10
           ps r xs m hs body)) (Function.plainOf 𝓤 H A 10 ps r Pre· Post·)
     module _ where
@@ -1186,9 +1186,9 @@ module _ (claims· : Claims) where
       module _ {M : Type 1} (𝓤 : URA.URA M) (H : Wp.Heap 𝓤) (A : Atoms.Atoms 𝓤) (W : Kit.Given 𝓤 H A) (𝓣 : Wp.Tables 𝓤 H) where
         abbrev Knowns : Type 1
         Knowns = Plain.Known 𝓤 H A W 𝓣 0 ps·0 r·0 (claims· .0) (claims· .1) "operands::first_value" × Plain.Known 𝓤 H A W 𝓣 0 ps·1 r·1 (claims· .2) (claims·
-            .3) "edges::operate" × Plain.Known 𝓤 H A W 𝓣 1 ps·2 r·2 (claims· .4) (claims· .5) "pending_text::push_tilde" × Plain.Known 𝓤 H A W 𝓣 0 ps·3 r·3
-            (claims· .6) (claims· .7) "meeting::progress_after" × Plain.Known 𝓤 H A W 𝓣 10 ps·4 r·4 (claims· .8) (claims· .9) "text_walk::texts" × Plain.Known
-            𝓤 H A W 𝓣 2 ps·5 r·5 (claims· .10) (claims· .11) "text_walk::finish"
+            .3) "operators::operate" × Plain.Known 𝓤 H A W 𝓣 1 ps·2 r·2 (claims· .4) (claims· .5) "pending_text::push_tilde" × Plain.Known 𝓤 H A W 𝓣 0 ps·3
+            r·3 (claims· .6) (claims· .7) "meeting::progress_after" × Plain.Known 𝓤 H A W 𝓣 10 ps·4 r·4 (claims· .8) (claims· .9) "text_walk::texts" ×
+            Plain.Known 𝓤 H A W 𝓣 2 ps·5 r·5 (claims· .10) (claims· .11) "text_walk::finish"
       module _ (κs : Lifetimes.Lfts 10) (qs : Lifetimes.Shares 10) where
         abbrev K0 : Row.Life
         K0 = Row.lease (κs .1 .1 .1 .1 .1 .1 .1 .1 .0) (qs .1 .1 .1 .1 .1 .1 .1 .1 .0)
@@ -1923,10 +1923,10 @@ module _ (claims· : Claims) where
               Row.sBool)) d79
           d81 : Typed.Typed 𝓤 H A 𝓣 E G10 b50 Δ0 at81
           d81 = Typed.s-seq 𝓤 H A W 𝓣 E G10 G11 b4 b49 Δ0 (Typed.both s9) at80 (Plain.t-call-plain 𝓤 H A W 𝓣 0 ps·1 r·1 (claims· .2) (claims· .3)
-              "edges::operate" (known .1) E (λ pos β. β) G10 (Num.vFld 1 ((Syntax.field 1) ∷ []) 4 λ x. Task.struct .as-values x .1 .0, (Bool.bAt 21 λ x. x,
-              (Bool.bAt 22 λ x. x, tt))) 20 [] (Call.sub-id 𝓤 H A W (G10 .slots)) ((Reads.reads-field 𝓤 H A W Task.the-type Laws'6.the-laws 1 y1 4 Path'.refl,
-              Path'.refl), ((Scalar.reads-sc 𝓤 H A W Row.sBool, Path'.refl), ((Scalar.reads-sc 𝓤 H A W Row.sBool, Path'.refl), tt))) (Reads'.room-gone 𝓤 H A
-              Syntax.tyBool) tt Path'.refl) d80
+              "operators::operate" (known .1) E (λ pos β. β) G10 (Num.vFld 1 ((Syntax.field 1) ∷ []) 4 λ x. Task.struct .as-values x .1 .0, (Bool.bAt 21 λ x.
+              x, (Bool.bAt 22 λ x. x, tt))) 20 [] (Call.sub-id 𝓤 H A W (G10 .slots)) ((Reads.reads-field 𝓤 H A W Task.the-type Laws'6.the-laws 1 y1 4
+              Path'.refl, Path'.refl), ((Scalar.reads-sc 𝓤 H A W Row.sBool, Path'.refl), ((Scalar.reads-sc 𝓤 H A W Row.sBool, Path'.refl), tt)))
+              (Reads'.room-gone 𝓤 H A Syntax.tyBool) tt Path'.refl) d80
           d82 : Typed.Typed 𝓤 H A 𝓣 E G9 b51 Δ0 at82
           d82 = Typed.s-seq 𝓤 H A W 𝓣 E G9 G10 b3 b50 Δ0 (Typed.both s8) at81 (Plain.t-call-plain 𝓤 H A W 𝓣 0 ps·0 r·0 (claims· .0) (claims· .1)
               "operands::first_value" (known .0) E (λ pos β. β) G9 (record { pos = 5; st = (Syntax.field 0) ∷ []; d = 0; at = λ x. Begun.struct .as-values x
@@ -2654,10 +2654,10 @@ module _ (claims· : Claims) where
               .1 .1 .0; out = a .1 .1 .1 .1 .1 .1 .1 .1 .1 .1 .0; w = a .1 .1 .1 .1 .1 .1 .1 .1 .1 .1 .1 .0; c = a .1 .1 .1 .1 .1 .1 .1 .1 .1 .1 .1 .1 .0;
               head = a .1 .1 .1 .1 .1 .1 .1 .1 .1 .1 .1 .1 .1 .0 }; good = good; pre = pre }
         module _ {M : Type 1} (𝓤 : URA.URA M) (H : Wp.Heap 𝓤) (A : Atoms.Atoms 𝓤) (W : Kit.Given 𝓤 H A) (𝓣 : Wp.Tables 𝓤 H) (known0 : Plain.Known 𝓤 H A W 𝓣 0
-            ps·0 r·0 (claims· .0) (claims· .1) "operands::first_value") (known1 : Plain.Known 𝓤 H A W 𝓣 0 ps·1 r·1 (claims· .2) (claims· .3) "edges::operate")
-            (known2 : Plain.Known 𝓤 H A W 𝓣 1 ps·2 r·2 (claims· .4) (claims· .5) "pending_text::push_tilde") (known3 : Plain.Known 𝓤 H A W 𝓣 0 ps·3 r·3
-            (claims· .6) (claims· .7) "meeting::progress_after") (known4 : Plain.Known 𝓤 H A W 𝓣 10 ps·4 r·4 (claims· .8) (claims· .9) "text_walk::texts")
-            (known5 : Plain.Known 𝓤 H A W 𝓣 2 ps·5 r·5 (claims· .10) (claims· .11) "text_walk::finish") where
+            ps·0 r·0 (claims· .0) (claims· .1) "operands::first_value") (known1 : Plain.Known 𝓤 H A W 𝓣 0 ps·1 r·1 (claims· .2) (claims· .3)
+            "operators::operate") (known2 : Plain.Known 𝓤 H A W 𝓣 1 ps·2 r·2 (claims· .4) (claims· .5) "pending_text::push_tilde") (known3 : Plain.Known 𝓤 H A
+            W 𝓣 0 ps·3 r·3 (claims· .6) (claims· .7) "meeting::progress_after") (known4 : Plain.Known 𝓤 H A W 𝓣 10 ps·4 r·4 (claims· .8) (claims· .9)
+            "text_walk::texts") (known5 : Plain.Known 𝓤 H A W 𝓣 2 ps·5 r·5 (claims· .10) (claims· .11) "text_walk::finish") where
           pub spec : Statement.Triple 𝓤 (Wp.WpFn 𝓤 H (𝓣 .C) (𝓣 .Λ) (Function.fnOf 10 ps r xs m hs body)) (Function.plainOf 𝓤 H A 10 ps r Pre· Post·)
           spec = Plain.t-fn-plain 𝓤 H A W 𝓣 10 ps r xs m hs body (λ κs qs bs. Φ) (λ κs qs bs bd. typed κs qs 𝓤 H A W 𝓣 (known0, known1, known2, known3,
               known4, known5) bs bd) Pre· Post· asked

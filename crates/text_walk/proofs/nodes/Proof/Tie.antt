@@ -1,14 +1,14 @@
 -- Generated: the needs of nodes at its contract, and how its theorem closes.
--- From ceff48a87e0890f4, as 694ebaccc28e3923.
+-- From 7c74882b79d27326, as 8681584a693a7775.
 use borrow.Fn.Run
 use borrow.Fn.Written
 use contract.Running.{givenOf, tablesOf}
 use Rattle.operands.proofs.first_value.Reads as first-value-reads
 use Rattle.operands.proofs.first_value.Met as first-value-met
 use Rattle.operands.proofs.first_value.Symbol as first-value-symbol
-use Rattle.edges.proofs.operate.Reads as operate-reads
-use Rattle.edges.proofs.operate.Met as operate-met
-use Rattle.edges.proofs.operate.Symbol as operate-symbol
+use Rattle.operators.proofs.operate.Reads as operate-reads
+use Rattle.operators.proofs.operate.Met as operate-met
+use Rattle.operators.proofs.operate.Symbol as operate-symbol
 use Rattle.pending_text.proofs.push_tilde.Reads as push-tilde-reads
 use Rattle.pending_text.proofs.push_tilde.Met as push-tilde-met
 use Rattle.pending_text.proofs.push_tilde.Symbol as push-tilde-symbol
@@ -82,7 +82,7 @@ module _ {M : Type 1} where
       Written.close 10 self.ps self.r self.Ghost self.requires self.ensures self.pre-read self.Pinned self.Owned self.post-read record { M = M; 𝓤 = 𝓤; H = H; 𝓜 = 𝓜; 𝓖 = 𝓖; 𝓡 = 𝓡 } code.env Key.name code.function (code.unfolded 𝓤 H 𝓜 𝓡)
       (λ κs a g. tt) (λ κs. self.owns κs record { M = M; 𝓤 = 𝓤; H = H; 𝓜 = 𝓜; 𝓖 = 𝓖; 𝓡 = 𝓡 }) (self.passes record { M = M; 𝓤 = 𝓤; H = H; 𝓜 = 𝓜; 𝓖 = 𝓖; 𝓡 = 𝓡 }) λ g. closed 𝓤 H (𝓖 .A) (givenOf 𝓤 H 𝓜 𝓖) (Run.Over 𝓤 H 𝓜 𝓖 𝓡 code.env)
       (first-value-reads.known record { M = M; 𝓤 = 𝓤; H = H; 𝓜 = 𝓜; 𝓖 = 𝓖; 𝓡 = 𝓡 } code.env first-value-symbol.name first-value-symbol.routine code.calls-operands·first-value (first-value-met.met 𝓤 H 𝓜 𝓖 𝓡))
-      (operate-reads.known record { M = M; 𝓤 = 𝓤; H = H; 𝓜 = 𝓜; 𝓖 = 𝓖; 𝓡 = 𝓡 } code.env operate-symbol.name operate-symbol.routine code.calls-edges·operate (operate-met.met 𝓤 H 𝓜 𝓖 𝓡))
+      (operate-reads.known record { M = M; 𝓤 = 𝓤; H = H; 𝓜 = 𝓜; 𝓖 = 𝓖; 𝓡 = 𝓡 } code.env operate-symbol.name operate-symbol.routine code.calls-operators·operate (operate-met.met 𝓤 H 𝓜 𝓖 𝓡))
       (push-tilde-reads.known record { M = M; 𝓤 = 𝓤; H = H; 𝓜 = 𝓜; 𝓖 = 𝓖; 𝓡 = 𝓡 } code.env push-tilde-symbol.name push-tilde-symbol.routine code.calls-pending-text·push-tilde (push-tilde-met.met 𝓤 H 𝓜 𝓖 𝓡))
       (progress-after-reads.known record { M = M; 𝓤 = 𝓤; H = H; 𝓜 = 𝓜; 𝓖 = 𝓖; 𝓡 = 𝓡 } code.env progress-after-symbol.name progress-after-symbol.routine code.calls-meeting·progress-after (progress-after-met.met 𝓤 H 𝓜 𝓖 𝓡))
       (texts-reads.known record { M = M; 𝓤 = 𝓤; H = H; 𝓜 = 𝓜; 𝓖 = 𝓖; 𝓡 = 𝓡 } code.env texts-symbol.name texts-symbol.routine code.calls-text-walk·texts (texts-met.met 𝓤 H 𝓜 𝓖 𝓡))

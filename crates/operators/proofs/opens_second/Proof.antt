@@ -1,8 +1,8 @@
 -- What the operator gives for both values differs, or not. Assumes nothing.
 use mathlib.Core.Path.{ap₂, _∙_}
 use Rattle.theory_lists.specs.Lists.{differ}
-use Rattle.covering.proofs.opens_second.Statement.{statement}
-use Rattle.covering.proofs.opens_second.Tie as tie
+use Rattle.operators.proofs.opens_second.Statement.{statement}
+use Rattle.operators.proofs.opens_second.Tie as tie
 
 operate-requires : tie.Need-operate-requires
 operate-requires c κs = tt
