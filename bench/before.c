@@ -1,6 +1,6 @@
 /*
- * before: the time of combining by two builds of the library. For each job of rules.h, for table sizes 768 and 64, and for each operator on the first
- * two streams of "16 of 32" and "8 of 32": microseconds of the one before, of the one now, and the ratio of now to before. At the end the least, the
+ * before: the time of combining by two builds of the library. For each job of rules.h, for table sizes 768 and 64, and for each operator on the rules
+ * "16 of 32" and "8 of 32" of size 768: microseconds of the one before, of the one now, and the ratio of now to before. At the end the least, the
  * middle and the largest ratio. Both run in turns on the same memory, the first of a turn alternates, and the best run of each counts. A job that
  * takes longer than a second is skipped. Before that, it is tested that both write the same bytes.
  */

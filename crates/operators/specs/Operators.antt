@@ -9,6 +9,8 @@ use lib.Dec.{eqb}
 use Rattle.theory_lists.specs.Lists.{differ}
 use Rattle.theory_writing.specs.Run.{digitAt, operate}
 
+-- ---- Whether a decision counts ---------------------------------------------------------------
+
 -- the results differ for the two decisions of the first input, beside the decision d of the second; likewise of the second
 abbrev pub opensFirst : ℕ → Bool → Bool
 opensFirst op d = differ (operate op (false ∷ d ∷ [])) (operate op (true ∷ d ∷ []))
@@ -16,13 +18,15 @@ opensFirst op d = differ (operate op (false ∷ d ∷ [])) (operate op (true ∷
 abbrev pub opensSecond : ℕ → Bool → Bool
 opensSecond op d = differ (operate op (d ∷ false ∷ [])) (operate op (d ∷ true ∷ []))
 
--- digit d of an operator's number
-abbrev pub digitOf : ℕ → ℕ → Bool
-digitOf op d = eqb (op / 2 ^ d % 2) 1
+-- ---- The cases -------------------------------------------------------------------------------
 
--- the operator whose number ends as k, by the digits of k
+-- binary digit d of a number
+abbrev binaryDigit : ℕ → ℕ → Bool
+binaryDigit k d = eqb (k / 2 ^ d % 2) 1
+
+-- a line of results, 11 to 00, is right if it has the last four digits of the operator's number, k
 pub by-digits : (k op : ℕ) (a b : Bool) → op % 16 ≡ k
-    → cond a (cond b (digitOf k 3) (digitOf k 2)) (cond b (digitOf k 1) (digitOf k 0)) ≡ operate op (a ∷ b ∷ [])
+    → cond a (cond b (binaryDigit k 3) (binaryDigit k 2)) (cond b (binaryDigit k 1) (binaryDigit k 0)) ≡ operate op (a ∷ b ∷ [])
 unfolding operate digitAt
 by-digits k op true true e = let same : k / 8 % 2 ≡ op / 8 % 2 = omega (arith, e) in ap (λ (d : ℕ). eqb d 1) same
 by-digits k op true false e = let same : k / 4 % 2 ≡ op / 4 % 2 = omega (arith, e) in ap (λ (d : ℕ). eqb d 1) same

@@ -1,4 +1,5 @@
--- Each case by the digits of its number. Assumes nothing.
+-- The results of each case are the digits of its number; the last case has the one number below 16 that no other has.
+-- Assumes nothing.
 use mathlib.Core.Path.{_∙_}
 use Prim.Native.Nat.{_%_}
 use native.Mathlib.Omega.{arith}
@@ -100,7 +101,42 @@ result-requires-16 : tie.Need-result-requires-16
 result-requires-16 c κs = tt
 
 returns-16 : tie.Need-returns-16
-returns-16 c = let a = c .before .before .args in c .result16 .ensures ∙ by-digits 15 (a .op) (a .a) (a .b) (omega (arith, past-cases (a .op % 16) 15 (c .before .match .rest)))
+returns-16 c = let a = c .before .before .args in c .result16 .ensures
+    ∙ by-digits 15 (a .op) (a .a) (a .b) (omega (arith, past-cases (a .op % 16) 15 (c .before .match .rest)))
 
 pub operate-spec : {M : Type 1} → statement M
-operate-spec = tie.close (tie.spec result-requires result-requires-2 result-requires-3 result-requires-4 result-requires-5 result-requires-6 result-requires-7 result-requires-8 result-requires-9 result-requires-10 result-requires-11 result-requires-12 result-requires-13 result-requires-14 result-requires-15 result-requires-16 returns returns-2 returns-3 returns-4 returns-5 returns-6 returns-7 returns-8 returns-9 returns-10 returns-11 returns-12 returns-13 returns-14 returns-15 returns-16)
+operate-spec =
+    tie.close
+    (tie.spec
+    result-requires
+    result-requires-2
+    result-requires-3
+    result-requires-4
+    result-requires-5
+    result-requires-6
+    result-requires-7
+    result-requires-8
+    result-requires-9
+    result-requires-10
+    result-requires-11
+    result-requires-12
+    result-requires-13
+    result-requires-14
+    result-requires-15
+    result-requires-16
+    returns
+    returns-2
+    returns-3
+    returns-4
+    returns-5
+    returns-6
+    returns-7
+    returns-8
+    returns-9
+    returns-10
+    returns-11
+    returns-12
+    returns-13
+    returns-14
+    returns-15
+    returns-16)
