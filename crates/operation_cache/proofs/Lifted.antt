@@ -1,4 +1,4 @@
 -- Generated: what callers cite of the lifted functions.
--- From 8cf683678002cdef, as 8679b6adab29903c.
+-- From adaa5a0209ff7d92, as 8679b6adab29903c.
 pub mod recall_entry
 pub mod recall

@@ -1,5 +1,5 @@
 -- Generated: what callers cite of read_on.
--- From 523b31a005367028, as ab06fa62ef1bb76b.
+-- From 8f58ebd3b609e810, as ab06fa62ef1bb76b.
 use Rattle.blocks.proofs.Block
 use Rattle.blocks.proofs.Block.Laws
 use Rattle.node_records.proofs.Tables.NodeRecord as NodeRecordT

@@ -1,5 +1,5 @@
 -- Generated: what callers cite of second_operand.
--- From 523b31a005367028, as 4c8ac3d5a9a46877.
+-- From 8f58ebd3b609e810, as 4c8ac3d5a9a46877.
 use Rattle.blocks.proofs.Block
 use Rattle.blocks.proofs.Block.Laws
 use Rattle.node_records.proofs.Tables.NodeRecord as NodeRecordT

@@ -1,5 +1,5 @@
 -- Generated: the derivation of a body.
--- From 06f934e7881b1c65, as dd2347f865cfbfc3.
+-- From 51352d5221f0833f, as dd2347f865cfbfc3.
 use Prim.Native.Nat
 use Rattle.node_records.proofs.Tables.NodeRecord as NodeRecordT
 use borrow.Author.Called

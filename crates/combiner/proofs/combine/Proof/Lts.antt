@@ -1,5 +1,5 @@
 -- Generated: the derivation of a body.
--- From 06f934e7881b1c65, as dc715953736c98c6.
+-- From 51352d5221f0833f, as dc715953736c98c6.
 use Prim.Native.Nat
 use Rattle.answers.proofs.Refusal
 use Rattle.answers.proofs.Refusal.Laws

@@ -1,5 +1,5 @@
 -- Generated: the needs of combine at its contract, and how its theorem closes.
--- From 06f934e7881b1c65, as d654268e01b4ad44.
+-- From 51352d5221f0833f, as d654268e01b4ad44.
 use borrow.Fn.Run
 use borrow.Fn.Written
 use contract.Running.{givenOf, tablesOf}

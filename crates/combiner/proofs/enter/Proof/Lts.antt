@@ -1,5 +1,5 @@
 -- Generated: the derivation of a body.
--- From 06f934e7881b1c65, as bba38df7ae298368.
+-- From 51352d5221f0833f, as bba38df7ae298368.
 use Prim.Native.Nat
 use Rattle.blocks.proofs.Block
 use Rattle.blocks.proofs.Block.Laws

@@ -1,5 +1,5 @@
 -- Generated: the needs of begin at its contract, and how its theorem closes.
--- From 523b31a005367028, as 8d2e4e2671df3641.
+-- From 8f58ebd3b609e810, as 8d2e4e2671df3641.
 use borrow.Fn.Run
 use borrow.Fn.Written
 use contract.Running.{givenOf, tablesOf}

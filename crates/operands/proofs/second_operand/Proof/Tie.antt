@@ -1,5 +1,5 @@
 -- Generated: the needs of second_operand at its contract, and how its theorem closes.
--- From 523b31a005367028, as 912b364618091f89.
+-- From 8f58ebd3b609e810, as 912b364618091f89.
 use borrow.Fn.Run
 use borrow.Fn.Written
 use contract.Running.{givenOf, tablesOf}

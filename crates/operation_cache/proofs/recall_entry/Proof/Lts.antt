@@ -1,5 +1,5 @@
 -- Generated: the derivation of a body.
--- From 8cf683678002cdef, as 002013efa22205dc.
+-- From adaa5a0209ff7d92, as 002013efa22205dc.
 use Prim.Native.Nat
 use Rattle.meeting.proofs.Half
 use Rattle.meeting.proofs.Half.Laws
