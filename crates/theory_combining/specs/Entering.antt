@@ -1,6 +1,6 @@
 -- HOW AN INPUT ENTERS A RUN: at the terminal, if the operator does not ask it; at its outermost node, if its table has that; else at the first
 -- block of its text. So the run of two streams without a fault, whatever words it covers. Assumes nothing.
-use mathlib.Core.Path.{_≡_, refl, sym, ap, ap₂, _∙_, subst, subst⁻¹}
+use mathlib.Core.Path.{_≡_, refl, ap, ap₂, _∙_, subst, subst⁻¹}
 use mathlib.Core.Bool.{Bool, true, false, cond, not, _&&_}
 use mathlib.Core.List.{List, [], _∷_}
 use mathlib.Core.Option.{none}
