@@ -1,5 +1,5 @@
--- One law for each way through code that stands at edges: the operator, the edge at a half of a part, what terminals fix, and where an
--- input settles. Assumes nothing.
+-- One law for each way through code that stands at edges: what terminals fix, the edge at a half of a part, and where an input settles.
+-- Assumes nothing.
 use mathlib.Core.Path.{_≡_, refl, sym, ap, ap₂, _∙_}
 use mathlib.Core.Bool.{Bool, true, false, cond, not, _&&_, _||_}
 use mathlib.Core.List.{List, [], _∷_}
@@ -15,7 +15,7 @@ use Rattle.node_records.specs.Edges.{firstEdge, secondEdge}
 use Rattle.node_records.specs.declared.Edge.{Edge}
 use Rattle.node_records.specs.declared.NodeRecord.{NodeRecord}
 
--- ---- The operator ----------------------------------------------------------------------------
+-- ---- What terminals fix ----------------------------------------------------------------------
 
 -- whether the decision of an input counts, asked at no and yes
 either-way : (f : Bool → Bool) (c : Bool) → differ (f false) (f true) ≡ differ (f c) (f (not c))
