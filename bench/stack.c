@@ -1,6 +1,6 @@
 /*
- * stack: how much stack each call of rule.h takes, at its worst on the inputs tried here; for combining and fixing also by option count, so that what is
- * not there at n 0 (n 1 for fixing) is the share of the levels. Counted is all below the frame that calls: arguments, return address, and what the call itself takes.
+ * stack: how much stack each call of rule.h takes, at its worst on the inputs tried here; for combining also by option count, so that what is not
+ * there at n 0 is the share of the levels. Counted is all below the frame that calls: arguments, return address, and what the call itself takes.
  *
  * A call runs in a process of its own on a stack that was painted; the deepest byte that changed is how far it went. It is painted twice, with
  * different bytes, since a byte may be written that is like the paint. A call that is not done in 20 milliseconds is ended, and what it took so far
@@ -40,7 +40,7 @@ static rule_node table3[RULE_RECORDS];
 static uint8_t output[ROOM], truths[1 << 13];
 
 /* What the calls below take. */
-static uint32_t n, op, size, option, mode;
+static uint32_t n, op, size;
 static uint64_t word;
 static size_t room;
 static text stream1, stream2;
@@ -88,11 +88,6 @@ static void combine_once(void)
 {
     rule_combine(n, op, size, stream1.bytes, stream1.length, stream2.bytes, stream2.length, output, room, table1, RULE_RECORDS, table2, RULE_RECORDS,
                  table3, RULE_RECORDS);
-}
-
-static void fix_once(void)
-{
-    rule_fix(n, option, mode, size, stream1.bytes, stream1.length, output, room, table1, RULE_RECORDS, table2, RULE_RECORDS, table3, RULE_RECORDS);
 }
 
 static void begin_once(void)
@@ -348,45 +343,22 @@ static depth over_pairs(void)
     return worst;
 }
 
-/* Those that are not cut, with the first, the middle and the last option. */
-static depth over_options(void)
+static void show_levels(void)
 {
-    static const uint32_t sizes[] = {0, 3, RULE_RECORDS};
-    const uint32_t options[] = {1, (n + 1) / 2, n};
-    depth worst = {0, 0, 0};
-    size_t i, k, s;
-    for (i = 0; i < STREAMS; i += 2)
-        for (k = 0; k < 3; k++)
-            for (s = 0; s < 3; s++)
-                for (mode = 0; mode < 4; mode++) {
-                    make(&stream1, i);
-                    option = options[k];
-                    size = sizes[s];
-                    room = ROOM;
-                    measure(&worst, fix_once);
-                }
-    return worst;
-}
-
-/* By option count, from the least on that the call takes. */
-static void show_levels(const char *call, depth (*over)(void), uint32_t least)
-{
-    static const uint32_t counts[] = {8, 16, 24, 32};
-    depth fewest;
-    char name[40];
+    static const uint32_t counts[] = {0, 8, 16, 24, 32};
+    depth none = {0, 0, 0};
     size_t i;
-    n = least;
-    fewest = over();
-    snprintf(name, sizeof name, "%s, n %u", call, (unsigned)n);
-    show(name, fewest);
-    for (i = 0; i < 4; i++) {
+    for (i = 0; i < 5; i++) {
+        char name[40];
         depth d;
         n = counts[i];
-        d = over();
-        snprintf(name, sizeof name, "%s, n %u", call, (unsigned)n);
+        d = over_pairs();
+        snprintf(name, sizeof name, "rule_combine, n %u", (unsigned)n);
         show(name, d);
-        printf("%-20s %6zu bytes more than with n %u, %.0f for each level\n", "", d.bytes - fewest.bytes, (unsigned)least,
-               (double)(d.bytes - fewest.bytes) / (n - least));
+        if (i == 0)
+            none = d;
+        else
+            printf("%-20s %6zu bytes more than with n 0, %.0f for each level\n", "", d.bytes - none.bytes, (double)(d.bytes - none.bytes) / n);
     }
 }
 
@@ -407,7 +379,6 @@ int main(void)
     show("rule_begin", beginning);
     n = 32;
     show("rule_step, n 32", over_streams(step_all));
-    show_levels("rule_combine", over_pairs, 0);
-    show_levels("rule_fix", over_options, 1);
+    show_levels();
     return 0;
 }

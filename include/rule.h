@@ -1,12 +1,12 @@
 /*
  * Option rules as decision streams: checking a stream, deciding one word, finding the next admitted word, filling a truth table, writing the stream of
- * a truth table, combining two streams by an operator, fixing an option of a rule, and reading a stream element by element.
+ * a truth table, combining two streams by an operator, and reading a stream element by element.
  *
  * A stream is the table size, one LF, an optional `~`, one node, and `.` as last byte. A stream without its point is cut; it is taken like any
  * other and covers fewer words. n is the option count, 0 to 32; words run from 0 to 2^n - 1, and option 1 has weight 2^(n-1).
  *
- * Libraries. libfirmware.a has rule_check, rule_decide, rule_next and rule_fill; libstepping.a has rule_begin and rule_step; libdesk.a has rule_write,
- * rule_combine and rule_fix. Each stands alone, and all can be linked together. They are proved, and want nothing of the C library but memcpy and memset.
+ * Libraries. libfirmware.a has rule_check, rule_decide, rule_next and rule_fill; libstepping.a has rule_begin and rule_step; libdesk.a has rule_write
+ * and rule_combine. Each stands alone, and all can be linked together. They are proved, and want nothing of the C library but memcpy and memset.
  *
  * Memory. The caller lends all of it and keeps it: the library allocates nothing, keeps nothing between calls and no pointer after one, and has
  * no state, so calls on different memory may run at the same time. Lent pieces must not overlap, but the same stream may be lent twice for combining,
@@ -35,7 +35,7 @@ extern "C" {
  *
  * An output is where a stream is written, from its first byte on. Bytes beyond those written keep their content.
  *
- * A work table has at least RULE_RECORDS records, aligned as uint32_t is. On return from a call that was refused for one of causes 1 to 6 or 14 it is as
+ * A work table has at least RULE_RECORDS records, aligned as uint32_t is. On return from a call that was refused for one of causes 1 to 6 it is as
  * it was. On every other return all its records are zero, those beyond RULE_RECORDS too.
  */
 
@@ -76,16 +76,15 @@ typedef struct {
 /* ---- Why a call is refused */
 
 /*
- * `cause` is RULE_DONE if the call is not refused. Causes 1 to 6 and 14 lie in the call; they are tested first, in this order, 14 right after 1, as far as
- * the call has them, and name stream 0, byte 0. Causes 7 to 13 lie in a stream; they name that stream, 1 or 2 (1 if the call has only one), and the place
- * of the fault in it, counted from 0. A fault in stream 1 counts before one in stream 2; in a stream the lowest place counts, and there the lower number.
- * Cause 15 is tested after all others of its stream; it names the stream and, as the byte, the stream's length.
+ * `cause` is RULE_DONE if the call is not refused. Causes 1 to 6 lie in the call; they are tested first, in this order, as far as the call has
+ * them, and name stream 0, byte 0. Causes 7 to 13 lie in a stream; they name that stream, 1 or 2 (1 if the call has only one), and the place of the
+ * fault in it, counted from 0. A fault in stream 1 counts before one in stream 2; in a stream the lowest place counts, and there the lower number.
  * `stream` and `byte` are 0 if the call is not refused; all that follows them in an answer is 0 if it is.
  */
 enum {
     RULE_DONE = 0,
     RULE_OPTION_COUNT = 1,  /* n above 32; for a truth table, n not 3 to 16 */
-    RULE_OPERATOR = 2,      /* operator above 15; for fixing an option, mode above 3 */
+    RULE_OPERATOR = 2,      /* operator above 15 */
     RULE_SIZE_TO_WRITE = 3, /* size to write above RULE_RECORDS */
     RULE_WORK_TABLE = 4,    /* a work table under RULE_RECORDS records */
     RULE_WORD = 5,          /* word 2^n or more */
@@ -96,9 +95,7 @@ enum {
     RULE_NOT_IN_TABLE = 10, /* number not in the table: its first digit */
     RULE_OTHER_LEVEL = 11,  /* number at another level: its first digit */
     RULE_NOT_STORABLE = 12, /* storing barred by a child, or `(A)` of a temporary A: the `:` or `)` */
-    RULE_BAD_NUMBER = 13,   /* number to store 0, above the size, a child of a stored node or its own child: its first digit */
-    RULE_OPTION = 14,       /* option 0 or above n */
-    RULE_NO_POINT = 15      /* a stream without faults but without its point, where a cut one is not taken: its length */
+    RULE_BAD_NUMBER = 13    /* number to store 0, above the size, a child of a stored node or its own child: its first digit */
 };
 
 /* ---- Checking */
@@ -176,13 +173,13 @@ rule_filled rule_fill(uint32_t n, const uint8_t *stream, size_t stream_bytes, ui
 
 /*
  * All of the stream is written; the streams to combine don't cover all words, and the beginning that their later bytes can't change is written; the
- * output is too short for what there is to write. Writing the stream of a truth table and fixing an option never end as the second says.
+ * output is too short for what there is to write. Writing the stream of a truth table never ends as the second says.
  */
 enum { RULE_WHOLE = 0, RULE_INPUT_ENDED = 1, RULE_OUTPUT_FULL = 2 };
 
 /*
  * How many bytes are written, the covered count, and how it ended; `spare` is 0. The covered count does not depend on the output: it is 2^n for a
- * truth table and for fixing an option, and for combining the least word that is not settled, or 2^n.
+ * truth table, and for combining the least word that is not settled, or 2^n.
  */
 typedef struct {
     uint32_t cause, stream;
@@ -218,23 +215,6 @@ rule_written rule_write(uint32_t n, uint32_t size, const uint8_t *truths, size_t
 rule_written rule_combine(uint32_t n, uint32_t op, uint32_t size, const uint8_t *stream1, size_t stream1_bytes, const uint8_t *stream2,
                           size_t stream2_bytes, uint8_t *output, size_t output_bytes, rule_record *table1, size_t records1, rule_record *table2,
                           size_t records2, rule_node *table3, size_t records3);
-
-/* ---- Fixing an option */
-
-/* The option is no; it is yes; a word is admitted if it is with one setting of the option or the other; if it is with both. */
-enum { RULE_SET_NO = 0, RULE_SET_YES = 1, RULE_EITHER = 2, RULE_BOTH = 3 };
-
-/*
- * Fixes or forgets an option, 1 to n, of the rule of a stream: the new rule has the same n options, and its decision on a word is the one that `mode`
- * says, so that it does not depend on this option. Writes its stream with the table size `size`, 0 to RULE_RECORDS. Tests causes 1, 14, 2 (a mode above
- * RULE_BOTH), 3 and 4, then all of the stream: causes 7 to 13, and last 15, which a stream without its point has, also if it covers all words, since
- * later words are needed early. The covered count is 2^n. If the output is shorter than the stream, it gets the stream's first bytes and the ending is
- * RULE_OUTPUT_FULL; that is no refusal. If the call is refused, the output is as it was. `table1` and `table2` are for reading, `table3` is for writing:
- * each of RULE_RECORDS records or more. Changes nothing but the output and the tables.
- */
-rule_written rule_fix(uint32_t n, uint32_t option, uint32_t mode, uint32_t size, const uint8_t *stream, size_t stream_bytes, uint8_t *output,
-                      size_t output_bytes, rule_record *table1, size_t records1, rule_record *table2, size_t records2, rule_node *table3,
-                      size_t records3);
 
 /* ---- Reading element by element */
 

@@ -14,7 +14,7 @@ use Rattle.theory_writing.specs.Texts.{tilde_if}
 use Rattle.theory_writing.specs.Run.{operate}
 use Rattle.theory_engine.specs.Pending.{Waiting, push_all, wait_in}
 use Rattle.theory_engine.specs.Engine as E
-use Rattle.theory_applying.specs.Applying.{Source, first_source, second_source, passes, start_in, start_of, start_values, all_alike, fixed}
+use Rattle.theory_applying.specs.Applying.{Source, first_source, second_source, passes, all_pass, fixed}
 use Rattle.theory_applying.specs.Memo.{key_of, tells, is_empty, is_young, told_half, remember_in, slot_of, entry_for, look_up_in}
 use Rattle.theory_applying.specs.MemoCorrect.{key-pair}
 use Rattle.theory_applying.specs.Recalling.{Recalled, unnoted, recall_in}
@@ -29,15 +29,15 @@ use Rattle.meeting.specs.declared.Progress.{Progress}
 use Rattle.meeting.specs.declared.Walked.{Walked}
 use Rattle.edges.specs.Abstraction.{edge_in}
 use Rattle.edges.specs.declared.TableEdge.{TableEdge}
-use Rattle.operation_cache.specs.Abstraction.{mark_in, key_cells, holds, tells_by, noted_by}
+use Rattle.operation_cache.specs.Abstraction.{key_cells, holds, tells_by, noted_by}
 use Rattle.operation_cache.specs.declared.Key.{Key}
 use Rattle.operation_cache.specs.declared.Told.{Told}
 use Rattle.applier.specs.Abstraction.{recalled_of, applied}
 use Rattle.node_records.specs.declared.WriterRecord.{WriterRecord}
 
--- two inputs at their edges; the option of level ℓ, none if that is 0, is fixed: not set in the first, set in the second
-abbrev pub pair : ℕ → TableEdge → List NodeRecord → TableEdge → List NodeRecord → List Source
-pair ℓ x t y u = edge_in ℓ false x t ∷ edge_in ℓ true y u ∷ []
+-- two inputs at their edges
+abbrev pub pair : TableEdge → List NodeRecord → TableEdge → List NodeRecord → List Source
+pair x t y u = edge_in x t ∷ edge_in y u ∷ []
 
 -- ---- What code reads of an edge --------------------------------------------------------------
 
@@ -49,8 +49,8 @@ module _ (x : TableEdge) (t : List NodeRecord) (r : NodeRecord) (read : r ≡ ge
   same-stamp : r.stamp ≡ stamp (table_of t x.size) x.number
   same-stamp = ap (λ (n : Node). n.stamp) same-node
 
-  same-passes : (ℓ : ℕ) (v : Bool) (i : ℕ) → (eqb x.number 0 || ltb i r.level) ≡ passes i (edge_in ℓ v x t)
-  same-passes ℓ v i = ap (λ (n : Node). eqb x.number 0 || ltb i n.level) same-node
+  same-passes : (i : ℕ) → (eqb x.number 0 || ltb i r.level) ≡ passes i (edge_in x t)
+  same-passes i = ap (λ (n : Node). eqb x.number 0 || ltb i n.level) same-node
 
 -- ---- What is asked ---------------------------------------------------------------------------
 
@@ -103,20 +103,20 @@ applied-within op size d i m xs μ t out w progress h k =
     (recall_in slot_of (operate op) size d i m xs μ t out w progress)) (ap₂ ◌||◌ (le-ltb option_limit d h) (le-ltb level_limit i k)))
 
 -- a part of e options, d + 1 of them; r₁, r₂: the records of the inputs' numbers, k: its key, s: the place of that
-module _ (op size ℓ d i m : ℕ) (x y : TableEdge) (t₁ t₂ : List NodeRecord) (μ : List (List ℕ)) (t : List WriterRecord) (out w : List ℕ) (progress : E.Progress) (e : ℕ) (n : e ≡ suc d)
-    (open' : fixed (operate op) (pair ℓ x t₁ y t₂) ≡ false) (r₁ r₂ : NodeRecord) (read₁ : r₁ ≡ get_in t₁ x.size x.number)
+module _ (op size d i m : ℕ) (x y : TableEdge) (t₁ t₂ : List NodeRecord) (μ : List (List ℕ)) (t : List WriterRecord) (out w : List ℕ) (progress : E.Progress) (e : ℕ) (n : e ≡ suc d)
+    (open' : fixed (operate op) (pair x t₁ y t₂) ≡ false) (r₁ r₂ : NodeRecord) (read₁ : r₁ ≡ get_in t₁ x.size x.number)
     (read₂ : r₂ ≡ get_in t₂ y.size y.number) (k : Key)
-    (keyed : key_cells k ≡ x.number ∷ r₁.stamp ∷ mark_in ℓ x.complement ∷ y.number ∷ r₂.stamp ∷ mark_in ℓ y.complement ∷ []) (s : ℕ)
+    (keyed : key_cells k ≡ x.number ∷ r₁.stamp ∷ bit x.complement ∷ y.number ∷ r₂.stamp ∷ bit y.complement ∷ []) (s : ℕ)
     (placed : s ≡ slot_of (key_cells k)) (g : Told) (told : tells_by g (get_or μ s []) k i t) where
   abbrev xs : List Source
-  xs = pair ℓ x t₁ y t₂
+  xs = pair x t₁ y t₂
 
   abbrev whole : Recalled
   whole = recall_in slot_of (operate op) size e i m xs μ t out w progress
 
   key-cells : key_cells k ≡ key_of xs
   key-cells =
-      keyed ∙ ap₂ (λ (a b : ℕ). x.number ∷ a ∷ mark_in ℓ x.complement ∷ y.number ∷ b ∷ mark_in ℓ y.complement ∷ []) (same-stamp x t₁ r₁ read₁)
+      keyed ∙ ap₂ (λ (a b : ℕ). x.number ∷ a ∷ bit x.complement ∷ y.number ∷ b ∷ bit y.complement ∷ []) (same-stamp x t₁ r₁ read₁)
       (same-stamp y t₂ r₂ read₂)
 
   place : s ≡ slot_of (key_of xs)
@@ -129,21 +129,21 @@ module _ (op size ℓ d i m : ℕ) (x y : TableEdge) (t₁ t₂ : List NodeRecor
   same-tells : (r : List ℕ) → (holds r k && is_young r t) ≡ tells r xs t
   same-tells r =
       and_assoc (not (is_empty r)) _ (is_young r t)
-      ∙ ap (λ (b : Bool). not (is_empty r) && (b && is_young r t)) (fits (key_cells k) key-cells ∙ sym (key-pair r (edge_in ℓ false x t₁) (edge_in ℓ true y t₂)))
+      ∙ ap (λ (b : Bool). not (is_empty r) && (b && is_young r t)) (fits (key_cells k) key-cells ∙ sym (key-pair r (edge_in x t₁) (edge_in y t₂)))
     where
       fits : (z : List ℕ) → z ≡ key_of xs
           → (eqb (get_or r 3 0) (get_or z 0 0) && (eqb (get_or r 4 0) (get_or z 1 0) && (eqb (get_or r 5 0) (get_or z 2 0)
           && (eqb (get_or r 6 0) (get_or z 3 0) && (eqb (get_or r 7 0) (get_or z 4 0) && eqb (get_or r 8 0) (get_or z 5 0))))))
-          ≡ (eqb (get_or r 3 0) x.number && (eqb (get_or r 4 0) (stamp (table_of t₁ x.size) x.number) && (eqb (get_or r 5 0) (mark_in ℓ x.complement)
+          ≡ (eqb (get_or r 3 0) x.number && (eqb (get_or r 4 0) (stamp (table_of t₁ x.size) x.number) && (eqb (get_or r 5 0) (bit x.complement)
           && (eqb (get_or r 6 0) y.number && (eqb (get_or r 7 0) (stamp (table_of t₂ y.size) y.number) &&
-          (eqb (get_or r 8 0) (mark_in ℓ y.complement) && true))))))
+          (eqb (get_or r 8 0) (bit y.complement) && true))))))
       fits z h =
           ap (λ (z : List ℕ). eqb (get_or r 3 0) (get_or z 0 0) && (eqb (get_or r 4 0) (get_or z 1 0) && (eqb (get_or r 5 0) (get_or z 2 0)
           && (eqb (get_or r 6 0) (get_or z 3 0) && (eqb (get_or r 7 0) (get_or z 4 0) && eqb (get_or r 8 0) (get_or z 5 0)))))) h
           ∙ ap (λ (b : Bool). eqb (get_or r 3 0) x.number && (eqb (get_or r 4 0) (stamp (table_of t₁ x.size) x.number) &&
-          (eqb (get_or r 5 0) (mark_in ℓ x.complement)
+          (eqb (get_or r 5 0) (bit x.complement)
           && (eqb (get_or r 6 0) y.number && (eqb (get_or r 7 0) (stamp (table_of t₂ y.size) y.number) && b)))))
-          (and_none (eqb (get_or r 8 0) (mark_in ℓ y.complement)))
+          (and_none (eqb (get_or r 8 0) (bit y.complement)))
 
   entry-same : get_or μ s [] ≡ entry_for slot_of μ xs
   entry-same = ap (λ (s : ℕ). get_or μ s []) place
@@ -160,11 +160,11 @@ module _ (op size ℓ d i m : ℕ) (x y : TableEdge) (t₁ t₂ : List NodeRecor
 
   -- it does not; x₁, y₁: the edges at the first half, p: what waits before it, a: what it came to
   module _ (untold : g.known ≡ false) (x₁ y₁ : TableEdge) (p : Waiting) (a : Recalled)
-      (first₁ : (t : List NodeRecord) → r₁ ≡ get_in t x.size x.number → edge_in ℓ false x₁ t ≡ first_source i (edge_in ℓ false x t))
-      (first₂ : (t : List NodeRecord) → r₂ ≡ get_in t y.size y.number → edge_in ℓ true y₁ t ≡ first_source i (edge_in ℓ true y t))
+      (first₁ : (t : List NodeRecord) → r₁ ≡ get_in t x.size x.number → edge_in x₁ t ≡ first_source i (edge_in x t))
+      (first₂ : (t : List NodeRecord) → r₂ ≡ get_in t y.size y.number → edge_in y₁ t ≡ first_source i (edge_in y t))
       (pushed : p ≡ push_all w m (opener ∷ []))
-      (walked : a ≡ recall_in slot_of (operate op) size d (i + 1) p.count (pair ℓ x₁ t₁ y₁ t₂) μ t out p.bytes progress) where
-    went : pair ℓ x₁ t₁ y₁ t₂ ≡ first_source i (edge_in ℓ false x t₁) ∷ first_source i (edge_in ℓ true y t₂) ∷ []
+      (walked : a ≡ recall_in slot_of (operate op) size d (i + 1) p.count (pair x₁ t₁ y₁ t₂) μ t out p.bytes progress) where
+    went : pair x₁ t₁ y₁ t₂ ≡ first_source i (edge_in x t₁) ∷ first_source i (edge_in y t₂) ∷ []
     went = ap₂ (λ (a b : Source). a ∷ b ∷ []) (first₁ t₁ read₁) (first₂ t₂ read₂)
 
     not_looked_up : look_up_in slot_of μ xs t ≡ false
@@ -173,55 +173,43 @@ module _ (op size ℓ d i m : ℕ) (x y : TableEdge) (t₁ t₂ : List NodeRecor
     -- more was sent in the first half than the output holds
     pub pair-full : (z : E.Progress) → z ≡ a.walked.progress → z.full ≡ true → a ≡ whole
     pair-full =
-        recall-full slot_of (operate op) size d i m xs μ t out w progress e n open' not_looked_up (pair ℓ x₁ t₁ y₁ t₂) p a went pushed walked
+        recall-full slot_of (operate op) size d i m xs μ t out w progress e n open' not_looked_up (pair x₁ t₁ y₁ t₂) p a went pushed walked
 
-    -- h, z: what the first half came to, and the progress after it; b: both inputs are alike at both halves; x₂, y₂: the edges at the second half,
-    -- s₂: what the second input decides at its first word, v: what that comes to, u: the `~` between the halves; c: the second half, f: after both
-    module _ (h : E.Half) (z : E.Progress) (b : Bool) (x₂ y₂ : TableEdge) (s₂ v u : Bool) (q r : Waiting) (c : Recalled) (f : E.Walked)
+    -- h, z: what the first half came to, and the progress after it; b: both inputs pass; x₂, y₂: the edges at the second half; v: what its first
+    -- word comes to, u: the `~` between the halves; c: the second half, f: after both
+    module _ (h : E.Half) (z : E.Progress) (b : Bool) (x₂ y₂ : TableEdge) (v u : Bool) (q r : Waiting) (c : Recalled) (f : E.Walked)
         (came : h ≡ a.walked.half) (left : z ≡ a.walked.progress) (goes : z.full ≡ false)
-        (pass : b ≡ ((eqb x.number 0 || ltb i r₁.level || eqb i ℓ) && ((eqb y.number 0 || ltb i r₂.level || eqb i ℓ) && true)))
-        (second₁ : (t : List NodeRecord) → r₁ ≡ get_in t x.size x.number → edge_in ℓ false x₂ t ≡ second_source i (edge_in ℓ false x t))
-        (second₂ : (t : List NodeRecord) → r₂ ≡ get_in t y.size y.number → edge_in ℓ true y₂ t ≡ second_source i (edge_in ℓ true y t))
-        (start : s₂ ≡ start_of (i + 1) (edge_in ℓ true y₂ t₂)) (first : v ≡ operate op (x₂.complement ∷ s₂ ∷ [])) (complement : u ≡ differ h.complement v)
+        (pass : b ≡ ((eqb x.number 0 || ltb i r₁.level) && ((eqb y.number 0 || ltb i r₂.level) && true)))
+        (second₁ : (t : List NodeRecord) → r₁ ≡ get_in t x.size x.number → edge_in x₂ t ≡ second_source i (edge_in x t))
+        (second₂ : (t : List NodeRecord) → r₂ ≡ get_in t y.size y.number → edge_in y₂ t ≡ second_source i (edge_in y t))
+        (first : v ≡ operate op (x₂.complement ∷ y₂.complement ∷ [])) (complement : u ≡ differ h.complement v)
         (waited : q ≡ wait_in a.walked.waits p.count h.wrote h.skipped h.number)
         (ready : r ≡ push_all q.bytes q.count (tilde_if u)) (met : f ≡ E.second_in size i r.count u h c.walked) where
-      gone : pair ℓ x₂ t₁ y₂ t₂ ≡ second_source i (edge_in ℓ false x t₁) ∷ second_source i (edge_in ℓ true y t₂) ∷ []
+      gone : pair x₂ t₁ y₂ t₂ ≡ second_source i (edge_in x t₁) ∷ second_source i (edge_in y t₂) ∷ []
       gone = ap₂ (λ (a b : Source). a ∷ b ∷ []) (second₁ t₁ read₁) (second₂ t₂ read₂)
 
-      all_alike : b ≡ all_alike i xs
-      all_alike =
-          pass ∙ ap₂ (λ (a b : Bool). (a || eqb i ℓ) && ((b || eqb i ℓ) && true)) (same-passes x t₁ r₁ read₁ ℓ false i)
-          (same-passes y t₂ r₂ read₂ ℓ true i)
-
-      -- the option is not set in the first, which therefore begins with whether it is turned about
-      unset : (b : Bool) → false ≡ cond b false false
-      unset true = refl
-      unset false = refl
-
-      begins : v ≡ operate op (start_values (i + 1) (pair ℓ x₂ t₁ y₂ t₂))
-      begins =
-          first
-          ∙ ap₂ (λ (a b : Bool). operate op (a ∷ b ∷ []))
-          (ap (λ (b : Bool). cond b (start_in (suc ℓ - (i + 1)) (i + 1) (edge_in ℓ false x₂ t₁)) x₂.complement) (unset (eqb ℓ 0))) start
+      all_pass_lem : b ≡ all_pass i xs
+      all_pass_lem =
+          pass ∙ ap₂ (λ (a b : Bool). a && (b && true)) (same-passes x t₁ r₁ read₁ i) (same-passes y t₂ r₂ read₂ i)
 
       -- what the cache holds after both
       noted : noted_by c.memo s k (f.progress.full || b) f.half
-          ≡ cond (f.progress.full || all_alike i xs) c.memo (remember_in slot_of c.memo xs f.half)
+          ≡ cond (f.progress.full || all_pass i xs) c.memo (remember_in slot_of c.memo xs f.half)
       unfolding remember_in
       noted =
-          ap₂ (λ (b : Bool) (r : List (List ℕ)). cond (f.progress.full || b) c.memo (cond f.half.temporary c.memo r)) all_alike
+          ap₂ (λ (b : Bool) (r : List (List ℕ)). cond (f.progress.full || b) c.memo (cond f.half.temporary c.memo r)) all_pass_lem
           (ap₂ (λ (s : ℕ) (z : List ℕ). set c.memo s ((bit f.half.complement + 1) ∷ f.half.number ∷ f.half.stamp ∷ z)) place key-cells)
 
       -- the second half is walked; o: as code tests it
       pub pair-on : (o : Bool) → o ≡ (not h.temporary && b) → o ≡ false
-          → c ≡ recall_in slot_of (operate op) size d (i + 1) r.count (pair ℓ x₂ t₁ y₂ t₂) a.memo a.walked.table a.walked.output r.bytes
+          → c ≡ recall_in slot_of (operate op) size d (i + 1) r.count (pair x₂ t₁ y₂ t₂) a.memo a.walked.table a.walked.output r.bytes
           z
           → (ν : List (List ℕ)) → ν ≡ noted_by c.memo s k (f.progress.full || b) f.half
           → record { walked = f; memo = ν } ≡ whole
       pair-on o oe j l ν νe =
-          recall-on slot_of (operate op) size d i m xs μ t out w progress e n open' not_looked_up (pair ℓ x₁ t₁ y₁ t₂) p a went pushed walked h z
-          (pair ℓ x₂ t₁ y₂ t₂) v u q r c f ν came left goes gone begins complement waited ready met (νe ∙ noted)
-          (sym (oe ∙ ap (λ (b : Bool). not h.temporary && b) all_alike) ∙ j) l
+          recall-on slot_of (operate op) size d i m xs μ t out w progress e n open' not_looked_up (pair x₁ t₁ y₁ t₂) p a went pushed walked h z
+          (pair x₂ t₁ y₂ t₂) v u q r c f ν came left goes gone first complement waited ready met (νe ∙ noted)
+          (sym (oe ∙ ap (λ (b : Bool). not h.temporary && b) all_pass_lem) ∙ j) l
 
       -- it is like the first
       pub pair-again : (o : Bool) → o ≡ (not h.temporary && b) → o ≡ true
@@ -229,14 +217,14 @@ module _ (op size ℓ d i m : ℕ) (x y : TableEdge) (t₁ t₂ : List NodeRecor
           a.memo
           → record { walked = f; memo = c.memo } ≡ whole
       pair-again o oe j l =
-          recall-again slot_of (operate op) size d i m xs μ t out w progress e n open' not_looked_up (pair ℓ x₁ t₁ y₁ t₂) p a went pushed walked h z
-          (pair ℓ x₂ t₁ y₂ t₂) v u q r c f c.memo came left goes gone begins complement waited ready met
+          recall-again slot_of (operate op) size d i m xs μ t out w progress e n open' not_looked_up (pair x₁ t₁ y₁ t₂) p a went pushed walked h z
+          (pair x₂ t₁ y₂ t₂) v u q r c f c.memo came left goes gone first complement waited ready met
           (sym (ap (λ (b : Bool). cond b c.memo (remember_in slot_of c.memo xs f.half))
-          (all_true f.progress.full (all_alike i xs) (passed (not h.temporary) (all_alike i xs) alike))))
+          (all_true f.progress.full (all_pass i xs) (passed (not h.temporary) (all_pass i xs) alike))))
           alike l
         where
-          alike : (not h.temporary && all_alike i xs) ≡ true
-          alike = sym (oe ∙ ap (λ (b : Bool). not h.temporary && b) all_alike) ∙ j
+          alike : (not h.temporary && all_pass i xs) ≡ true
+          alike = sym (oe ∙ ap (λ (b : Bool). not h.temporary && b) all_pass_lem) ∙ j
 
           passed : (a b : Bool) → (a && b) ≡ true → b ≡ true
           passed true b e = e

@@ -1,5 +1,5 @@
 // Combining stored nodes: two inputs at edges of their own tables are walked together, with an operation cache of the parts that were walked.
-ghost use Rattle.std.specs.Prelude.{◌≡◌, true, false, not, ◌&&◌, [], ◌∷◌, ◌+◌, ◌≤◌};
+ghost use Rattle.std.specs.Prelude.{◌≡◌, false, not, ◌&&◌, [], ◌∷◌, ◌+◌, ◌≤◌};
 ghost use Rattle.theory_reading.specs.Limits.{option_limit, level_limit};
 ghost use Rattle.theory_writing.specs.Run.{operate};
 ghost use Rattle.theory_applying.specs.Memo.{slot_of};
@@ -8,7 +8,7 @@ ghost use Rattle.meeting.specs.Abstraction.{progress_of};
 ghost use Rattle.edges.specs.Abstraction.{edge_in};
 ghost use Rattle.applier.specs.Abstraction.{recalled_of, applied};
 
-use edges::{TableEdge, both_alike, half_edge, is_fixed, start_value};
+use edges::{TableEdge, both_pass, first_edge, is_fixed, second_edge};
 use meeting::{Half, Progress, Walked, constant, half_of, kept, numbered, progress_of, second};
 use node_records::{NodeRecord, OPTION_LIMIT, WriterRecord, differs};
 use operation_cache::{Told, key_of, note, recall, slot};
@@ -25,7 +25,7 @@ fn half_told(r: Told) -> Half
     r.half
 }
 
-// The first half came to a number or the terminal, and the second is alike: both inputs are the same there.
+// The first half came to a number or the terminal, and the second is alike: both inputs pass.
 fn is_alike(h: Half, pass: bool) -> bool
     ensures { result ≡ (not h.temporary && pass) }
 {
@@ -38,12 +38,10 @@ fn is_alike(h: Half, pass: bool) -> bool
 
 // ---- The walk
 
-// The part of level i with d options left, m bytes waiting before it; x and y: the inputs there, in the tables t1 and t2, where the option of level
-// `fixed`, none if that is 0, is not set and set; c: the operation cache.
+// The part of level i with d options left, m bytes waiting before it; x and y: the inputs there, in the tables t1 and t2; c: the operation cache.
 fn walk(
     op: u32,
     size: u32,
-    fixed: u32,
     d: u32,
     i: u32,
     m: usize,
@@ -59,7 +57,7 @@ fn walk(
 ) -> Walked
     requires { i + d ≤ option_limit + level_limit }
     ensures { recalled_of result t.new out.new w.new c.new
-        ≡ recall_in slot_of (operate op) size d i m (edge_in fixed false x t1.now ∷ edge_in fixed true y t2.now ∷ []) c.old t.old
+        ≡ recall_in slot_of (operate op) size d i m (edge_in x t1.now ∷ edge_in y t2.now ∷ []) c.old t.old
         out.old w.old (progress_of progress) }
 {
     if d == 0 {
@@ -70,7 +68,7 @@ fn walk(
     }
     let r1 = record_at(t1, x.size, x.number);
     let r2 = record_at(t2, y.size, y.number);
-    let k = key_of(fixed, x, r1.stamp, y, r2.stamp);
+    let k = key_of(x, r1.stamp, y, r2.stamp);
     let s = slot(k);
     let g = recall(c, t, s, i, k);
     let known = g.known;
@@ -80,20 +78,18 @@ fn walk(
     let e = d - 1;
     let j = i + 1;
     let p = push(w, m, b'(');
-    let x1 = half_edge(fixed, false, false, i, x, r1);
-    let y1 = half_edge(fixed, true, false, i, y, r2);
-    let a = walk(
-        op, size, fixed, e, j, p, x1, y1, t1, t2, t, out, w, c, progress,
-    );
+    let x1 = first_edge(i, x, r1);
+    let y1 = first_edge(i, y, r2);
+    let a = walk(op, size, e, j, p, x1, y1, t1, t2, t, out, w, c, progress);
     let z = progress_of(a);
     if z.full {
         return a;
     }
     let h = half_of(a);
-    let pass = both_alike(fixed, i, x.number, r1, y.number, r2);
-    let x2 = half_edge(fixed, false, true, i, x, r1);
-    let y2 = half_edge(fixed, true, true, i, y, r2);
-    let v = operate(op, x2.complement, start_value(t2, fixed, j, y2));
+    let pass = both_pass(i, x.number, r1, y.number, r2);
+    let x2 = second_edge(i, x, r1);
+    let y2 = second_edge(i, y, r2);
+    let v = operate(op, x2.complement, y2.complement);
     let u = differs(h.complement, v);
     let q = wait(w, p, h.wrote, h.skipped, h.number);
     let r = push_tilde(w, q, u);
@@ -101,18 +97,16 @@ fn walk(
         let b = kept(numbered(h.number, h.stamp, h.skipped, v, false), z);
         return second(size, i, r, u, h, b, t, out, w);
     }
-    let b = walk(op, size, fixed, e, j, r, x2, y2, t1, t2, t, out, w, c, z);
+    let b = walk(op, size, e, j, r, x2, y2, t1, t2, t, out, w, c, z);
     let both = second(size, i, r, u, h, b, t, out, w);
     note(c, s, k, pass, both);
     both
 }
 
-// COMBINING STORED NODES: a part as a rule within the option limit has it; past that nothing is walked. fixed: the level of an option that is not set in
-// the first input and set in the second, or 0
+// COMBINING STORED NODES: a part as a rule within the option limit has it; past that nothing is walked.
 pub fn apply(
     op: u32,
     size: u32,
-    fixed: u32,
     d: u32,
     i: u32,
     m: usize,
@@ -127,7 +121,7 @@ pub fn apply(
     progress: Progress,
 ) -> Walked
     ensures { recalled_of result t.new out.new w.new c.new
-        ≡ applied op size d i m (edge_in fixed false x t1.now ∷ edge_in fixed true y t2.now ∷ []) c.old t.old out.old
+        ≡ applied op size d i m (edge_in x t1.now ∷ edge_in y t2.now ∷ []) c.old t.old out.old
         w.old (progress_of progress) }
 {
     if OPTION_LIMIT < d {
@@ -136,7 +130,5 @@ pub fn apply(
     if LEVEL_LIMIT < i {
         return kept(constant(false), progress);
     }
-    walk(
-        op, size, fixed, d, i, m, x, y, t1, t2, t, out, w, c, progress,
-    )
+    walk(op, size, d, i, m, x, y, t1, t2, t, out, w, c, progress)
 }

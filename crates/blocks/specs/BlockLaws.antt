@@ -1,11 +1,11 @@
 -- The laws of reading block by block, for who combines streams: where a cursor stands as reading does, the next block begins at its covered
 -- count, and every word of it is decided by the table. Assumes nothing.
-use Rattle.std.specs.Prelude.{◌≡◌, refl, ◌⊎◌, Bool, true, false, cond, List, [], ℕ, zero, suc, ◌+◌, ◌-◌, ◌*◌, ◌<◌, ◌≤◌, ◌^◌, length}
-use Rattle.std.proofs.Common.{sym, ap, ap₂, ◌∙◌, subst, inl, inr, ⊎_elim, arith, lt-ltb}
-use Rattle.std.proofs.Math.Path.{subst⁻¹}
+use Rattle.std.specs.Prelude.{◌≡◌, refl, Bool, true, false, cond, List, [], ℕ, zero, suc, ◌+◌, ◌-◌, ◌*◌, ◌<◌, ◌≤◌, ◌^◌, length}
+use Rattle.std.proofs.Common.{sym, ap₂, ◌∙◌, subst, ⊎_elim, arith, lt-ltb}
+use Rattle.std.proofs.Math.Path.{ap}
 use Rattle.std.proofs.Math.Option.{none}
 use Rattle.theory_lists.specs.Lists.{decide-le}
-use Rattle.theory_reading.specs.Limits.{option_limit, open_limit, table_limit, word_limit}
+use Rattle.theory_reading.specs.Limits.{option_limit, open_limit, table_limit}
 use Rattle.theory_reading.specs.Nodes.{Node, node}
 use Rattle.theory_reading.specs.Reading.{State, Reading, goes, level, is_start, advance, reading}
 use Rattle.theory_reading.specs.Deciding.{Decision, undecided, decided, complemented, options, Trace, trace_on, trace, decision_of, decision}
@@ -22,7 +22,7 @@ use Rattle.reader.specs.Simulation.{child-of}
 use Rattle.work_table.specs.TableLaws.{table_of}
 use Rattle.reader.specs.Advance.{state_at, HaltsAt}
 use Rattle.reader.specs.Loop.{Stands, stands-first, stands-covered, PassedLast, Ends, ReachedBy}
-use Rattle.reader.specs.ReadOn.{first_cursor, read_from, read-called}
+use Rattle.reader.specs.ReadOn.{first_cursor, ReadTo, read_all, read-reaches, read-within}
 use Rattle.elements.specs.declared.Opens.{Opens}
 use Rattle.cursors.specs.declared.Run.{Run}
 use Rattle.reader.specs.OpenCells.{ReadReached, ReadCursor}
@@ -60,13 +60,6 @@ none-lasts t = record {
   child = λ k c e d. ap (λ (x : Node). x.stamp) (none-node t c);
 }
 
-none-back : (t : List NodeRecord) → Lasts (table_of t 0) []
-none-back t = record {
-  more = λ k. omega (arith, ap (λ (x : Node). x.stamp) (none-node t k));
-  same = λ k e. sym (none-node t k);
-  child = λ k c e d. sym (ap (λ (x : Node). x.stamp) (none-node t c));
-}
-
 -- so it is ordered
 pub none-ordered : (t : List NodeRecord) → Ordered (table_of t 0)
 none-ordered t k c l = absurd (omega (arith, l, ap (λ (x : Node). x.level) (none-node t k)))
@@ -89,27 +82,13 @@ module _ (n : ℕ) (bytes : List ℕ) (r : Run) (o : Opens) (t : List NodeRecord
       go true e = subst (λ (z : ℕ). Lasts [] (table_of t z)) (sym (h.kept.begin e)) (none-lasts t)
       go false e = lasts-refl (table_of t r.size)
 
-  stands-back : Lasts (table_of t r.size) (state_at r o t).table
-  stands-back = go (is_start (context_of r.context)) refl
-    where
-      go : (b : Bool) → is_start (context_of r.context) ≡ b → Lasts (table_of t r.size) (cond b [] (table_of t r.size))
-      go true e = subst (λ (z : ℕ). Lasts (table_of t z) []) (sym (h.kept.begin e)) (none-back t)
-      go false e = lasts-refl (table_of t r.size)
-
--- So of two places of one reading, the table of the one lasts till the other.
-pub stands-compare : (n : ℕ) (bytes : List ℕ) (r r' : Run) (o o' : Opens) (t t' : List NodeRecord) → Stands n bytes r o t → Stands n bytes r' o' t'
-    → Lasts (table_of t r.size) (table_of t' r'.size) ⊎ Lasts (table_of t' r'.size) (table_of t r.size)
-stands-compare n bytes r r' o o' t t' h h' = ⊎_elim
-    (λ (l : h.steps ≤ h'.steps). inl (on r r' o o' t t' h h' l))
-    (λ (l : h'.steps < h.steps). inr (on r' r o' o t' t h' h (omega (arith, l))))
-    (decide-le h.steps h'.steps)
-  where
-    on : (r r' : Run) (o o' : Opens) (t t' : List NodeRecord) (h : Stands n bytes r o t) (h' : Stands n bytes r' o' t') → h.steps ≤ h'.steps
-        → Lasts (table_of t r.size) (table_of t' r'.size)
-    on r r' o o' t t' h h' l =
-        lasts-trans (table_of t r.size) (state_at r o t).table (table_of t' r'.size) (stands-back n bytes r o t h)
-        (lasts-trans (state_at r o t).table (state_at r' o' t').table (table_of t' r'.size)
-        (at-lasts n bytes h.steps h'.steps (state_at r o t) (state_at r' o' t') l h.here h'.here) (stands-lasts n bytes r' o' t' h'))
+-- where reading has come to the end it stays there
+at-stays : (n : ℕ) (bytes : List ℕ) (f : ℕ) (s : State) → advance n bytes s ≡ goes s → At n bytes f s → (j g : ℕ) → g ≡ j + f
+    → At n bytes g s
+at-stays n bytes f s e h zero g i = let k : f ≡ g = omega (arith, i) in subst (λ (g : ℕ). At n bytes g s) k h
+at-stays n bytes f s e h (suc j) g i =
+    let k : suc (j + f) ≡ g = omega (arith, i) in
+    subst (λ (g : ℕ). At n bytes g s) k (at_next n bytes (j + f) s s (at-stays n bytes f s e h j (j + f) refl) e)
 
 -- ---- What the loop passes --------------------------------------------------------------------
 
@@ -131,9 +110,6 @@ module _ (n : ℕ) (bytes : List ℕ) (stop : ℕ) (x : ReadReached) (u : List N
     there-last : At n bytes (suc p.before) s'
     there-last = subst (λ (f : ℕ). At n bytes f s') p.last there
 
-    pub passed-last : PassedLast n bytes x.run.context reached.stands.steps stop x.from x.deep
-    passed-last = past.1
-
     -- What is passed has the stop among its words,
     pub passed-stop : (x.from ≤ stop) × (stop < x.run.covered)
     passed-stop = (p.low, past.0)
@@ -152,12 +128,12 @@ module _ (n : ℕ) (bytes : List ℕ) (stop : ℕ) (x : ReadReached) (u : List N
     passed-nested = subst (λ (d : ℕ). d ≤ n) p.depth (at_nested n bytes p.before p.state p.here)
 
     -- and it begins after some nodes of as many words.
-    pub passed-aligned : Multiple (n - x.deep) x.from
+    passed-aligned : Multiple (n - x.deep) x.from
     passed-aligned =
         subst (λ (d : ℕ). Multiple (n - d) x.from) p.depth
         (subst (Multiple (n - length p.state.place.opens)) p.covered (at_aligned n bytes p.before p.state p.here))
 
-    pub passed_later : is_start (context_of x.run.context) ≡ false
+    passed_later : is_start (context_of x.run.context) ≡ false
     passed_later = p.later
 
     -- The table after it is ordered,
@@ -217,7 +193,7 @@ module _ (n : ℕ) (bytes : List ℕ) (r : Run) (o : Opens) (t : List NodeRecord
     abbrev last : PassedLast n bytes x.run.context reached.stands.steps r.covered x.from x.deep
     last = (past n bytes r.covered x u reached e).1
 
-    -- What is passed begins at the covered count.
+    -- What is passed begins at the covered count,
     pub passed-from : x.from ≡ r.covered
     passed-from = ⊎_elim
         (λ (l : h.steps ≤ last.before). omega
@@ -230,12 +206,43 @@ module _ (n : ℕ) (bytes : List ℕ) (r : Run) (o : Opens) (t : List NodeRecord
         )))
         (decide-le h.steps last.before)
 
+    -- and the table lasts from where r stands, if it has one.
+    passed_lasts : is_start (context_of r.context) ≡ false → Lasts (table_of t r.size) (table_of u x.run.size)
+    passed_lasts later =
+        subst (λ (b : Bool). Lasts (table_of t r.size) (cond b [] (table_of u x.run.size))) last.later
+        (subst (λ (b : Bool). Lasts (cond b [] (table_of t r.size)) after.table) later (⊎_elim
+        (λ (l : h.steps ≤ reached.stands.steps). at-lasts n bytes h.steps reached.stands.steps s after l h.here reached.stands.here)
+        (λ (l : reached.stands.steps < h.steps).
+        absurd (omega (
+          arith,
+          (past n bytes r.covered x u reached e).0,
+          at-grows n bytes reached.stands.steps h.steps after s (omega (arith, l)) reached.stands.here h.here,
+        )))
+        (decide-le h.steps reached.stands.steps)))
+
   -- Where it halts without a fault, no more words are covered.
   pub halted-covers : x.halted ≡ true → (reading n bytes).fault ≡ none → (reading n bytes).state.covered ≡ r.covered
   halted-covers e clean =
       let k = subst (Ends n bytes r.covered x u reached.stands.steps) e reached.ends in
       let i = halted-all n bytes r.covered x u reached e clean in
       omega (arith, i, k.0, stands-all n bytes r o t h)
+
+  -- And the table lasts till then, if r has one.
+  halted-lasts : x.halted ≡ true → (reading n bytes).fault ≡ none → is_start (context_of r.context) ≡ false
+      → Lasts (table_of t r.size) (table_of u x.run.size)
+  halted-lasts e clean later =
+      let k = subst (Ends n bytes r.covered x u reached.stands.steps) e reached.ends in go x.faulty k.1
+    where
+      go : (b : Bool) → HaltsAt n bytes after b x.cause x.byte → Lasts (table_of t r.size) (table_of u x.run.size)
+      go true k = never-some (record { cause = cause_of x.cause; byte = x.byte })
+          (sym clean ∙ ap (λ (y : Reading). y.fault) (at-fault n bytes reached.stands.steps after (cause_of x.cause) x.byte
+          reached.stands.here k))
+      go false k =
+          lasts-trans (table_of t r.size) after.table (table_of u x.run.size)
+          (subst (λ (b : Bool). Lasts (cond b [] (table_of t r.size)) after.table) later
+          (at-lasts n bytes h.steps (h.steps + reached.stands.steps) s after (omega arith) h.here
+          (at-stays n bytes reached.stands.steps after k reached.stands.here h.steps (h.steps + reached.stands.steps) refl)))
+          (stands-lasts n bytes x.run x.opens u reached.stands)
 
 -- ---- A word's decision -----------------------------------------------------------------------
 
@@ -282,50 +289,93 @@ pub stands_read : (n : ℕ) (bytes : List ℕ) (c : ReadCursor) (t : List NodeRe
     → c.run.covered ≤ (reading n bytes).state.covered
 stands_read n bytes c t h = stands-all n bytes c.run c.opens t h
 
--- What the loop reached where it read on to a block, y, and the table after it
-pub record BlockReached (n : ℕ) (bytes : List ℕ) (stop : ℕ) (y : Next) : Type 0 where
-  pub reached : ReadReached
-  pub by : ReachedBy n bytes stop reached y.table
-  pub block : y.block ≡ block_of reached
+-- b, u: the next block of a cursor that stands where reading does, and the table after it
+module _ (n : ℕ) (bytes : List ℕ) (few : n ≤ option_limit) (c : ReadCursor) (t : List NodeRecord) (h : StandsAt n bytes c t) (b : ReadBlock)
+    (u : List NodeRecord) (called : record { block = b; table = u } ≡ next_block n bytes c t) where
+  abbrev z : ReadTo
+  z = read_all n bytes c.run.covered c.run c.opens t
 
--- So with any word as its stop that is not covered yet.
-pub reads-to : (n : ℕ) (bytes : List ℕ) → n ≤ option_limit → (c : ReadCursor) (t : List NodeRecord) → StandsAt n bytes c t → (stop : ℕ)
-    → c.run.covered ≤ stop → stop ≤ word_limit → BlockReached n bytes stop (next_of (read_from n bytes stop c t))
-reads-to n bytes few c t h stop l most =
-    record {
-      reached = (read_from n bytes stop c t).reached;
-      by = read-called n bytes few stop most c t h l (read_from n bytes stop c t).reached (read_from n bytes stop c t).table refl;
-      block = refl;
-    }
-
--- THE NEXT BLOCK of a cursor that stands where reading does
-module _ (n : ℕ) (bytes : List ℕ) (few : n ≤ option_limit) (c : ReadCursor) (t : List NodeRecord) (h : StandsAt n bytes c t) where
-  pub next-reached : BlockReached n bytes c.run.covered (next_block n bytes c t)
+  same : record { block = b; table = u } ≡ next_of z
   unfolding next_block
-  next-reached = reads-to n bytes few c t h c.run.covered (omega arith) (stands-covered n bytes few c.run c.opens t h)
+  same = called ∙ ap next_of (read-within n bytes few c.run.covered (stands-covered n bytes few c.run c.opens t h) c t h)
 
-  abbrev y : Next
-  y = next_block n bytes c t
+  same_block : b ≡ block_of z.reached
+  same_block = ap (λ (y : Next). y.block) same
 
-  abbrev z : ReadReached
-  z = next-reached.reached
+  reached : ReachedBy n bytes c.run.covered z.reached z.table
+  reached = read-reaches n bytes few c.run.covered c.run c.opens t h (omega arith)
 
   -- The cursor after it stands where reading does,
-  pub next-stands : StandsAt n bytes y.block.cursor y.table
-  next-stands = subst⁻¹ (λ (b : ReadBlock). StandsAt n bytes b.cursor y.table) next-reached.block next-reached.by.stands
+  pub next-stands : StandsAt n bytes b.cursor u
+  next-stands = subst (λ (y : Next). StandsAt n bytes y.block.cursor y.table) (sym same) reached.stands
 
   -- its table is ordered,
-  pub block-ordered : Ordered (table_of y.table y.block.cursor.run.size)
-  block-ordered = stands-ordered n bytes y.block.cursor.run y.block.cursor.opens y.table next-stands
+  pub block-ordered : Ordered (table_of u b.cursor.run.size)
+  block-ordered = stands-ordered n bytes b.cursor.run b.cursor.opens u next-stands
 
-  -- the block begins at the covered count,
-  pub block-from : y.block.halted ≡ false → y.block.from ≡ c.run.covered
-  block-from e =
-      ap (λ (b : ReadBlock). b.from) next-reached.block
-      ∙ passed-from n bytes c.run c.opens t h z y.table next-reached.by (sym (ap (λ (b : ReadBlock). b.halted) next-reached.block) ∙ e)
+  module _ (e : b.halted ≡ false) where
+    on : z.reached.halted ≡ false
+    on = sym (ap (λ (y : ReadBlock). y.halted) same_block) ∙ e
 
-  -- and where no block is left of a stream without a fault, its words are covered.
-  pub block_last : y.block.halted ≡ true → (reading n bytes).fault ≡ none → (reading n bytes).state.covered ≡ c.run.covered
-  block_last e =
-      halted-covers n bytes c.run c.opens t h z y.table next-reached.by
-      (sym (ap (λ (b : ReadBlock). b.halted) next-reached.block) ∙ e)
+    -- the block begins at the covered count,
+    pub block-from : b.from ≡ c.run.covered
+    block-from = ap (λ (y : ReadBlock). y.from) same_block ∙ passed-from n bytes c.run c.opens t h z.reached z.table reached on
+
+    -- has the words of a node inside so many open ones,
+    pub block-covers : b.cursor.run.covered ≡ b.from + 2 ^ (n - b.deep)
+    block-covers = subst (λ (y : ReadBlock). y.cursor.run.covered ≡ y.from + 2 ^ (n - y.deep)) (sym same_block)
+        (passed-covers n bytes c.run.covered z.reached z.table reached on)
+
+    -- no more than there are options,
+    pub block-deep : b.deep ≤ n
+    block-deep =
+        subst (λ (y : ReadBlock). y.deep ≤ n) (sym same_block)
+        (passed-nested n bytes c.run.covered z.reached z.table reached on)
+
+    -- after some nodes of as many words,
+    pub block-aligned : (k : ℕ) × (b.from ≡ k * 2 ^ (n - b.deep))
+    block-aligned =
+        subst (λ (y : ReadBlock). Multiple (n - y.deep) y.from) (sym same_block)
+        (passed-aligned n bytes c.run.covered z.reached z.table reached on)
+
+    -- The cursor after it has a table, which lasts from the cursor before, if that has one;
+    pub block-later : is_start (context_of b.cursor.run.context) ≡ false
+    block-later =
+        subst (λ (y : ReadBlock). is_start (context_of y.cursor.run.context) ≡ false) (sym same_block)
+        (passed_later n bytes c.run.covered z.reached z.table reached on)
+
+    pub block-lasts : is_start (context_of c.run.context) ≡ false → Lasts (table_of t c.run.size) (table_of u b.cursor.run.size)
+    block-lasts later =
+        subst (λ (y : Next). Lasts (table_of t c.run.size) (table_of y.table y.block.cursor.run.size)) (sym same)
+        (passed_lasts n bytes c.run c.opens t h z.reached z.table reached on later)
+
+    -- the block's number lies no higher than the block,
+    pub block-sits : 0 < b.number → b.deep + 1 ≤ (node (table_of u b.cursor.run.size) b.number).level
+    block-sits =
+        subst (λ (y : Next). 0 < y.block.number
+        → y.block.deep + 1 ≤ (node (table_of y.table y.block.cursor.run.size) y.block.number).level) (sym same)
+        (passed-sits n bytes c.run.covered z.reached z.table reached on)
+
+    -- and EVERY WORD OF IT is decided by the table.
+    pub block-decides : (w : ℕ) → b.from ≤ w → w < b.cursor.run.covered
+        → decision n bytes w ≡ complemented b.complement (table_walk (table_of u b.cursor.run.size) (b.deep + 1) b.number
+        (options (n - b.deep) (w - b.from)))
+    block-decides w l k =
+        subst (λ (y : Next). decision n bytes w ≡ complemented y.block.complement
+        (table_walk (table_of y.table y.block.cursor.run.size) (y.block.deep + 1) y.block.number
+        (options (n - y.block.deep) (w - y.block.from)))) (sym same)
+        (passed-decides n bytes c.run.covered z.reached z.table reached on w (omega (arith, l, ap (λ (y : ReadBlock). y.from) same_block))
+        (omega (arith, k, ap (λ (y : ReadBlock). y.cursor.run.covered) same_block)))
+
+  -- Where no block is left of a stream without a fault, its words are covered,
+  pub block_last : b.halted ≡ true → (reading n bytes).fault ≡ none → (reading n bytes).state.covered ≡ c.run.covered
+  block_last e = halted-covers n bytes c.run c.opens t h z.reached z.table reached
+      (sym (ap (λ (y : ReadBlock). y.halted) same_block) ∙ e)
+
+  -- and the table lasts too.
+  pub end-lasts : b.halted ≡ true → (reading n bytes).fault ≡ none → is_start (context_of c.run.context) ≡ false
+      → Lasts (table_of t c.run.size) (table_of u b.cursor.run.size)
+  end-lasts e clean later =
+      subst (λ (y : Next). Lasts (table_of t c.run.size) (table_of y.table y.block.cursor.run.size)) (sym same)
+      (halted-lasts n bytes c.run c.opens t h z.reached z.table reached
+      (sym (ap (λ (y : ReadBlock). y.halted) same_block) ∙ e) clean later)

@@ -1,6 +1,6 @@
 -- What the words passed last stand for, and the reading of one block. Assumes nothing.
-use Rattle.std.specs.Prelude.{◌≡◌, refl, Bool, true, false, cond, List, [], ◌∷◌, ℕ, suc, ◌+◌, ◌-◌, ◌<◌, ◌≤◌, ltb, length, get_or}
-use Rattle.std.proofs.Common.{sym, ap, ap₂, ◌∙◌, subst, add-one, arith, lt-ltb, le-ltb}
+use Rattle.std.specs.Prelude.{◌≡◌, refl, Bool, true, false, cond, List, [], ◌∷◌, ℕ, suc, ◌+◌, ◌-◌, ◌<◌, ◌≤◌, length, get_or}
+use Rattle.std.proofs.Common.{sym, ap, ap₂, ◌∙◌, subst, add-one, arith, lt-ltb}
 use Rattle.theory_lists.specs.Lists.{differ}
 use Rattle.theory_reading.specs.Limits.{open_limit}
 use Rattle.theory_reading.specs.Nodes.{Node, child}
@@ -85,27 +85,6 @@ pub next-called : (n : ℕ) (bytes : List ℕ) (c : ReadCursor) (t : List NodeRe
     ≡ next_block n bytes c t
 unfolding next_block
 next-called n bytes c t b y u k e = ap (λ (x : ReadBlock). record { block = x; table = u }) e ∙ ap next_of k
-
--- THE BLOCK THAT HAS THE WORD w, from the block b on: reads on until the word is covered
-unfoldable pub block_at : ℕ → List ℕ → ℕ → ReadBlock → List NodeRecord → Next
-unfolding read_from
-block_at n bytes w b t =
-    cond (ltb w b.cursor.run.covered) (record { block = b; table = t }) (next_of (read_from n bytes w b.cursor t))
-
--- So for a call that stays, and for one that reads on.
-pub at-stays : (n : ℕ) (bytes : List ℕ) (w : ℕ) (b : ReadBlock) (t : List NodeRecord) → w < b.cursor.run.covered
-    → record { block = b; table = t } ≡ block_at n bytes w b t
-unfolding block_at
-at-stays n bytes w b t l =
-    sym (ap (λ (u : Bool). cond u (record { block = b; table = t }) (next_of (read_from n bytes w b.cursor t))) (lt-ltb w b.cursor.run.covered l))
-
-pub at_called : (n : ℕ) (bytes : List ℕ) (w : ℕ) (b : ReadBlock) (t : List NodeRecord) (c : ReadBlock) (y : ReadReached) (u : List NodeRecord)
-    → b.cursor.run.covered ≤ w → record { reached = y; table = u } ≡ read_from n bytes w b.cursor t → c ≡ block_of y
-    → record { block = c; table = u } ≡ block_at n bytes w b t
-unfolding block_at
-at_called n bytes w b t c y u l k e =
-    ap (λ (x : ReadBlock). record { block = x; table = u }) e ∙ ap next_of k
-    ∙ sym (ap (λ (u : Bool). cond u (record { block = b; table = t }) (next_of (read_from n bytes w b.cursor t))) (le-ltb w b.cursor.run.covered l))
 
 -- ---- A word that was passed ------------------------------------------------------------------
 

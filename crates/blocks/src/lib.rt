@@ -8,7 +8,7 @@ ghost use Rattle.elements.specs.Abstraction.{open_of, opens_of, deep_of, open_li
 ghost use Rattle.node_records.specs.declared.NodeRecord.{NodeRecord};
 ghost use Rattle.work_table.specs.TableLaws.{table_of};
 ghost use Rattle.reader.specs.OpenCells.{open_in, nodes_in, opens_in, reached_in, cursor_in};
-ghost use Rattle.blocks.specs.Blocks.{edge_at, block_in, block_of, next_block, block_at};
+ghost use Rattle.blocks.specs.Blocks.{edge_at, block_in, block_of, next_block};
 ghost use Rattle.blocks.specs.Spine.{stays_in, highest_in, record_as, spine_record, worded_at, spine_at};
 ghost use Rattle.blocks.specs.Load.{rooting_in, unrooted, last_stays, can_root, last_in, pair_open, rows_in, row_count, larger, root_in};
 ghost use Rattle.blocks.specs.Load.{load_in, refused_load, load_of, load};
@@ -115,27 +115,6 @@ pub fn next_block(
 {
     let q = c.run;
     let r = read_on(n, s, t, o, c, q.covered);
-    block_of(r, o)
-}
-
-// THE BLOCK THAT HAS THE WORD w, from the block b on: reads on until the word is covered.
-pub fn block_at(
-    n: u32,
-    s: &[u8],
-    t: &mut [NodeRecord],
-    o: &mut [[u32; 4]; OPEN_LIMIT],
-    b: Block,
-    w: u64,
-) -> Block
-    ensures { record { block = block_in result o.new; table = t.new }
-        ≡ block_at n s.now w (block_in b o.old) t.old }
-{
-    let c = b.cursor;
-    let q = c.run;
-    if w < q.covered {
-        return b;
-    }
-    let r = read_on(n, s, t, o, c, w);
     block_of(r, o)
 }
 

@@ -72,8 +72,6 @@ pub fn cause_number(c: Cause) -> u32
         Cause::OtherLevel => 11,
         Cause::NotStorable => 12,
         Cause::BadNumber => 13,
-        Cause::OptionRange => 14,
-        Cause::NoPoint => 15,
     }
 }
 

@@ -1,9 +1,8 @@
 -- WHAT IS CLAIMED of each call. A statement's premise is the contract of the call, as the code's `ensures` has it: `Checks`, `Decides`, `FindsNext` and
--- `Fills` of reading's Calls, `Writes` and `Combines` of writing's, `Fixes` of its FixCall: c, the answer with all lent memory, is what the definition
--- after documents 01 and 02 gives. Three records have the three demands of document 01, with the calls of R-1 and R-5 among the others and the covered
--- count of R-3, and one each has what R-1, R-3 and R-5 ask beside them; each statement stands under a line of plain words; their values at the end prove
--- them by citation. Terms has the terms, Examples a run of each, Further what else is proved.
--- R: a record of a work table to read with, S: one of a table to write with; z, o: those that are zero.
+-- `Fills` of reading's Calls, `Writes` and `Combines` of writing's: c, the answer with all lent memory, is what the definition after documents 01 and 02
+-- gives. Three records have the three demands of document 01, with the call of R-1 among the others and the covered count of R-3, and one each has what
+-- R-1 and R-3 ask beside them; each statement stands under a line of plain words; their values at the end prove them by citation. Terms has the terms, Examples a run of each, Further
+-- what else is proved. R: a record of a work table to read with, S: one of a table to write with; z, o: those that are zero.
 -- x, y: input streams; t, u, v: work tables; out: what the output held. Assumes nothing.
 use Rattle.std.specs.Prelude.{◌≡◌, ◌⊎◌, ◌↔◌, Bool, true, false, List, [], ◌∷◌, ◌++◌, ℕ, ◌/◌, ◌%◌, ◌≤◌, ◌<◌, ◌^◌, min, length, take, get_or}
 use Rattle.std.proofs.Common.{sym, ap, ◌∙◌}
@@ -26,17 +25,13 @@ use Rattle.theory_reading.specs.CallLaws as L
 use Rattle.theory_writing.specs.Run.{outcome, run_text, whole, Answer}
 use Rattle.theory_writing.specs.Inputs.{AllMay, outcome-any, outcome-all}
 use Rattle.theory_writing.specs.Calls.{truth_at, Write, write, Writes, Combine, combine, Combines}
-use Rattle.theory_writing.specs.Fixing.{is_set, set_to}
-use Rattle.theory_writing.specs.FixCall.{fix, Fixes}
-use Rattle.claims.specs.Terms.{TurnedDown, check_lines, decide_lines, find_lines, fill_lines, write_lines, combine_lines, fix_lines}
+use Rattle.claims.specs.Terms.{TurnedDown, check_lines, decide_lines, find_lines, fill_lines, write_lines, combine_lines}
 use Rattle.claims.specs.Terms.{TableLeft, OutputLeft, Gets, Operated, Covers, ReadAs, Complete, NextIs, Lists, RisingWords}
-use Rattle.claims.specs.Terms.{Admitted, Fixed, AlikeBut, FixedTo}
 use Rattle.claims.specs.Refused as T
 use Rattle.claims.specs.LentMemory as M
 use Rattle.claims.specs.Runs as U
 use Rattle.claims.specs.NextWords as N
 use Rattle.claims.specs.SettledWords as W
-use Rattle.claims.specs.FixedRules as X
 
 -- ---- Demand 1 --------------------------------------------------------------------------------
 
@@ -45,7 +40,7 @@ use Rattle.claims.specs.FixedRules as X
 -- its contract.)
 pub record Demand1 {R S : Type 0} (z : R) (o : S) : Type 0 where
   -- Each call is refused exactly if it meets one of its causes; the first in the paper's order is named, with stream 0 and byte 0, or with the
-  -- stream, stream 1 before stream 2, and a byte inside it or, for cause 15, its length.
+  -- stream, stream 1 before stream 2, and a byte inside it.
   pub check-refused : (n : ℕ) (x : List ℕ) (t : List R) (c : Read Checked R) → Checks z n x t c
       → TurnedDown (x ∷ []) (check_lines n x (length t)) c.answer
   pub decide-refused : (n : ℕ) (x : List ℕ) (w : ℕ) (t : List R) (c : Read Verdict R) → Decides z n x w t c
@@ -58,8 +53,6 @@ pub record Demand1 {R S : Type 0} (z : R) (o : S) : Type 0 where
       → TurnedDown [] (write_lines n size truths (length v)) c.answer
   pub combine-refused : (n op size : ℕ) (x y out : List ℕ) (t u : List R) (v : List S) (c : Combine R S) → Combines z o n op size x y out t u v c
       → TurnedDown (x ∷ y ∷ []) (combine_lines n op size x y (length t) (length u) (length v)) c.answer
-  pub fix-refused : (n k mode size : ℕ) (x out : List ℕ) (t u : List R) (v : List S) (c : Combine R S) → Fixes z o n k mode size x out t u v c
-      → TurnedDown (x ∷ []) (fix_lines n k mode size x (length t) (length u) (length v)) c.answer
   -- "In a stream the lowest fault place counts, and there the lower number": the bytes before it are without fault, the cause is met there
   -- from where reading stands, and none that is met there has a lower rank.
   pub lowest-fault : (n : ℕ) (x : List ℕ) (f : Fault) → (reading n x).fault ≡ some f
@@ -77,16 +70,12 @@ pub record Demand1 {R S : Type 0} (z : R) (o : S) : Type 0 where
       → TableLeft o c.answer v c.table
   pub combine-tables : (n op size : ℕ) (x y out : List ℕ) (t u : List R) (v : List S) (c : Combine R S) → Combines z o n op size x y out t u v c
       → TableLeft z c.answer t c.first × TableLeft z c.answer u c.second × TableLeft o c.answer v c.third
-  pub fix-tables : (n k mode size : ℕ) (x out : List ℕ) (t u : List R) (v : List S) (c : Combine R S) → Fixes z o n k mode size x out t u v c
-      → TableLeft z c.answer t c.first × TableLeft z c.answer u c.second × TableLeft o c.answer v c.third
   -- A refused call leaves truth table and output as they were; another keeps their length and, in the output, the bytes beyond those written.
   pub fill-truths : (n : ℕ) (x truths : List ℕ) (t : List R) (c : Fill R) → Fills z n x truths t c
       → ((f : Refusal) → c.answer ≡ refused f → c.truths ≡ truths) × (length c.truths ≡ length truths)
   pub write-output : (n size : ℕ) (truths out : List ℕ) (v : List S) (c : Write S) → Writes o n size truths out v c
       → OutputLeft c.answer out c.output
   pub combine-output : (n op size : ℕ) (x y out : List ℕ) (t u : List R) (v : List S) (c : Combine R S) → Combines z o n op size x y out t u v c
-      → OutputLeft c.answer out c.output
-  pub fix-output : (n k mode size : ℕ) (x out : List ℕ) (t u : List R) (v : List S) (c : Combine R S) → Fixes z o n k mode size x out t u v c
       → OutputLeft c.answer out c.output
 
 -- ---- Demand 2 --------------------------------------------------------------------------------
@@ -151,27 +140,6 @@ pub record Demand2 {R S : Type 0} (z : R) (o : S) : Type 0 where
       c.answer ≡ done r
       → (w : ℕ) (p : List R) (k : Read Verdict R) → Decides z n bytes w p k → w < covered n bytes → table_limit ≤ length p
       → (d : Bool) × Operated n op x y w d × (k.answer ≡ done (verdict_of (decided d)))
-  -- FIXING OR FORGETTING option k (document 02, R-5). Whatever f is the mode taken word by word of what the stream decides, the output gets the first
-  -- bytes of its stream, as many as fit; all words are covered.
-  pub fixing-stream : (n k mode size : ℕ) (x out : List ℕ) (t u : List R) (v : List S) (r : Answer) (c : Combine R S)
-      → Fixes z o n k mode size x out t u v c
-      → c.answer ≡ done r → (f : ℕ → Bool) → ((w : ℕ) → w < 2 ^ n → Fixed n k mode x w (f w))
-      → Gets n (2 ^ n) (run_text n size (2 ^ n) f) out r c.output
-  -- The written bytes, all or not, are accepted and decide the words that they cover so.
-  pub fixing-read : (n k mode size : ℕ) (x out : List ℕ) (t u : List R) (v : List S) (r : Answer) (c : Combine R S)
-      → Fixes z o n k mode size x out t u v c
-      → c.answer ≡ done r → ReadAs n r.covered (Fixed n k mode x) (take r.written c.output)
-  -- If the ending is "whole" they are complete, and cover every word.
-  pub fixing-whole : (n k mode size : ℕ) (x out : List ℕ) (t u : List R) (v : List S) (r : Answer) (c : Combine R S)
-      → Fixes z o n k mode size x out t u v c
-      → c.answer ≡ done r → r.ending ≡ whole → Complete n (take r.written c.output)
-  -- Deciding a word that the written bytes cover answers so.
-  pub fixing-decided : (n k mode size : ℕ) (x out : List ℕ) (t u : List R) (v : List S) (r : Answer) (c : Combine R S)
-      → Fixes z o n k mode size x out t u v c
-      → let bytes = take r.written c.output in
-      c.answer ≡ done r
-      → (w : ℕ) (p : List R) (a : Read Verdict R) → Decides z n bytes w p a → w < covered n bytes → table_limit ≤ length p
-      → (d : Bool) × Fixed n k mode x w d × (a.answer ≡ done (verdict_of (decided d)))
 
 -- ---- Demand 3 --------------------------------------------------------------------------------
 
@@ -230,40 +198,10 @@ pub record Request3 {R S : Type 0} (z : R) (o : S) : Type 0 where
   -- and NOT ignores stream 2's length": it covers what stream 1 covers.
   pub second-ignored : (n : ℕ) (x y : List ℕ) → Covers n 3 x y (covered n x)
 
--- ---- Document 02, R-5 ------------------------------------------------------------------------
-
--- x: the stream that came in; bytes, b₀, b₁: what calls wrote of it, with whatever size, output and work tables (`FixedTo`).
-pub record Request5 {R S : Type 0} (z : R) (o : S) : Type 0 where
-  -- The word w with option k set to v is a word in which option k is v and every other option as in w.
-  pub option-set : (n k : ℕ) → 0 < k → k ≤ n → (v : Bool) (w : ℕ) → w < 2 ^ n
-      → (set_to n k v w < 2 ^ n) × (is_set n k (set_to n k v w) ≡ v) × AlikeBut n k (set_to n k v w) w
-  -- "the new rule's decisions don't depend on option k": words that differ in it alone are decided alike, as far as the bytes cover both
-  pub independent : (n k mode : ℕ) (x bytes : List ℕ) → FixedTo z o n k mode x bytes
-      → (w u : ℕ) → w < covered n bytes → u < covered n bytes → AlikeBut n k w u → decision n bytes w ≡ decision n bytes u
-  -- "option k set to no (mode 0)": each word that the bytes cover is decided as the stream decides it with option k no;
-  pub set-to-no : (n k : ℕ) (x bytes : List ℕ) → FixedTo z o n k 0 x bytes
-      → (w : ℕ) → w < covered n bytes → decision n bytes w ≡ decision n x (set_to n k false w)
-  -- "set to yes (1)": with yes;
-  pub set-to-yes : (n k : ℕ) (x bytes : List ℕ) → FixedTo z o n k 1 x bytes
-      → (w : ℕ) → w < covered n bytes → decision n bytes w ≡ decision n x (set_to n k true w)
-  -- "admitted with at least one setting (2)";
-  pub one-setting : (n k : ℕ) (x bytes : List ℕ) → FixedTo z o n k 2 x bytes
-      → (w : ℕ) → w < covered n bytes → Admitted n bytes w ↔ (Admitted n x (set_to n k false w) ⊎ Admitted n x (set_to n k true w))
-  -- "or with both (3)".
-  pub both-settings : (n k : ℕ) (x bytes : List ℕ) → FixedTo z o n k 3 x bytes
-      → (w : ℕ) → w < covered n bytes → Admitted n bytes w ↔ (Admitted n x (set_to n k false w) × Admitted n x (set_to n k true w))
-  -- Mode 2 is the OR 14 of modes 0 and 1, and mode 3 their AND 8, on every word that all three cover.
-  pub one-is-or : (n k : ℕ) (x b₀ b₁ bytes : List ℕ) → FixedTo z o n k 0 x b₀ → FixedTo z o n k 1 x b₁ → FixedTo z o n k 2 x bytes
-      → (w : ℕ) → w < covered n b₀ → w < covered n b₁ → w < covered n bytes
-      → (d : Bool) × (decision n bytes w ≡ decided d) × Operated n 14 b₀ b₁ w d
-  pub both-is-and : (n k : ℕ) (x b₀ b₁ bytes : List ℕ) → FixedTo z o n k 0 x b₀ → FixedTo z o n k 1 x b₁ → FixedTo z o n k 3 x bytes
-      → (w : ℕ) → w < covered n b₀ → w < covered n b₁ → w < covered n bytes
-      → (d : Bool) × (decision n bytes w ≡ decided d) × Operated n 8 b₀ b₁ w d
-
 -- ---- The proofs ------------------------------------------------------------------------------
 
 pub demand-1 : {R S : Type 0} (z : R) (o : S) → Demand1 z o
-unfolding check decide find_next fill write combine fix
+unfolding check decide find_next fill write combine
 demand-1 {R} {S} z o = record {
   check-refused = λ n x t c e. subst⁻¹ (λ (c : Read Checked R). TurnedDown (x ∷ []) (check_lines n x (length t)) c.answer) e
       (T.check-lines n x (length t));
@@ -278,9 +216,6 @@ demand-1 {R} {S} z o = record {
   combine-refused = λ n op size x y out t u v c e.
       subst⁻¹ (λ (c : Combine R S). TurnedDown (x ∷ y ∷ []) (combine_lines n op size x y (length t) (length u) (length v)) c.answer) e
       (T.combine-lines n op size x y out (length t) (length u) (length v));
-  fix-refused = λ n k mode size x out t u v c e.
-      subst⁻¹ (λ (c : Combine R S). TurnedDown (x ∷ []) (fix_lines n k mode size x (length t) (length u) (length v)) c.answer) e
-      (T.fix-lines n k mode size x out (length t) (length u) (length v));
   lowest-fault = λ n x f e. (F.fault-inside n x f e, F.fault-lowest n x f e, fault-counts n x f e);
   check-table = λ n x t c e. subst⁻¹ (λ (c : Read Checked R). TableLeft z c.answer t c.table) e (M.check-table z n x t);
   decide-table = λ n x w t c e. subst⁻¹ (λ (c : Read Verdict R). TableLeft z c.answer t c.table) e (M.decide-table z n x w t);
@@ -291,10 +226,6 @@ demand-1 {R} {S} z o = record {
       subst⁻¹ (λ (c : Combine R S). TableLeft z c.answer t c.first × TableLeft z c.answer u c.second
       × TableLeft o c.answer v c.third) e
       (M.combine-tables z o n op size x y out t u v);
-  fix-tables = λ n k mode size x out t u v c e.
-      subst⁻¹ (λ (c : Combine R S). TableLeft z c.answer t c.first × TableLeft z c.answer u c.second
-      × TableLeft o c.answer v c.third) e
-      (M.fix-tables z o n k mode size x out t u v);
   fill-truths = λ n x truths t c e.
       subst⁻¹ (λ (c : Fill R). ((f : Refusal) → c.answer ≡ refused f → c.truths ≡ truths) × (length c.truths ≡ length truths)) e
       (L.fill-refused z n x truths t, M.fill-length z n x truths t);
@@ -302,8 +233,6 @@ demand-1 {R} {S} z o = record {
       (M.write-output o n size truths out v);
   combine-output = λ n op size x y out t u v c e.
       subst⁻¹ (λ (c : Combine R S). OutputLeft c.answer out c.output) e (M.combine-output z o n op size x y out t u v);
-  fix-output = λ n k mode size x out t u v c e.
-      subst⁻¹ (λ (c : Combine R S). OutputLeft c.answer out c.output) e (M.fix-output z o n k mode size x out t u v);
 }
 
 pub demand-2 : {R S : Type 0} (z : R) (o : S) → Demand2 z o
@@ -319,20 +248,20 @@ demand-2 {R} {S} z o = record {
       × ((w : ℕ) → w < 2 ^ n → get_or c.truths (w / 8) 0 / 2 ^ (w % 8) % 2 ≡ digit_of (verdict_of (decision n x w)))) e (M.filled z n x truths t r);
   writing-stream = λ n size truths out v r c e.
       subst⁻¹ (λ (c : Write S). c.answer ≡ done r → Gets n (2 ^ n) (run_text n size (2 ^ n) (truth_at truths)) out r c.output) e
-      (λ a. U.wrote-gets n size (truth_at truths) out r _ (U.wrote o n size truths out v r a));
+      (λ a. U.wrote-gets n size truths out r _ (U.wrote o n size truths out v r a));
   writing-read = λ n size truths out v r c e.
       subst⁻¹ (λ (c : Write S). c.answer ≡ done r → ReadAs n r.covered (λ w d. d ≡ truth_at truths w) (take r.written c.output)) e
-      (λ a. U.wrote-read-as n size (truth_at truths) out r _ (U.wrote o n size truths out v r a));
+      (λ a. U.wrote-read-as n size truths out r _ (U.wrote o n size truths out v r a));
   writing-whole = λ n size truths out v r c e.
       subst⁻¹ (λ (c : Write S). c.answer ≡ done r → r.ending ≡ whole → Complete n (take r.written c.output)) e
-      (λ a. U.wrote-complete n size (truth_at truths) out r _ (U.wrote o n size truths out v r a));
+      (λ a. U.wrote-complete n size truths out r _ (U.wrote o n size truths out v r a));
   writing-decided = λ n size truths out v r c e.
       subst⁻¹ (λ (c : Write S). let bytes = take r.written c.output in
       c.answer ≡ done r → (w : ℕ) (t : List R) (k : Read Verdict R) → Decides z n bytes w t k → w < covered n bytes → table_limit ≤ length t
       → k.answer ≡ done (verdict_of (decided (truth_at truths w)))) e
       (λ a w t k f h l.
       let s = U.wrote o n size truths out v r a in
-      let q = U.read-decided z n _ _ _ s.options (U.wrote-read-as n size (truth_at truths) out r _ s) w t h l in
+      let q = U.read-decided z n _ _ _ s.options (U.wrote-read-as n size truths out r _ s) w t h l in
       ap (λ (c : Read Verdict R). c.answer) f ∙ q.2 ∙ ap (λ (d : Bool). done (verdict_of (decided d))) q.1);
   combining-words = λ n op x y. (_, U.count-covers n op x y);
   combining-stream = λ n op size x y out t u v r c e.
@@ -352,24 +281,6 @@ demand-2 {R} {S} z o = record {
       (λ a w p k f h l.
       let s = U.ran z o n op size x y out t u v r a in
       let q = U.read-decided z n _ _ _ s.options (U.run-read-as n op size x y out r _ s) w p h l in
-      (q.0, q.1, ap (λ (c : Read Verdict R). c.answer) f ∙ q.2));
-  fixing-stream = λ n k mode size x out t u v r c e.
-      subst⁻¹ (λ (c : Combine R S). c.answer ≡ done r → (f : ℕ → Bool) → ((w : ℕ) → w < 2 ^ n → Fixed n k mode x w (f w))
-      → Gets n (2 ^ n) (run_text n size (2 ^ n) f) out r c.output) e
-      (λ a. X.fixed-gets n k mode size x out r _ (U.fixed z o n k mode size x out t u v r a));
-  fixing-read = λ n k mode size x out t u v r c e.
-      subst⁻¹ (λ (c : Combine R S). c.answer ≡ done r → ReadAs n r.covered (Fixed n k mode x) (take r.written c.output)) e
-      (λ a. X.fixed-read-as n k mode size x out r _ (U.fixed z o n k mode size x out t u v r a));
-  fixing-whole = λ n k mode size x out t u v r c e.
-      subst⁻¹ (λ (c : Combine R S). c.answer ≡ done r → r.ending ≡ whole → Complete n (take r.written c.output)) e
-      (λ a. U.wrote-complete n size (U.fixed_of n k mode x) out r _ (U.fixed z o n k mode size x out t u v r a));
-  fixing-decided = λ n k mode size x out t u v r c e.
-      subst⁻¹ (λ (c : Combine R S). let bytes = take r.written c.output in
-      c.answer ≡ done r → (w : ℕ) (p : List R) (a : Read Verdict R) → Decides z n bytes w p a → w < covered n bytes → table_limit ≤ length p
-      → (d : Bool) × Fixed n k mode x w d × (a.answer ≡ done (verdict_of (decided d)))) e
-      (λ a w p j f h l.
-      let s = U.fixed z o n k mode size x out t u v r a in
-      let q = U.read-decided z n _ _ _ s.options (X.fixed-read-as n k mode size x out r _ s) w p h l in
       (q.0, q.1, ap (λ (c : Read Verdict R). c.answer) f ∙ q.2));
 }
 
@@ -410,16 +321,4 @@ request-3 {R} {S} z o = record {
   refused-settles = W.refused-settles;
   none-asked = λ n x y. (W.none-asked n 0 x y false (λ a b. W.zero-gives a b), W.none-asked n 15 x y true (λ a b. W.fifteen-gives a b));
   second-ignored = W.second-ignored;
-}
-
-pub request-5 : {R S : Type 0} (z : R) (o : S) → Request5 z o
-request-5 z o = record {
-  option-set = X.option-set;
-  independent = X.independent z o;
-  set-to-no = X.set-to-no z o;
-  set-to-yes = X.set-to-yes z o;
-  one-setting = X.one-setting z o;
-  both-settings = X.both-settings z o;
-  one-is-or = λ n k x. X.mode-operated z o n k x 2;
-  both-is-and = λ n k x. X.mode-operated z o n k x 3;
 }

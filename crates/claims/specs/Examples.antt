@@ -5,19 +5,15 @@ use Rattle.std.proofs.Common.{inl, inr, arith}
 use Rattle.theory_lists.specs.Lists.{has}
 use Rattle.theory_reading.specs.Limits.{option_limit, table_limit}
 use Rattle.theory_reading.specs.Bytes.{text}
-use Rattle.theory_reading.specs.Causes.{option_count, operator_code, size_to_write, word_range, truth_table, not_in_table, too_deep, option_range, no_point}
-use Rattle.theory_reading.specs.Causes.{refused, done, refusal}
+use Rattle.theory_reading.specs.Causes.{option_count, operator_code, size_to_write, word_range, truth_table, not_in_table, too_deep, refused, done, refusal}
 use Rattle.theory_reading.specs.Reading.{reading}
 use Rattle.theory_reading.specs.Deciding.{decided, decision}
 use Rattle.theory_reading.specs.Calls.{complete, cut, check, is_no, is_yes, decide, NextWord, word, not_known, find_next, fill}
 use Rattle.theory_reading.specs.Covered.{covered}
 use Rattle.theory_writing.specs.Run.{whole, input_ended, output_full}
 use Rattle.theory_writing.specs.Calls.{write, Combine, combine}
-use Rattle.theory_writing.specs.Fixing.{set_to}
-use Rattle.theory_writing.specs.FixCall.{fix}
 use Rattle.claims.specs.Terms.{First, AllUnmet, combine_lines, Operated, Covers, ReadAs, Complete, NextIs, Answers, Lists, RisingWords}
-use Rattle.claims.specs.Terms.{fix_lines, Admitted, Fixed, FixedTo}
-use Rattle.claims.specs.Claims.{demand-1, demand-2, Together, demand-3, request-1, request-3, request-5}
+use Rattle.claims.specs.Claims.{demand-1, demand-2, Together, demand-3, request-1, request-3}
 
 -- a work table of as many records as are asked for, which are numbers here; all held 7, and zero is 0
 abbrev table : List ℕ
@@ -268,98 +264,3 @@ settled-combined = (demand-3 {R = ℕ} {S = ℕ} 0 0).runs 3 8 4 first begun [] 
 open-run : (run 14 [] second (text "....")).answer ≡ done (record { written = 2; covered = 0; ending = input_ended })
 unfolding combine text
 open-run = refl
-
--- ---- Document 02, R-5 ------------------------------------------------------------------------
-
--- two or more of three set; with and without its point
-abbrev majority_rule : List ℕ
-unfolding text
-majority_rule = text "4\n((0(0~0):1):2(1~0):3):4."
-
-abbrev pointless : List ℕ
-unfolding text
-pointless = text "4\n((0(0~0):1):2(1~0):3):4"
-
--- option 1 forgotten: one of the others is enough
-abbrev forgotten : List ℕ
-unfolding text
-forgotten = text "4\n(((0~0):1~0):2)."
-
-abbrev fixing : ℕ → ℕ → List ℕ → Combine ℕ ℕ
-unfolding fix
-fixing k mode x = fix 0 0 3 k mode 4 x output table table table
-
-forgotten-run : fixing 1 2 majority_rule ≡ record {
-  answer = done (record { written = 18; covered = 8; ending = whole });
-  first = zeros;
-  second = zeros;
-  third = zeros;
-  output = text "4\n(((0~0):1~0):2)...........";
-}
-unfolding fix text
-forgotten-run = refl
-
-forgotten-decided : map (λ w. (decide 0 3 forgotten w table).answer) (0 ∷ 1 ∷ 2 ∷ 3 ∷ 4 ∷ 5 ∷ 6 ∷ 7 ∷ [])
-    ≡ map done (is_no ∷ is_yes ∷ is_yes ∷ is_yes ∷ is_no ∷ is_yes ∷ is_yes ∷ is_yes ∷ [])
-unfolding decide text
-forgotten-decided = refl
-
--- demand 2 of this call, and demand 1: it meets no cause
-forgotten-read : ReadAs 3 8 (Fixed 3 1 2 majority_rule) forgotten
-unfolding fix text
-forgotten-read = (demand-2 {R = ℕ} {S = ℕ} 0 0).fixing-read 3 1 2 4 majority_rule output table table table _ _ refl refl
-
-forgotten-complete : Complete 3 forgotten
-unfolding fix text
-forgotten-complete = (demand-2 {R = ℕ} {S = ℕ} 0 0).fixing-whole 3 1 2 4 majority_rule output table table table _ _ refl refl refl
-
-forgotten-unmet : AllUnmet (fix_lines 3 1 2 4 majority_rule table_limit table_limit table_limit)
-unfolding fix text
-forgotten-unmet = ((demand-1 {R = ℕ} {S = ℕ} 0 0).fix-refused 3 1 2 4 majority_rule output table table table _ refl).unless.0 (_, refl)
-
--- the three options of word 1 are no, no, yes: it is admitted since word 5 is
-forgotten-to : FixedTo {R = ℕ} {S = ℕ} 0 0 3 1 2 majority_rule forgotten
-unfolding fix text
-forgotten-to = record {
-  size = 4;
-  output = output;
-  first = table;
-  second = table;
-  third = table;
-  call = fixing 1 2 majority_rule;
-  made = refl;
-  answer = record { written = 18; covered = 8; ending = whole };
-  gives = refl;
-  writes = refl;
-}
-
-forgotten-word : Admitted 3 forgotten 1 ↔ (Admitted 3 majority_rule 1 ⊎ Admitted 3 majority_rule 5)
-unfolding set_to
-forgotten-word = (request-5 {R = ℕ} {S = ℕ} 0 0).one-setting 3 1 majority_rule forgotten forgotten-to 1
-    (let e = forgotten-complete.1 in omega (arith, e))
-
--- without its point the stream covers all words, and is turned down at its length; every record is zero
-pointless-run : fixing 1 2 pointless ≡ record {
-  answer = refused (refusal no_point 1 25);
-  first = zeros;
-  second = zeros;
-  third = zeros;
-  output = output;
-}
-unfolding fix text
-pointless-run = refl
-
-pointless-first : First (fix_lines 3 1 2 4 pointless table_limit table_limit table_limit) (refusal no_point 1 25)
-unfolding fix text
-pointless-first = (((demand-1 {R = ℕ} {S = ℕ} 0 0).fix-refused 3 1 2 4 pointless output table table table _ refl).exactly _).0 refl
-
--- option 4 of three comes before the stream, and all is as it was
-option-four : fixing 4 2 pointless ≡ record {
-  answer = refused (refusal option_range 0 0);
-  first = table;
-  second = table;
-  third = table;
-  output = output;
-}
-unfolding fix text
-option-four = refl

@@ -16,10 +16,8 @@ use Rattle.theory_writing.specs.Run.{operate, run_covered, Answer, answer_of, ou
 use Rattle.theory_writing.specs.Output.{output-beyond, output-length}
 use Rattle.theory_writing.specs.Calls.{write_text, write_answer, write, combine_text, combine_answer, Combine, combine}
 use Rattle.theory_writing.specs.CallLaws.{write-refused, combine-refused, combine-untouched, combine-zeroed, combine-done}
-use Rattle.theory_writing.specs.Fixing.{fix_text}
-use Rattle.theory_writing.specs.FixCall.{fix_answer, fix}
 use Rattle.claims.specs.Terms.{TableLeft, OutputLeft}
-use Rattle.claims.specs.Refused.{fill-by, write-by, inputs, Streams, combine-by, fix-by, not-above, not-apart}
+use Rattle.claims.specs.Refused.{fill-by, write-by, inputs, Streams, combine-by, not-above, not-apart}
 
 -- ---- Work tables -----------------------------------------------------------------------------
 
@@ -62,13 +60,6 @@ module _ {R S : Type 0} (z : R) (o : S) (n op size : ℕ) (x y out : List ℕ) (
         record { kept = λ f p q. (k f p q).2; zeroed = λ f p q. (e f p q).2; answered = λ r p. (d r p).2 },
       )
 
-pub fix-tables : {R S : Type 0} (z : R) (o : S) (n k mode size : ℕ) (x out : List ℕ) (t u : List R) (v : List S)
-    → let c = fix z o n k mode size x out t u v in
-    TableLeft z c.answer t c.first × TableLeft z c.answer u c.second × TableLeft o c.answer v c.third
-unfolding fix
-fix-tables z o n k mode size x out t u v =
-    let a = fix_answer n k mode size x out (length t ∷ length u ∷ length v ∷ []) in (table-left z a t, table-left z a u, table-left o a v)
-
 -- ---- Outputs ---------------------------------------------------------------------------------
 
 -- after an answer the output has the written bytes and, beyond them, its own
@@ -102,17 +93,6 @@ combine-output z o n op size x y out t u v = record {
       let a = combine_answer n op size (Streams x y) out (length t ∷ length u ∷ length v ∷ []) in
       beyond n (run_covered (operate op) n (inputs n x y)) (combine_text n op size (Streams x y)) out a r e b.1;
 }
-
-pub fix-output : {R S : Type 0} (z : R) (o : S) (n k mode size : ℕ) (x out : List ℕ) (t u : List R) (v : List S)
-    → let c = fix z o n k mode size x out t u v in OutputLeft c.answer out c.output
-unfolding fix
-fix-output z o n k mode size x out t u v =
-    let a = fix_answer n k mode size x out (length t ∷ length u ∷ length v ∷ []) in
-    let text = fix_text n k mode size x in
-    record {
-      kept = keeps_output_lem a out (λ _. output_after text out);
-      beyond = λ r e. beyond n (2 ^ n) text out a r e (((fix-by n k mode size x out (length t) (length u) (length v)).unless r).0 e).1;
-    }
 
 -- ---- A truth table that is filled ------------------------------------------------------------
 

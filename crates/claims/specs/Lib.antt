@@ -8,7 +8,6 @@ pub mod Terms
 pub mod Refused
 pub mod LentMemory
 pub mod Runs
-pub mod FixedRules
 pub mod NextWords
 pub mod SettledWords
 pub mod Claims

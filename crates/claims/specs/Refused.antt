@@ -1,6 +1,6 @@
 -- Each call is turned down by the causes that apply to it, in the paper's order, and by nothing else. A test of a call's definition stands for a
--- line (`test-line`), a stream's fault for another (`fault-line`), and that a stream is cut for a third (`point-line`). Assumes nothing.
-use Rattle.std.specs.Prelude.{◌≡◌, refl, ◌≢◌, ◌⊎◌, ◌↔◌, Bool, true, false, not, cond, ◌&&◌, ◌||◌, List, [], ◌∷◌, ℕ, suc, ◌-◌, ◌/◌, ◌≤◌, ◌<◌, ◌^◌, ltb, leb, eqb, length, get_or}
+-- line (`test-line`), a stream's fault for another (`fault-line`). Assumes nothing.
+use Rattle.std.specs.Prelude.{◌≡◌, refl, ◌≢◌, ◌⊎◌, ◌↔◌, Bool, true, false, not, ◌&&◌, List, [], ◌∷◌, ℕ, suc, ◌-◌, ◌/◌, ◌≤◌, ◌<◌, ◌^◌, ltb, leb, length, get_or}
 use Rattle.std.proofs.Common.{sym, ap, ◌∙◌, subst, inl, inr, ⊎_elim, true≢false, arith, ltb-true, ltb-false, leb-true, leb-false, eqb-true}
 use Rattle.std.proofs.Math.Path.{subst⁻¹}
 use Rattle.std.proofs.lemmas.Bool.{false≢true, eqb-false, not-true, not-false}
@@ -8,12 +8,11 @@ use Rattle.std.proofs.Math.Option.{Option, none, some}
 use Prim.{tt}
 use Rattle.theory_lists.specs.Lists.{decide_eq, decide-le}
 use Rattle.theory_reading.specs.Limits.{option_limit, table_limit, truth_table_least, truth_table_most}
-use Rattle.theory_reading.specs.Causes.{option_count, operator_code, size_to_write, work_table, word_range, truth_table, option_range}
+use Rattle.theory_reading.specs.Causes.{option_count, operator_code, size_to_write, work_table, word_range, truth_table}
 use Rattle.theory_reading.specs.Causes.{cause_row, Refusal, refusal, Result, refused, done, Test, test, at_call, first_met, gate}
-use Rattle.theory_reading.specs.Element.{Context, start, lead, begins, after_digit, after_two, after_one, over}
-use Rattle.theory_reading.specs.Reading.{Fault, Reading, reading, context_number, is_context}
+use Rattle.theory_reading.specs.Reading.{Fault, Reading, reading}
 use Rattle.theory_reading.specs.Settled.{never-some, fault-inside, fault-place, fault-leaves}
-use Rattle.theory_reading.specs.Calls.{many_options, short_table, not_truth_table, wrong_length, unless_fault, Extent, complete, cut, extent}
+use Rattle.theory_reading.specs.Calls.{many_options, short_table, not_truth_table, wrong_length, unless_fault}
 use Rattle.theory_reading.specs.Calls.{checked_of, check_answer, Verdict, verdict_of, verdict, decide_answer, decide, next_word, find_answer, fill_answer}
 use Rattle.theory_reading.specs.Deciding.{decision, trace}
 use Rattle.theory_reading.specs.CallLaws.{decide-decision}
@@ -21,10 +20,8 @@ use Rattle.theory_reading.specs.Prefix.{trace-reading}
 use Rattle.theory_writing.specs.Run.{operate, Input, run_covered, answer_of}
 use Rattle.theory_writing.specs.Calls.{large_size, write_text, write_answer, large_operator, unless_faults, combine_text, short_tables}
 use Rattle.theory_writing.specs.Calls.{combine_answer}
-use Rattle.theory_writing.specs.Fixing.{fix_text}
-use Rattle.theory_writing.specs.FixCall.{outside_option, large_mode, unless_cut, fix_answer}
-use Rattle.claims.specs.Terms.{Line, meets, faults, lacks_point, Met, First, AllUnmet, Lowest, NamesCall, NamesPlace, NamesEnd, TurnedDown}
-use Rattle.claims.specs.Terms.{check_lines, decide_lines, find_lines, not_three_to_sixteen, fill_lines, write_lines, combine_lines, fix_lines}
+use Rattle.claims.specs.Terms.{Line, meets, faults, Met, First, AllUnmet, Lowest, NamesCall, NamesPlace, TurnedDown}
+use Rattle.claims.specs.Terms.{check_lines, decide_lines, find_lines, not_three_to_sixteen, fill_lines, write_lines, combine_lines}
 
 -- ---- Answers ---------------------------------------------------------------------------------
 
@@ -87,7 +84,6 @@ test-line {A} P t ts ls v x p q h = go t.met p q
 abbrev Stands : Test → Line → Type 0
 Stands t (meets g P) = (t.gives ≡ g) × (t.met ≡ true → P) × (t.met ≡ false → P → ⊥)
 Stands t (faults n k x) = ⊥
-Stands t (lacks_point n k x) = ⊥
 
 -- the tests stand for the first lines, and the rest of the call for the rest
 abbrev Opens : {A : Type 0} → List Test → List Line → A → Result A → Type 0
@@ -103,7 +99,6 @@ tests-lines (t ∷ ts) (meets g P ∷ ls) v x h =
     subst (λ (f : Refusal). By (meets f P ∷ ls) v (first_met (t ∷ ts) x)) h.0.0
     (test-line P t ts ls v x h.0.1 h.0.2 (tests-lines ts ls v x h.1))
 tests-lines (t ∷ ts) (faults n k y ∷ ls) v x h = absurd h.0
-tests-lines (t ∷ ts) (lacks_point n k y ∷ ls) v x h = absurd h.0
 
 -- the fault of a stream
 fault-line : {A : Type 0} (n k : ℕ) (x : List ℕ) (ls : List Line) (v : A) (a : Result A) → By ls v a
@@ -126,102 +121,55 @@ fault-line {A} n k x ls v a h = go (reading n x).fault refl
       unless = λ r. (λ d. clash _ r d, λ m. never-some g (sym m.0.0 ∙ e));
     }
 
--- a stream is complete if it has come to the point, else cut
-extent-complete : (m : Context) → extent m ≡ complete → m ≡ over
-extent-complete m e = go (is_context over m) refl e
-  where
-    context-number : (m : Context) → context_number m ≡ context_number over → m ≡ over
-    context-number over h = refl
-    context-number start h = absurd (omega (arith, h))
-    context-number lead h = absurd (omega (arith, h))
-    context-number begins h = absurd (omega (arith, h))
-    context-number after_digit h = absurd (omega (arith, h))
-    context-number after_two h = absurd (omega (arith, h))
-    context-number after_one h = absurd (omega (arith, h))
-
-    go : (b : Bool) → is_context over m ≡ b → cond b complete cut ≡ complete → m ≡ over
-    go true h e = context-number m (eqb-true (context_number m) (context_number over) h)
-    go false h e = absurd (let z : ◌≡◌ {A = ℕ} 0 1 = cc in omega arith)
-
-complete-cut : {A : Type 0} → complete ≡ cut → A
-complete-cut e = let z : ◌≡◌ {A = ℕ} 0 1 = cc in absurd (omega arith)
-
--- a stream without its point
-point-line : {A : Type 0} (n k : ℕ) (x : List ℕ) (ls : List Line) (v : A) (a : Result A) → By ls v a
-    → By (lacks_point n k x ∷ ls) v (unless_cut k x (extent (reading n x).state.place.context) a)
-point-line {A} n k x ls v a h = go (extent (reading n x).state.place.context) refl
-  where
-    go : (t : Extent) → extent (reading n x).state.place.context ≡ t → By (lacks_point n k x ∷ ls) v (unless_cut k x t a)
-    go complete e = let p = extent-complete (reading n x).state.place.context e in record {
-      exactly = λ f. (
-        λ d. inr (p, (h.exactly f).0 d),
-        ⊎_elim (λ m. absurd (m.0 p)) (λ m. (h.exactly f).1 m.1),
-      );
-      unless = λ r. (λ d. let m = (h.unless r).0 d in ((p, m.0), m.1), λ m. (h.unless r).1 (m.0.1, m.1));
-    }
-    go cut e = let p : (reading n x).state.place.context ≢ over = λ o. complete-cut (sym (ap extent o) ∙ e) in record {
-      exactly = λ f. (
-        λ d. inl (p, sym (same-refused _ f d)),
-        ⊎_elim (λ m. ap refused (sym m.1)) (λ m. absurd (p m.0)),
-      );
-      unless = λ r. (λ d. clash _ r d, λ m. absurd (p m.0.0));
-    }
-
 -- ---- What a refusal names --------------------------------------------------------------------
 
 -- a line for a call over the streams xs
 abbrev Fits : List (List ℕ) → Line → Type 0
 Fits xs (meets g P) = NamesCall g
 Fits xs (faults n k x) = (0 < k) × (k ≤ length xs) × (get_or xs (k - 1) [] ≡ x)
-Fits xs (lacks_point n k x) = (0 < k) × (k ≤ length xs) × (get_or xs (k - 1) [] ≡ x)
 
 abbrev AllFit : List (List ℕ) → List Line → Type 0
 AllFit xs [] = Unit {0}
 AllFit xs (l ∷ ls) = Fits xs l × AllFit xs ls
 
-met-named : (xs : List (List ℕ)) (l : Line) → Fits xs l → (f : Refusal) → Met l f → NamesCall f ⊎ (NamesPlace xs f ⊎ NamesEnd xs f)
+met-named : (xs : List (List ℕ)) (l : Line) → Fits xs l → (f : Refusal) → Met l f → NamesCall f ⊎ NamesPlace xs f
 met-named xs (meets g P) h f m = inl (subst⁻¹ NamesCall m.1 h)
 met-named xs (faults n k x) h f m =
-    inr (inl (
+    inr (
       fault-place n x _ m.0,
       fault-leaves n x _ m.0,
       omega (arith, m.1, h.0),
       omega (arith, m.1, h.1),
       subst⁻¹ (λ (j : ℕ). f.byte < length (get_or xs (j - 1) [])) m.1
           (subst⁻¹ (λ (y : List ℕ). f.byte < length y) h.2 (fault-inside n x _ m.0)),
-    ))
-met-named xs (lacks_point n k x) h f m = inr (inr (subst⁻¹ (NamesEnd xs) m.1 (refl, refl, h.0, h.1, sym (ap length h.2))))
+    )
 
-first-named : (xs : List (List ℕ)) (ls : List Line) → AllFit xs ls → (f : Refusal) → First ls f → NamesCall f ⊎ (NamesPlace xs f ⊎ NamesEnd xs f)
+first-named : (xs : List (List ℕ)) (ls : List Line) → AllFit xs ls → (f : Refusal) → First ls f → NamesCall f ⊎ NamesPlace xs f
 first-named xs [] h f m = absurd m
 first-named xs (l ∷ ls) h f m = ⊎_elim (met-named xs l h.0 f) (λ k. first-named xs ls h.1 f k.1) m
 
 -- ---- The order of the causes -----------------------------------------------------------------
 
-abbrev OnlyStreams : List Line → Type 0
-OnlyStreams [] = Unit {0}
-OnlyStreams (meets g P ∷ ls) = ⊥
-OnlyStreams (faults n k x ∷ ls) = OnlyStreams ls
-OnlyStreams (lacks_point n k x ∷ ls) = OnlyStreams ls
+abbrev OnlyFaults : List Line → Type 0
+OnlyFaults [] = Unit {0}
+OnlyFaults (meets g P ∷ ls) = ⊥
+OnlyFaults (faults n k x ∷ ls) = OnlyFaults ls
 
 -- the causes before the streams stand in rising rank, from r on
 abbrev Rising : ℕ → List Line → Type 0
 Rising r [] = Unit {0}
 Rising r (meets g P ∷ ls) = (r ≤ (cause_row g.cause).rank) × Rising (cause_row g.cause).rank ls
-Rising r (faults n k x ∷ ls) = OnlyStreams ls
-Rising r (lacks_point n k x ∷ ls) = OnlyStreams ls
+Rising r (faults n k x ∷ ls) = OnlyFaults ls
 
-streams-lowest : (r : ℕ) (ls : List Line) → OnlyStreams ls → Lowest r ls
-streams-lowest r [] h = tt
-streams-lowest r (meets g P ∷ ls) h = absurd h
-streams-lowest r (faults n k x ∷ ls) h = streams-lowest r ls h
-streams-lowest r (lacks_point n k x ∷ ls) h = streams-lowest r ls h
+faults-lowest : (r : ℕ) (ls : List Line) → OnlyFaults ls → Lowest r ls
+faults-lowest r [] h = tt
+faults-lowest r (meets g P ∷ ls) h = absurd h
+faults-lowest r (faults n k x ∷ ls) h = faults-lowest r ls h
 
 rising-lowest : (r s : ℕ) (ls : List Line) → r ≤ s → Rising s ls → Lowest r ls
 rising-lowest r s [] l h = tt
 rising-lowest r s (meets g P ∷ ls) l h = (λ _. omega (arith, l, h.0), rising-lowest r (cause_row g.cause).rank ls (omega (arith, l, h.0)) h.1)
-rising-lowest r s (faults n k x ∷ ls) l h = streams-lowest r ls h
-rising-lowest r s (lacks_point n k x ∷ ls) l h = streams-lowest r ls h
+rising-lowest r s (faults n k x ∷ ls) l h = faults-lowest r ls h
 
 first-lowest : (r : ℕ) (ls : List Line) → Rising r ls → (f : Refusal) → First ls f → Lowest (cause_row f.cause).rank ls
 first-lowest r [] h f m = absurd m
@@ -229,8 +177,7 @@ first-lowest r (meets g P ∷ ls) h f m = let s = (cause_row g.cause).rank in �
     (λ k. subst⁻¹ (λ (i : Refusal). Lowest (cause_row i.cause).rank (meets g P ∷ ls)) k.1
     (λ _. omega arith, rising-lowest s s ls (omega arith) h.1))
     (λ k. (λ p. absurd (k.0 p), first-lowest s ls h.1 f k.1)) m
-first-lowest r (faults n k x ∷ ls) h f m = streams-lowest (cause_row f.cause).rank ls h
-first-lowest r (lacks_point n k x ∷ ls) h f m = streams-lowest (cause_row f.cause).rank ls h
+first-lowest r (faults n k x ∷ ls) h f m = faults-lowest (cause_row f.cause).rank ls h
 
 turned_down : {A : Type 0} (xs : List (List ℕ)) (ls : List Line) (v : A) (a : Result A) → AllFit xs ls → Rising 1 ls → By ls v a → TurnedDown xs ls a
 turned_down xs ls v a h i b = record {
@@ -395,54 +342,3 @@ combine-lines n op size x y out a b c = turned_down (x ∷ y ∷ []) _ _ _ (
   ),
 )
     (omega arith, (omega arith, (omega arith, (omega arith, (omega arith, (omega arith, tt)))))) (combine-by n op size x y out a b c)
-
-outside-option : (n k : ℕ) → Stands (outside_option n k) (meets (at_call option_range) ((k ≡ 0) ⊎ (n < k)))
-outside-option n k = go (eqb k 0) refl (ltb n k) refl
-  where
-    go : (p : Bool) → eqb k 0 ≡ p → (q : Bool) → ltb n k ≡ q
-        → Stands (test (at_call option_range) (p || q)) (meets (at_call option_range) ((k ≡ 0) ⊎ (n < k)))
-    go true a q b = (refl, λ e. inl (eqb-true k 0 a), λ e. absurd (true≢false e))
-    go false a true b = (refl, λ e. inr (ltb-true n k b), λ e. absurd (true≢false e))
-    go false a false b = (
-      refl,
-      λ e. absurd (false≢true e),
-      λ e. ⊎_elim (eqb-false k 0 a) (λ h. omega (arith, ltb-false n k b, h)),
-    )
-
-pub fix-by : (n k mode size : ℕ) (x out : List ℕ) (a b c : ℕ)
-    → By (fix_lines n k mode size x a b c) (answer_of n (2 ^ n) (fix_text n k mode size x) out) (fix_answer n k mode size x out (a ∷ b ∷ c ∷ []))
-unfolding fix_answer
-fix-by n k mode size x out a b c =
-    let short : (j : ℕ) → Stands (short_table j) (meets (at_call work_table) (j < table_limit)) = λ j. above (at_call work_table) j table_limit in
-    let v = answer_of n (2 ^ n) (fix_text n k mode size x) out in
-    let rest = fault-line n 1 x (lacks_point n 1 x ∷ []) v _ (point-line n 1 x [] v (done v) (by-none v)) in
-    tests-lines (many_options n ∷ outside_option n k ∷ large_mode mode ∷ large_size size ∷ short_tables (a ∷ b ∷ c ∷ [])) _ v _ (
-      above (at_call option_count) option_limit n,
-      (
-        outside-option n k,
-        (above (at_call operator_code) 3 mode, (above (at_call size_to_write) table_limit size, (short a, (short b, (short c, rest))))),
-      ),
-    )
-
-pub fix-lines : (n k mode size : ℕ) (x out : List ℕ) (a b c : ℕ)
-    → TurnedDown (x ∷ []) (fix_lines n k mode size x a b c) (fix_answer n k mode size x out (a ∷ b ∷ c ∷ []))
-fix-lines n k mode size x out a b c = turned_down (x ∷ []) _ _ _ (
-  (refl, refl, refl, refl),
-  (
-    (refl, refl, refl, refl),
-    (
-      (refl, refl, refl, refl),
-      (
-        (refl, refl, refl, refl),
-        (
-          (refl, refl, refl, refl),
-          (
-            (refl, refl, refl, refl),
-            ((refl, refl, refl, refl), ((omega arith, omega arith, refl), ((omega arith, omega arith, refl), tt))),
-          ),
-        ),
-      ),
-    ),
-  ),
-)
-    (omega arith, (omega arith, (omega arith, (omega arith, (omega arith, (omega arith, (omega arith, tt))))))) (fix-by n k mode size x out a b c)

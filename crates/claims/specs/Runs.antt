@@ -1,5 +1,5 @@
--- What a run of combining, or a call of writing or fixing, that is not refused is: its limits, its streams without fault, its answer and its written
--- bytes. Assumes nothing.
+-- What a run of combining, or a call of writing, that is not refused is: its limits, its streams without fault, its answer and its written bytes.
+-- Assumes nothing.
 use Rattle.std.specs.Prelude.{◌≡◌, refl, Bool, true, false, cond, ℕ, ◌≤◌, ◌<◌, ◌^◌, ltb, eqb, length, take}
 use Rattle.std.proofs.Common.{sym, ◌∙◌, inr, arith, ltb-false, eqb-true}
 use Rattle.std.proofs.Math.Path.{ap, subst, subst⁻¹}
@@ -22,10 +22,8 @@ use Rattle.theory_writing.specs.Inputs.{May, AllMay, never-decided, decided-one,
 use Rattle.theory_writing.specs.Inputs.{run_covered-is, Extend, run_covered-grows, run_of-written}
 use Rattle.theory_writing.specs.Output.{written-length, output-written, written_all}
 use Rattle.theory_writing.specs.Calls.{combine_text, combine_answer, combine, write_text, truth_at, write_answer, write}
-use Rattle.theory_writing.specs.Fixing.{fixed_rule, fix_text}
-use Rattle.theory_writing.specs.FixCall.{fix_answer, fix}
 use Rattle.claims.specs.Terms.{not_three_to_sixteen, Gets, Operated, Covers, ReadAs, Complete}
-use Rattle.claims.specs.Refused.{not-above, inputs, Streams, combine-by, write-by, fix-by}
+use Rattle.claims.specs.Refused.{not-above, inputs, Streams, combine-by, write-by}
 use Rattle.claims.specs.ReadBack.{read_back}
 use Rattle.claims.specs.WrittenBytes.{decided-same, Written, run-written}
 
@@ -242,18 +240,17 @@ module _ (n op size : ℕ) (x y u v out out' : List ℕ) (r r' : Answer) (t t' :
         operated-longer w o.0 k o.2,
       )
 
--- ---- A call of writing, or of fixing ---------------------------------------------------------
+-- ---- A call of writing -----------------------------------------------------------------------
 
--- the call that writes the function f over all words, with the answer r, and the output t after it
-pub record Wrote (n size : ℕ) (f : ℕ → Bool) (out : List ℕ) (r : Answer) (t : List ℕ) : Type 0 where
+pub record Wrote (n size : ℕ) (truths out : List ℕ) (r : Answer) (t : List ℕ) : Type 0 where
   pub options : n ≤ option_limit
   pub fit : size ≤ table_limit
-  pub answer : r ≡ answer_of n (2 ^ n) (run_text n size (2 ^ n) f) out
-  pub bytes : take r.written t ≡ written_bytes (run_text n size (2 ^ n) f) out
+  pub answer : r ≡ answer_of n (2 ^ n) (write_text n size truths) out
+  pub bytes : take r.written t ≡ written_bytes (write_text n size truths) out
 
 pub wrote : {R : Type 0} (z : R) (n size : ℕ) (truths out : List ℕ) (t : List R) (r : Answer) → (write z n size truths out t).answer ≡ done r
-    → Wrote n size (truth_at truths) out r (write z n size truths out t).output
-unfolding write write_answer unless_refused write_text
+    → Wrote n size truths out r (write z n size truths out t).output
+unfolding write write_answer unless_refused
 wrote z n size truths out t r e =
     let text = write_text n size truths in
     let b = ((write-by n size truths out (length t)).unless r).0 e in
@@ -268,37 +265,27 @@ wrote z n size truths out t r e =
     small : (n : ℕ) → (not_three_to_sixteen n → ⊥) → n ≤ option_limit
     small n h = let m = not-above n truth_table_most (λ k. h (inr k)) in omega (arith, m, truth-options)
 
--- what a call of fixing writes, as a function
-abbrev pub fixed_of : ℕ → ℕ → ℕ → List ℕ → ℕ → Bool
-fixed_of n k mode x = fixed_rule n k mode (λ w. or_no (decision n x w))
-
-pub fixed : {R S : Type 0} (z : R) (o : S) (n k mode size : ℕ) (x out : List ℕ) (t u : List R) (v : List S) (r : Answer)
-    → (fix z o n k mode size x out t u v).answer ≡ done r
-    → Wrote n size (fixed_of n k mode x) out r (fix z o n k mode size x out t u v).output
-unfolding fix fix_answer unless_refused fix_text
-fixed z o n k mode size x out t u v r e =
-    let text = fix_text n k mode size x in
-    let b = ((fix-by n k mode size x out (length t) (length u) (length v)).unless r).0 e in
-    record {
-      options = not-above n option_limit b.0.0;
-      fit = not-above size table_limit b.0.1.1.1.0;
-      answer = b.1;
-      bytes = ap (λ (o : Result Answer). take r.written (unless_refused o out (λ (q : Answer). output_after text out))) e
-          ∙ ap (λ (q : Answer). take q.written (output_after text out)) b.1 ∙ answer-written n (2 ^ n) text out;
-    }
-
-module _ (n size : ℕ) (f : ℕ → Bool) (out : List ℕ) (r : Answer) (t : List ℕ) (h : Wrote n size f out r t) where
-  pub wrote-gets : Gets n (2 ^ n) (run_text n size (2 ^ n) f) out r t
-  wrote-gets = gets n (2 ^ n) (run_text n size (2 ^ n) f) out r t h.answer h.bytes
+module _ (n size : ℕ) (truths out : List ℕ) (r : Answer) (t : List ℕ) (h : Wrote n size truths out r t) where
+  pub wrote-gets : Gets n (2 ^ n) (run_text n size (2 ^ n) (truth_at truths)) out r t
+  unfolding write_text
+  wrote-gets = gets n (2 ^ n) (run_text n size (2 ^ n) (truth_at truths)) out r t h.answer h.bytes
 
   -- the written bytes, clipped or not
-  pub wrote-read-as : ReadAs n r.covered (λ w d. d ≡ f w) (take r.written t)
+  pub wrote-read-as : ReadAs n r.covered (λ w d. d ≡ truth_at truths w) (take r.written t)
+  unfolding write_text
   wrote-read-as =
-      let b = subst⁻¹ (Written n (2 ^ n) f) h.bytes (run-written n size (2 ^ n) f out h.options h.fit (omega arith)) in
-      record { accepted = b.accepted; within = omega (arith, b.within, wrote-gets.covers); decides = λ w l. (f w, b.decides w l, refl) }
+      let b = subst⁻¹ (Written n (2 ^ n) (truth_at truths)) h.bytes
+      (run-written n size (2 ^ n) (truth_at truths) out h.options h.fit (omega arith)) in
+      record {
+        accepted = b.accepted;
+        within = omega (arith, b.within, wrote-gets.covers);
+        decides = λ w l.
+            (truth_at truths w, b.decides w l, refl);
+      }
 
   pub wrote-complete : r.ending ≡ whole → Complete n (take r.written t)
+  unfolding write_text
   wrote-complete e =
-      let p = answer-whole n (2 ^ n) (run_text n size (2 ^ n) f) out (sym (ap (λ (q : Answer). q.ending) h.answer) ∙ e) in
-      let b = read_back n size f h.options h.fit in
+      let p = answer-whole n (2 ^ n) (run_text n size (2 ^ n) (truth_at truths)) out (sym (ap (λ (q : Answer). q.ending) h.answer) ∙ e) in
+      let b = read_back n size (truth_at truths) h.options h.fit in
       subst⁻¹ (Complete n) (h.bytes ∙ p.1) (b.complete, b.covers)

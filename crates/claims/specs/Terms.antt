@@ -1,40 +1,33 @@
--- The terms in which the demands are stated (Claims): how a call is turned down, what lent memory holds after it, what written bytes decide, what
--- finding and listing admitted words give, and what a rule is with an option fixed or forgotten. Assumes nothing.
-use Rattle.std.specs.Prelude.{◌≡◌, ◌≢◌, ◌⊎◌, ◌↔◌, Bool, true, false, List, [], ◌∷◌, ℕ, zero, suc, ◌+◌, ◌-◌, ◌/◌, ◌≤◌, ◌<◌, ◌^◌, min, length, take, drop, get_or}
+-- The terms in which the demands are stated (Claims): how a call is turned down, what lent memory holds after it, what written bytes decide, and what
+-- finding and listing admitted words give. Assumes nothing.
+use Rattle.std.specs.Prelude.{◌≡◌, ◌≢◌, ◌⊎◌, ◌↔◌, Bool, true, false, List, [], ◌∷◌, ℕ, ◌+◌, ◌-◌, ◌/◌, ◌≤◌, ◌<◌, ◌^◌, min, length, take, drop, get_or}
 use Rattle.std.proofs.Math.Option.{none, some}
 use Rattle.theory_lists.specs.Lists.{All}
 use Rattle.theory_reading.specs.Limits.{option_limit, table_limit, truth_table_least, truth_table_most}
-use Rattle.theory_reading.specs.Causes.{option_count, operator_code, size_to_write, work_table, word_range, truth_table, option_range, no_point}
-use Rattle.theory_reading.specs.Causes.{call, place, stream_end, keeps_all, keeps_output, cause_row, Refusal, refusal, at_call, Result, refused, done, cleared}
+use Rattle.theory_reading.specs.Causes.{option_count, operator_code, size_to_write, work_table, word_range, truth_table}
+use Rattle.theory_reading.specs.Causes.{call, place, keeps_all, keeps_output, cause_row, Refusal, at_call, Result, refused, done, cleared}
 use Rattle.theory_reading.specs.Element.{over}
 use Rattle.theory_reading.specs.Reading.{reading}
 use Rattle.theory_reading.specs.Deciding.{decided, decision}
 use Rattle.theory_reading.specs.Calls.{Read, NextWord, word, no_word, not_known, FindsNext}
 use Rattle.theory_reading.specs.Covered.{covered}
 use Rattle.theory_writing.specs.Run.{operate, Answer, ending_of}
-use Rattle.theory_writing.specs.Calls.{Combine}
-use Rattle.theory_writing.specs.Fixing.{is_set, set_to}
-use Rattle.theory_writing.specs.FixCall.{Fixes}
 
 -- ---- Turned down -----------------------------------------------------------------------------
 
--- A line of the table "Turned down": a refusal before the streams, and when it is met; the fault, if any, of stream k, read with n options; or, where a
--- cut stream is not taken, that stream k lacks its point.
+-- A line of the table "Turned down": a refusal before the streams, and when it is met; or the fault, if any, of stream k, read with n options.
 pub data Line : Type 1 where
   meets : Refusal → Type 0 → Line
   faults : ℕ → ℕ → List ℕ → Line
-  lacks_point : ℕ → ℕ → List ℕ → Line
 
--- the line is met, and f is returned: its refusal, the stream and the byte of its fault, or the stream and its length
+-- the line is met, and f is returned: its refusal, or the stream and the byte of its fault
 abbrev pub Met : Line → Refusal → Type 0
 Met (meets g P) f = P × (f ≡ g)
 Met (faults n k x) f = ((reading n x).fault ≡ some (record { cause = f.cause; byte = f.byte })) × (f.stream ≡ k)
-Met (lacks_point n k x) f = ((reading n x).state.place.context ≢ over) × (f ≡ refusal no_point k (length x))
 
 abbrev pub Unmet : Line → Type 0
 Unmet (meets g P) = P → ⊥
 Unmet (faults n k x) = (reading n x).fault ≡ none
-Unmet (lacks_point n k x) = (reading n x).state.place.context ≡ over
 
 -- f is what the first line that is met returns
 abbrev pub First : List Line → Refusal → Type 0
@@ -51,7 +44,6 @@ abbrev pub Lowest : ℕ → List Line → Type 0
 Lowest r [] = Unit {0}
 Lowest r (meets g P ∷ ls) = (P → r ≤ (cause_row g.cause).rank) × Lowest r ls
 Lowest r (faults n k x ∷ ls) = Lowest r ls
-Lowest r (lacks_point n k x ∷ ls) = Lowest r ls
 
 -- the refusal names the call, and leaves all as it was
 abbrev pub NamesCall : Refusal → Type 0
@@ -63,12 +55,6 @@ NamesPlace xs f =
     let r = cause_row f.cause in
     (r.names ≡ place) × (r.leaves ≡ keeps_output) × (0 < f.stream) × (f.stream ≤ length xs) × (f.byte < length (get_or xs (f.stream - 1) []))
 
--- it names one of the streams xs and its length, and leaves the output as it was
-abbrev pub NamesEnd : List (List ℕ) → Refusal → Type 0
-NamesEnd xs f =
-    let r = cause_row f.cause in
-    (r.names ≡ stream_end) × (r.leaves ≡ keeps_output) × (0 < f.stream) × (f.stream ≤ length xs) × (f.byte ≡ length (get_or xs (f.stream - 1) []))
-
 -- A call over the streams xs that answers a is turned down by the lines ls, tested in this order, and by nothing else.
 pub record TurnedDown {A : Type 0} (xs : List (List ℕ)) (ls : List Line) (a : Result A) : Type 0 where
   -- it is refused with f exactly if f is what the first line that is met returns
@@ -78,7 +64,7 @@ pub record TurnedDown {A : Type 0} (xs : List (List ℕ)) (ls : List Line) (a : 
   -- the lowest in the paper's order counts
   pub lowest : (f : Refusal) → a ≡ refused f → Lowest (cause_row f.cause).rank ls
   -- what a refusal names and leaves
-  pub names : (f : Refusal) → a ≡ refused f → NamesCall f ⊎ (NamesPlace xs f ⊎ NamesEnd xs f)
+  pub names : (f : Refusal) → a ≡ refused f → NamesCall f ⊎ NamesPlace xs f
 
 -- ---- The causes of each call -----------------------------------------------------------------
 
@@ -134,20 +120,6 @@ combine_lines n op size x y records records' records'' =
     ∷ meets (at_call work_table) (records'' < table_limit)  -- 4
     ∷ faults n 1 x  -- 7 to 13
     ∷ faults n 2 y  -- 7 to 13
-    ∷ []
-
--- document 02, R-5: "14, option 0 or above n, after cause 1; 15, a stream without faults but without its point, after all its other causes, at its length"
-abbrev pub fix_lines : ℕ → ℕ → ℕ → ℕ → List ℕ → ℕ → ℕ → ℕ → List Line
-fix_lines n k mode size x records records' records'' =
-    meets (at_call option_count) (option_limit < n)  -- 1
-    ∷ meets (at_call option_range) ((k ≡ 0) ⊎ (n < k))  -- 14
-    ∷ meets (at_call operator_code) (3 < mode)  -- 2
-    ∷ meets (at_call size_to_write) (table_limit < size)  -- 3
-    ∷ meets (at_call work_table) (records < table_limit)  -- 4
-    ∷ meets (at_call work_table) (records' < table_limit)  -- 4
-    ∷ meets (at_call work_table) (records'' < table_limit)  -- 4
-    ∷ faults n 1 x  -- 7 to 13
-    ∷ lacks_point n 1 x  -- 15
     ∷ []
 
 -- ---- Lent memory -----------------------------------------------------------------------------
@@ -233,34 +205,3 @@ Lists z n x w (v ∷ vs) = Answers z n x w (word v) × Lists z n x (v + 1) vs
 abbrev pub RisingWords : List ℕ → Type 0
 RisingWords [] = Unit {0}
 RisingWords (v ∷ vs) = All (λ u. v < u) vs × RisingWords vs
-
--- ---- Fixing and forgetting an option (document 02, R-5) --------------------------------------
-
--- The stream x admits the word w.
-abbrev pub Admitted : ℕ → List ℕ → ℕ → Type 0
-Admitted n x w = decision n x w ≡ decided true
-
--- d is what the new rule decides on the word w, made of the stream x "with option k set to no (mode 0), set to yes (1), admitted with at least one
--- setting (2), or with both (3)": it admits the word exactly if x admits it with option k no; with yes; with no or with yes; with no and with yes.
-abbrev pub Fixed : ℕ → ℕ → ℕ → List ℕ → ℕ → Bool → Type 0
-Fixed n k zero x w d = (d ≡ true) ↔ Admitted n x (set_to n k false w)
-Fixed n k (suc zero) x w d = (d ≡ true) ↔ Admitted n x (set_to n k true w)
-Fixed n k (suc (suc zero)) x w d = (d ≡ true) ↔ (Admitted n x (set_to n k false w) ⊎ Admitted n x (set_to n k true w))
-Fixed n k (suc (suc (suc m))) x w d = (d ≡ true) ↔ (Admitted n x (set_to n k false w) × Admitted n x (set_to n k true w))
-
--- The words w and u are alike in every option but k.
-abbrev pub AlikeBut : ℕ → ℕ → ℕ → ℕ → Type 0
-AlikeBut n k w u = (i : ℕ) → 0 < i → i ≤ n → i ≢ k → is_set n i w ≡ is_set n i u
-
--- A call that fixes option k of the stream x by the mode, with whatever size, output and work tables, is not refused and writes these bytes.
-pub record FixedTo {R S : Type 0} (z : R) (o : S) (n k mode : ℕ) (x bytes : List ℕ) : Type 0 where
-  pub size : ℕ
-  pub output : List ℕ
-  pub first : List R
-  pub second : List R
-  pub third : List S
-  pub call : Combine R S
-  pub made : Fixes z o n k mode size x output first second third call
-  pub answer : Answer
-  pub gives : call.answer ≡ done answer
-  pub writes : take answer.written call.output ≡ bytes

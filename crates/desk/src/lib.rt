@@ -100,21 +100,3 @@ pub extern "C" fn rule_combine(
         n, op, size, stream1, stream2, output, table1, table2, table3,
     ))
 }
-
-// FIXING AN OPTION of a stream, or forgetting it
-#[unsafe(no_mangle)]
-pub extern "C" fn rule_fix(
-    n: u32,
-    option: u32,
-    mode: u32,
-    size: u32,
-    stream: &[u8],
-    output: &mut [u8],
-    table1: &mut [NodeRecord],
-    table2: &mut [NodeRecord],
-    table3: &mut [WriterRecord],
-) -> RuleWritten {
-    written_numbers(fixer::fix(
-        n, option, mode, size, stream, output, table1, table2, table3,
-    ))
-}

@@ -12,7 +12,7 @@ use Rattle.elements.specs.declared.Context.TheVariants.{Start, Lead, Begins, Aft
 use Rattle.elements.specs.declared.Ref.{Ref}
 use Rattle.elements.specs.declared.Cause.{Cause}
 use Rattle.elements.specs.declared.Cause.TheVariants.{OptionCount, OperatorCode, SizeToWrite, WorkTable, WordRange, TruthTable, WrongByte}
-use Rattle.elements.specs.declared.Cause.TheVariants.{DeclaredSize, TooDeep, NotInTable, OtherLevel, NotStorable, BadNumber, OptionRange, NoPoint}
+use Rattle.elements.specs.declared.Cause.TheVariants.{DeclaredSize, TooDeep, NotInTable, OtherLevel, NotStorable, BadNumber}
 use Rattle.elements.specs.declared.Outcome.{Outcome}
 use Rattle.elements.specs.declared.Outcome.TheVariants.{Got, Fault, RanOut}
 use Rattle.elements.specs.declared.Open.{Open}
@@ -63,8 +63,6 @@ cause_of NotInTable = C.not_in_table
 cause_of OtherLevel = C.other_level
 cause_of NotStorable = C.not_storable
 cause_of BadNumber = C.bad_number
-cause_of OptionRange = C.option_range
-cause_of NoPoint = C.no_point
 
 abbrev pub outcome_of : Outcome → T.Outcome
 outcome_of (Got e) = T.got (element_of e)

@@ -40,7 +40,7 @@ pub struct Ref {
     pub stamp: u32,
 }
 
-// The causes of document 01, 1 to 13, and those of document 02, from 14 on.
+// The causes of document 01, 1 to 13.
 #[derive(Drop)]
 pub enum Cause {
     OptionCount,
@@ -56,8 +56,6 @@ pub enum Cause {
     OtherLevel,
     NotStorable,
     BadNumber,
-    OptionRange,
-    NoPoint,
 }
 
 #[derive(Drop)]

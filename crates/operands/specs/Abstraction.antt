@@ -1,5 +1,6 @@
 -- How code holds the inputs of a run. Assumes nothing.
 use Rattle.std.specs.Prelude.{true, false, cond, not, ◌&&◌, List, ℕ, ◌+◌}
+use Rattle.theory_applying.specs.Applying.{second_source}
 use Rattle.theory_applying.specs.Operands as T
 use Rattle.theory_combining.specs.BlockReaders.{BlockReader, reader_at, deep_of, source_of, ended_of, next_reader}
 use Rattle.blocks.specs.Blocks.{Next, next_block}
@@ -8,7 +9,6 @@ use Rattle.blocks.specs.Blocks.{ReadBlock, block_in}
 use Rattle.reader.specs.OpenCells.{cursor_in}
 use Rattle.blocks.specs.declared.Block.{Block}
 use Rattle.elements.specs.declared.Opens.{Opens}
-use Rattle.edges.specs.Abstraction.{child_at}
 use Rattle.operands.specs.declared.Operand.{Operand}
 use Rattle.operands.specs.declared.Begun.{Begun}
 use Rattle.node_records.specs.declared.NodeRecord.{NodeRecord}
@@ -54,14 +54,7 @@ read_by n s f b t = cond (f.inside && not b.halted) (next_block n s b.cursor t) 
 abbrev pub arrived : ℕ → ℕ → T.Operand BlockReader → T.Operand BlockReader
 arrived n i f =
     cond f.in_text (T.settle deep_of source_of ended_of (next_reader n) (i + 1) f)
-    (T.at_edge f (child_at true i (T.edge_of deep_of source_of ended_of (next_reader n) f)))
-
--- AT THE SECOND HALF of a part of level i: on the next block, or at the second child. Levels begin with 1; from there on it is the second half as Operands
--- has it (OperandCorrect, `second_plain`)
-abbrev pub second_from : ℕ → ℕ → T.Operand BlockReader → T.Operand BlockReader
-second_from n i f =
-    cond f.in_text (T.settle deep_of source_of ended_of (next_reader n) (i + 1) (T.on_reader f (next_reader n f.reader)))
-    (T.at_edge f (child_at true i (T.edge_of deep_of source_of ended_of (next_reader n) f)))
+    (T.at_edge f (second_source i (T.edge_of deep_of source_of ended_of (next_reader n) f)))
 
 -- at the outermost node, with the cells o for the open nodes: in its text unless its first block is all of it, or it has none
 abbrev pub begun_from : ℕ → List ℕ → List (List ℕ) → List NodeRecord → T.Operand BlockReader

@@ -1,11 +1,11 @@
 -- One law for each way through code that takes an input to the halves of a part. Assumes nothing.
-use Rattle.std.specs.Prelude.{◌≡◌, refl, Bool, true, false, cond, not, ◌&&◌, List, ℕ, ◌+◌, ◌<◌, eqb, replicate}
+use Rattle.std.specs.Prelude.{◌≡◌, refl, Bool, true, false, cond, not, ◌&&◌, List, ℕ, ◌+◌, replicate}
 use Rattle.std.proofs.Common.{sym, ap, ◌∙◌}
 use Rattle.theory_reading.specs.Limits.{open_limit}
-use Rattle.theory_applying.specs.Applying.{Source, passes, child_source, first_source}
+use Rattle.theory_applying.specs.Applying.{first_source, second_source}
 use Rattle.theory_applying.specs.Operands as T
 use Rattle.theory_combining.specs.BlockReaders.{BlockReader, reader_at, deep_of, source_of, ended_of, next_reader, begun_operand}
-use Rattle.theory_combining.specs.EdgeCorrect.{plain-half, first_edge_lem}
+use Rattle.theory_combining.specs.EdgeCorrect.{first_edge_lem}
 use Rattle.cursors.specs.Cursors.{start_cursor}
 use Rattle.reader.specs.ReadOn.{cursor-first}
 use Rattle.blocks.specs.Blocks.{Next, next_block, ReadBlock}
@@ -13,51 +13,38 @@ use Rattle.blocks.specs.declared.Block.{Block}
 use Rattle.elements.specs.declared.Opens.{Opens}
 use Rattle.reader.specs.OpenCells.{ReadCursor, cursor_in}
 use Rattle.cursors.specs.declared.Cursor.{Cursor}
-use Rattle.edges.specs.Abstraction.{edge_in, child_at}
+use Rattle.edges.specs.Abstraction.{edge_in}
 use Rattle.edges.specs.declared.TableEdge.{TableEdge}
-use Rattle.operands.specs.Abstraction.{reader_in, on_reader, operand_on, read_by, arrived, second_from, begun_from}
+use Rattle.operands.specs.Abstraction.{reader_in, on_reader, operand_on, read_by, arrived, begun_from}
 use Rattle.operands.specs.declared.Operand.{Operand}
 use Rattle.node_records.specs.declared.NodeRecord.{NodeRecord}
-
--- where no option is fixed, the first child is the first half at each level, the second child the second half from level 1 on
-first_plain : (i : ℕ) (x : Source) → x.table.value ≡ false → child_at false i x ≡ first_source i x
-first_plain i x e = ap (λ (b : Bool). cond (passes i x) x (child_source b x)) (never (eqb i x.table.level) ∙ ap (λ (v : Bool). cond (eqb i x.table.level) v false) (sym e))
-  where
-    never : (b : Bool) → false ≡ cond b false false
-    never true = refl
-    never false = refl
-
-pub second_plain : (n i : ℕ) (f : T.Operand BlockReader) → 0 < i → second_from n i f ≡ T.second_operand deep_of source_of ended_of (next_reader n) i f
-second_plain n i f l =
-    ap (λ (x : Source). cond f.in_text (T.settle deep_of source_of ended_of (next_reader n) (i + 1) (T.on_reader f (next_reader n f.reader)))
-    (T.at_edge f x)) (plain-half true i (T.edge_of deep_of source_of ended_of (next_reader n) f) l)
 
 module _ (n i : ℕ) (o : Opens) (s : List ℕ) (t : List NodeRecord) (f g : Operand) (b : Block) where
   -- it is at an edge, z; e: the edge there
   pub first-gone : (e z : TableEdge) → g ≡ record { inside = false; number = e.number; complement = e.complement } → f.inside ≡ false
       → z ≡ record { number = f.number; complement = f.complement; size = b.cursor.run.size }
-      → edge_in 0 false e t ≡ child_at false i (edge_in 0 false z t)
+      → edge_in e t ≡ first_source i (edge_in z t)
       → operand_on g b o s t ≡ T.first_operand deep_of source_of ended_of (next_reader n) i (operand_on f b o s t)
   first-gone e z r h k w =
       ap (λ (g : Operand). operand_on g b o s t) r
-      ∙ first_edge_lem deep_of source_of ended_of (next_reader n) i (operand_on f b o s t) (edge_in 0 false e t) h
-      (w ∙ first_plain i (edge_in 0 false z t) refl ∙ ap (λ (z : TableEdge). first_source i (edge_in 0 false z t)) k)
+      ∙ first_edge_lem deep_of source_of ended_of (next_reader n) i (operand_on f b o s t) (edge_in e t) h
+      (w ∙ ap (λ (z : TableEdge). first_source i (edge_in z t)) k)
 
   pub second-gone : (e z : TableEdge) → g ≡ record { inside = false; number = e.number; complement = e.complement } → f.inside ≡ false
       → z ≡ record { number = f.number; complement = f.complement; size = b.cursor.run.size }
-      → edge_in 0 false e t ≡ child_at true i (edge_in 0 false z t) → operand_on g b o s t ≡ arrived n i (operand_on f b o s t)
+      → edge_in e t ≡ second_source i (edge_in z t) → operand_on g b o s t ≡ arrived n i (operand_on f b o s t)
   second-gone e z r h k w =
       ap (λ (g : Operand). operand_on g b o s t) r
-      ∙ ap (T.at_edge (operand_on f b o s t)) (w ∙ ap (λ (z : TableEdge). child_at true i (edge_in 0 false z t)) k)
+      ∙ ap (T.at_edge (operand_on f b o s t)) (w ∙ ap (λ (z : TableEdge). second_source i (edge_in z t)) k)
       ∙ ap (λ (u : Bool). cond u (T.settle deep_of source_of ended_of (next_reader n) (i + 1) (operand_on f b o s t))
-      (T.at_edge (operand_on f b o s t) (child_at true i (T.edge_of deep_of source_of ended_of (next_reader n) (operand_on f b o s t))))) (sym h)
+      (T.at_edge (operand_on f b o s t) (second_source i (T.edge_of deep_of source_of ended_of (next_reader n) (operand_on f b o s t))))) (sym h)
 
   -- it is in its text
   pub second-inside : f.inside ≡ true → operand_on g b o s t ≡ T.settle deep_of source_of ended_of (next_reader n) (i + 1) (operand_on f b o s t)
       → operand_on g b o s t ≡ arrived n i (operand_on f b o s t)
   second-inside h e =
       e ∙ ap (λ (u : Bool). cond u (T.settle deep_of source_of ended_of (next_reader n) (i + 1) (operand_on f b o s t))
-      (T.at_edge (operand_on f b o s t) (child_at true i (T.edge_of deep_of source_of ended_of (next_reader n) (operand_on f b o s t))))) (sym h)
+      (T.at_edge (operand_on f b o s t) (second_source i (T.edge_of deep_of source_of ended_of (next_reader n) (operand_on f b o s t))))) (sym h)
 
 -- the next block is read, or none; r: as code tests it
 module _ (n : ℕ) (s : List ℕ) (t u : List NodeRecord) (f : Operand) (b c : ReadBlock) (r : Bool) (tested : r ≡ (f.inside && not b.halted)) where
@@ -75,7 +62,7 @@ reads_none n s t f b r tested h =
 -- AT THE SECOND HALF: f before it, on the block reader of b and t; c and u: the block and the table after it is read, g: the input there
 pub second-arrived : (n i : ℕ) (s : List ℕ) (t u : List NodeRecord) (f g : Operand) (b c : ReadBlock)
     → record { block = c; table = u } ≡ read_by n s f b t → on_reader g (reader_in c s u) ≡ arrived n i (on_reader f (reader_in c s u))
-    → on_reader g (reader_in c s u) ≡ second_from n i (on_reader f (reader_in b s t))
+    → on_reader g (reader_in c s u) ≡ T.second_operand deep_of source_of ended_of (next_reader n) i (on_reader f (reader_in b s t))
 second-arrived n i s t u f g b c r a = a ∙ go f.inside refl
   where
     -- by whether it is inside its text, and that has ended
@@ -93,10 +80,10 @@ second-arrived n i s t u f g b c r a = a ∙ go f.inside refl
     -- where it arrives, on the block reader τ, or on that of b and t
     way : Bool → BlockReader → BlockReader → T.Operand BlockReader
     way v τ υ = cond v (T.settle deep_of source_of ended_of (next_reader n) (i + 1) (on_reader f τ))
-        (T.at_edge (on_reader f υ) (child_at true i (T.edge_of deep_of source_of ended_of (next_reader n) (on_reader f υ))))
+        (T.at_edge (on_reader f υ) (second_source i (T.edge_of deep_of source_of ended_of (next_reader n) (on_reader f υ))))
 
     go : (v : Bool) → f.inside ≡ v → arrived n i (on_reader f (reader_in c s u))
-        ≡ second_from n i (on_reader f (reader_in b s t))
+        ≡ T.second_operand deep_of source_of ended_of (next_reader n) i (on_reader f (reader_in b s t))
     go true e =
         ap (λ (τ : BlockReader). way f.inside τ τ) (reader true e ∙ read b.halted)
         ∙ ap (λ (v : Bool). way v (next_reader n (reader_in b s t)) (next_reader n (reader_in b s t))) e

@@ -1,10 +1,10 @@
 // The inputs of a run: each is inside its text, at the block that was read last, or at an edge of its own table.
 ghost use Rattle.std.specs.Prelude.{◌≡◌, false, cond, not, ◌&&◌, List, ℕ, ◌+◌};
-ghost use Rattle.theory_applying.specs.Operands.{settle, first_operand};
+ghost use Rattle.theory_applying.specs.Operands.{settle, first_operand, second_operand};
 ghost use Rattle.theory_combining.specs.BlockReaders.{deep_of, source_of, ended_of, next_reader};
 ghost use Rattle.blocks.specs.Blocks.{block_in};
 ghost use Rattle.elements.specs.declared.Opens.{Opens};
-ghost use Rattle.operands.specs.Abstraction.{operand_on, operand_of, begun_in, read_by, arrived, second_from, begun_from};
+ghost use Rattle.operands.specs.Abstraction.{operand_on, operand_of, begun_in, read_by, arrived, begun_from};
 
 use blocks::{Block, next_block};
 use cursors::first_cursor;
@@ -62,7 +62,7 @@ fn at_terminal() -> Operand
 }
 
 // A block as great as a part that i open nodes are around is an edge. Past the end of its text an input is at the terminal.
-pub fn settle(i: u32, f: Operand, b: Block) -> Operand
+fn settle(i: u32, f: Operand, b: Block) -> Operand
     ensures { (n : ℕ) (o : Opens) (s : List ℕ) (t : List NodeRecord) → operand_on result b o s t
         ≡ settle deep_of source_of ended_of (next_reader n) (i + 1) (operand_on f b o s t) }
 {
@@ -167,7 +167,7 @@ pub fn second_half(
     b: Block,
 ) -> Begun
     ensures { begun_in result o.new s.now t.new
-        ≡ second_from n i (operand_of f b o.old s.now t.old) }
+        ≡ second_operand deep_of source_of ended_of (next_reader n) i (operand_of f b o.old s.now t.old) }
 {
     let c = read_on(n, s, t, o, f, b);
     Begun {

@@ -8,19 +8,15 @@ use Rattle.operation_cache.specs.declared.Key.{Key}
 use Rattle.operation_cache.specs.declared.Told.{Told}
 use Rattle.node_records.specs.declared.WriterRecord.{WriterRecord}
 
--- the mark of an edge in a table where the option of level k is fixed, none if k is 0: 1 if it is turned about, and 2 more for an option
-abbrev pub mark_in : ℕ → Bool → ℕ
-mark_in k c = cond (eqb k 0) 0 2 + bit c
-
 -- what a part is remembered by, as the cells of a row have it
 abbrev pub key_cells : Key → List ℕ
-key_cells k = k.number1 ∷ k.stamp1 ∷ k.mark1 ∷ k.number2 ∷ k.stamp2 ∷ k.mark2 ∷ []
+key_cells k = k.number1 ∷ k.stamp1 ∷ k.complement1 ∷ k.number2 ∷ k.stamp2 ∷ k.complement2 ∷ []
 
 -- a row has something, and its key is k
 abbrev pub holds : List ℕ → Key → Bool
 holds r k =
-    not (is_empty r) && (eqb (get_or r 3 0) k.number1 && (eqb (get_or r 4 0) k.stamp1 && (eqb (get_or r 5 0) k.mark1
-    && (eqb (get_or r 6 0) k.number2 && (eqb (get_or r 7 0) k.stamp2 && eqb (get_or r 8 0) k.mark2)))))
+    not (is_empty r) && (eqb (get_or r 3 0) k.number1 && (eqb (get_or r 4 0) k.stamp1 && (eqb (get_or r 5 0) k.complement1
+    && (eqb (get_or r 6 0) k.number2 && (eqb (get_or r 7 0) k.stamp2 && eqb (get_or r 8 0) k.complement2)))))
 
 -- what a row with the key of a part of level i tells
 abbrev pub told_by : Told → List ℕ → ℕ → List WriterRecord → Type 0

@@ -9,35 +9,25 @@ use Rattle.theory_engine.specs.Engine as E
 use Rattle.theory_applying.specs.Memo.{is_young, number_in, stamp_in, complement_in, told_half, cache_entries, slot_from, slot_of}
 use Rattle.meeting.specs.Abstraction.{half_of}
 use Rattle.meeting.specs.declared.Half.{Half}
-use Rattle.operation_cache.specs.Abstraction.{mark_in, key_cells, holds, told_by, tells_by, noted_entry, noted_by}
+use Rattle.operation_cache.specs.Abstraction.{key_cells, holds, told_by, tells_by, noted_entry, noted_by}
 use Rattle.operation_cache.specs.declared.Key.{Key}
 use Rattle.operation_cache.specs.declared.Told.{Told}
 use Rattle.node_records.specs.declared.WriterRecord.{WriterRecord}
 
 -- ---- The place of a key ----------------------------------------------------------------------
 
-pub slot-pair : (k : Key) (v w : ℕ) → v ≡ stir 2654435769 (k.stamp1 * edge_span + k.number1 * 2 + k.mark1)
-    → w ≡ stir 2654435769 (v % 4294967296 + (k.stamp2 * edge_span + k.number2 * 2 + k.mark2)) → w % cache_entries ≡ slot_of (key_cells k)
+pub slot-pair : (k : Key) (v w : ℕ) → v ≡ stir 2654435769 (k.stamp1 * edge_span + k.number1 * 2 + k.complement1)
+    → w ≡ stir 2654435769 (v % 4294967296 + (k.stamp2 * edge_span + k.number2 * 2 + k.complement2)) → w % cache_entries ≡ slot_of (key_cells k)
 unfolding slot_from
 slot-pair k v w e f =
-    let a : ℕ = k.stamp1 * edge_span + k.number1 * 2 + k.mark1 in
+    let a : ℕ = k.stamp1 * edge_span + k.number1 * 2 + k.complement1 in
     let z : a ≡ 0 + a = omega arith in
-    ap (λ (w : ℕ). w % cache_entries) (f ∙ ap (λ (v : ℕ). stir 2654435769 (v % 4294967296 + (k.stamp2 * edge_span + k.number2 * 2 + k.mark2)))
+    ap (λ (w : ℕ). w % cache_entries) (f ∙ ap (λ (v : ℕ). stir 2654435769 (v % 4294967296 + (k.stamp2 * edge_span + k.number2 * 2 + k.complement2)))
     (e ∙ ap (stir 2654435769) z))
 
-bit-as : (b : Bool) (x : ℕ) → x ≡ cond b 1 0 → x ≡ bit b
+pub bit-as : (b : Bool) (x : ℕ) → x ≡ cond b 1 0 → x ≡ bit b
 bit-as true x e = e
 bit-as false x e = e
-
--- its mark: a for an option, b for turned about
-pub mark-as : (k : ℕ) (c : Bool) (a b : ℕ) → a ≡ cond (eqb k 0) 0 2 → b ≡ cond c 1 0 → a + b ≡ mark_in k c
-mark-as k c a b e f = ap₂ ◌+◌ e (bit-as c b f)
-
-pub mark-fits : (u c : Bool) (a b : ℕ) → a ≡ cond u 0 2 → b ≡ cond c 1 0 → a + b ≤ 3
-mark-fits true true a b e f = omega (arith, e, f)
-mark-fits true false a b e f = omega (arith, e, f)
-mark-fits false true a b e f = omega (arith, e, f)
-mark-fits false false a b e f = omega (arith, e, f)
 
 -- ---- What a row tells ------------------------------------------------------------------------
 

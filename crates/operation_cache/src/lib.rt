@@ -1,8 +1,9 @@
 // The operation cache: what parts of the walk over stored nodes came to.
 ghost use Rattle.std.specs.Prelude.{◌≡◌, false, true, ◌||◌, [], ◌∷◌, get_or, set, ◌-◌};
+ghost use Rattle.theory_lists.specs.Lists.{bit};
 ghost use Rattle.theory_applying.specs.Memo.{slot_of};
 ghost use Rattle.meeting.specs.Abstraction.{half_of};
-ghost use Rattle.operation_cache.specs.Abstraction.{mark_in, key_cells, holds, tells_by, told_by, noted_entry, noted_by};
+ghost use Rattle.operation_cache.specs.Abstraction.{key_cells, holds, tells_by, told_by, noted_entry, noted_by};
 
 use edges::TableEdge;
 use meeting::{Half, Walked, constant, half_of, numbered, progress_of};
@@ -19,37 +20,30 @@ const ROWS: u64 = CACHE_ENTRIES as u64;
 const EDGE_SPAN: u64 = 2 * NUMBER_SPAN;
 
 // ---- Rows: a row has 0 if it is empty, else 1, or 2 if the part is complemented; the number that the part came to and its stamp;
-// number, stamp and mark of each input's edge
+// number, stamp and 1 for turned about of each input's edge
 
 // What a part is remembered by
 #[derive(Drop)]
 pub struct Key {
     pub number1: u32,
     pub stamp1: u32,
-    pub mark1: u32,
+    pub complement1: u32,
     pub number2: u32,
     pub stamp2: u32,
-    pub mark2: u32,
+    pub complement2: u32,
 }
 
-// 1 for turned about, and 2 more if an option is fixed
-fn mark(fixed: u32, c: bool) -> u32
-    ensures { result ≡ mark_in fixed c }
-{
-    either(fixed == 0, 0, 2) + either(c, 1, 0)
-}
-
-// g and h: the stamps of the edges' numbers; fixed: the level of an option that is fixed, or 0
-pub fn key_of(fixed: u32, x: TableEdge, g: u32, y: TableEdge, h: u32) -> Key
-    ensures { key_cells result ≡ x.number ∷ g ∷ mark_in fixed x.complement ∷ y.number ∷ h ∷ mark_in fixed y.complement ∷ [] }
+// g and h: the stamps of the edges' numbers
+pub fn key_of(x: TableEdge, g: u32, y: TableEdge, h: u32) -> Key
+    ensures { key_cells result ≡ x.number ∷ g ∷ bit x.complement ∷ y.number ∷ h ∷ bit y.complement ∷ [] }
 {
     Key {
         number1: x.number,
         stamp1: g,
-        mark1: mark(fixed, x.complement),
+        complement1: either(x.complement, 1, 0),
         number2: y.number,
         stamp2: h,
-        mark2: mark(fixed, y.complement),
+        complement2: either(y.complement, 1, 0),
     }
 }
 
@@ -57,8 +51,8 @@ pub fn key_of(fixed: u32, x: TableEdge, g: u32, y: TableEdge, h: u32) -> Key
 pub fn slot(k: Key) -> usize
     ensures { result ≡ slot_of (key_cells k) }
 {
-    let a = k.stamp1 as u64 * EDGE_SPAN + k.number1 as u64 * 2 + k.mark1 as u64;
-    let b = k.stamp2 as u64 * EDGE_SPAN + k.number2 as u64 * 2 + k.mark2 as u64;
+    let a = k.stamp1 as u64 * EDGE_SPAN + k.number1 as u64 * 2 + k.complement1 as u64;
+    let b = k.stamp2 as u64 * EDGE_SPAN + k.number2 as u64 * 2 + k.complement2 as u64;
     let v = stir(2654435769, a);
     (stir(2654435769, v % 4294967296 + b) % ROWS) as usize
 }
@@ -76,7 +70,7 @@ fn is_held(r: [u32; 9], k: Key) -> bool
     if r[4] != k.stamp1 {
         return false;
     }
-    if r[5] != k.mark1 {
+    if r[5] != k.complement1 {
         return false;
     }
     if r[6] != k.number2 {
@@ -85,7 +79,7 @@ fn is_held(r: [u32; 9], k: Key) -> bool
     if r[7] != k.stamp2 {
         return false;
     }
-    r[8] == k.mark2
+    r[8] == k.complement2
 }
 
 // What is known of a part, if anything
@@ -163,15 +157,15 @@ fn remember(c: &mut [[u32; 9]], p: usize, k: Key, h: Half)
         h.stamp,
         k.number1,
         k.stamp1,
-        k.mark1,
+        k.complement1,
         k.number2,
         k.stamp2,
-        k.mark2,
+        k.complement2,
     ];
 }
 
-// It is remembered unless it is a temporary node, more was sent than the output holds, or both inputs are alike at its halves: it is remembered
-// then from a deeper level.
+// It is remembered unless it is a temporary node, more was sent than the output holds, or both inputs pass over its level: it is remembered
+// then from a deeper one.
 pub fn note(c: &mut [[u32; 9]], p: usize, k: Key, pass: bool, r: Walked)
     ensures { c.new ≡ noted_by c.old p k (r.progress.full || pass) (half_of r.half) }
 {

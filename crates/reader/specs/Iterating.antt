@@ -22,7 +22,7 @@ use Rattle.scanner.specs.TokenView.{next_token_view, NextTokenView}
 use Rattle.scanner.specs.TokenLaws.{token-depth}
 use Rattle.elements.specs.declared.Cause.{Cause}
 use Rattle.elements.specs.declared.Cause.TheVariants.{OptionCount, OperatorCode, SizeToWrite, WorkTable, WordRange, TruthTable, WrongByte}
-use Rattle.elements.specs.declared.Cause.TheVariants.{DeclaredSize, TooDeep, NotInTable, OtherLevel, NotStorable, BadNumber, OptionRange, NoPoint}
+use Rattle.elements.specs.declared.Cause.TheVariants.{DeclaredSize, TooDeep, NotInTable, OtherLevel, NotStorable, BadNumber}
 use Rattle.elements.specs.declared.Element.{Element}
 use Rattle.elements.specs.declared.Element.TheVariants as E
 use Rattle.scanner.specs.declared.NextToken.{NextToken}
@@ -86,8 +86,6 @@ cause_back C.not_in_table = NotInTable
 cause_back C.other_level = OtherLevel
 cause_back C.not_storable = NotStorable
 cause_back C.bad_number = BadNumber
-cause_back C.option_range = OptionRange
-cause_back C.no_point = NoPoint
 
 cause-back : (c : Cause) → cause_back (cause_of c) ≡ c
 cause-back OptionCount = refl
@@ -103,8 +101,6 @@ cause-back NotInTable = refl
 cause-back OtherLevel = refl
 cause-back NotStorable = refl
 cause-back BadNumber = refl
-cause-back OptionRange = refl
-cause-back NoPoint = refl
 
 back-cause : (c : C.Cause) → cause_of (cause_back c) ≡ c
 back-cause C.option_count = refl
@@ -120,8 +116,6 @@ back-cause C.not_in_table = refl
 back-cause C.other_level = refl
 back-cause C.not_storable = refl
 back-cause C.bad_number = refl
-back-cause C.option_range = refl
-back-cause C.no_point = refl
 
 abbrev element_back : T.Element → Element
 element_back T.opening = E.Opening

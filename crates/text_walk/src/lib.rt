@@ -12,10 +12,8 @@ ghost use Rattle.text_walk.specs.Abstraction.{first_value, gap_in, gap_by, carri
 use applier::apply;
 use blocks::Block;
 use elements::OPEN_LIMIT;
-use meeting::{
-    Half, Progress, Walked, constant, done, half_of, kept, progress_after, progress_of, second,
-};
-use node_records::{NodeRecord, OPTION_LIMIT, WORD_LIMIT, WriterRecord, differs};
+use meeting::{Half, Progress, Walked, done, half_of, progress_after, progress_of, second};
+use node_records::{NodeRecord, OPTION_LIMIT, WriterRecord, differs};
 use operands::{Begun, Operand, edge_of, first_half, first_value, second_half};
 use operators::operate;
 use pending_text::{Sent, push, push_number, push_tilde, send, wait};
@@ -53,11 +51,11 @@ fn at_edges(k: Task, d: u32, at: u64, f: Operand, g: Operand) -> bool
 
 // What a part came to, with the block of each input that was read last; the first word that is not covered was met
 #[derive(Drop)]
-pub struct Applied {
-    pub ended: bool,
-    pub walked: Walked,
-    pub first: Block,
-    pub second: Block,
+struct Applied {
+    ended: bool,
+    walked: Walked,
+    first: Block,
+    second: Block,
 }
 
 fn walked_of(a: Applied) -> Walked
@@ -186,17 +184,6 @@ fn went_on(x: Walked, b1: Block, b2: Block) -> Applied
     }
 }
 
-// A part of level i with d options left whose words begin with `at` is one of a rule within the option limit.
-fn is_within(d: u32, i: u32, at: u64) -> bool {
-    if OPTION_LIMIT < d {
-        return false;
-    }
-    if OPTION_LIMIT + 1 - d < i {
-        return false;
-    }
-    at <= WORD_LIMIT - (1u64 << d)
-}
-
 // The part of level i whose words begin with `at`, m bytes waiting before it; f and g: the inputs there, of the streams x and y; c: the operation
 // cache.
 fn texts(
@@ -230,9 +217,7 @@ fn texts(
     if at_edges(k, d, at, f, g) {
         let p = edge_of(f, b1);
         let q = edge_of(g, b2);
-        let r = apply(
-            k.op, k.size, 0, d, i, m, p, q, t1, t2, t, out, w, c, progress,
-        );
+        let r = apply(k.op, k.size, d, i, m, p, q, t1, t2, t, out, w, c, progress);
         return went_on(r, b1, b2);
     }
     let e = d - 1;
@@ -264,37 +249,6 @@ fn texts(
     let h = n.half;
     let l = second(k.size, i, n.count, n.complement, h, walked_of(b), t, out, w);
     met(l, b)
-}
-
-// A PART OF A RUN, as a rule within the option limit has it; past that nothing is walked.
-pub fn part(
-    k: Task,
-    d: u32,
-    i: u32,
-    at: u64,
-    m: usize,
-    x: &[u8],
-    y: &[u8],
-    f: Operand,
-    g: Operand,
-    b1: Block,
-    b2: Block,
-    o1: &mut [[u32; 4]; OPEN_LIMIT],
-    o2: &mut [[u32; 4]; OPEN_LIMIT],
-    t1: &mut [NodeRecord],
-    t2: &mut [NodeRecord],
-    t: &mut [WriterRecord],
-    out: &mut [u8],
-    w: &mut [u8],
-    c: &mut [[u32; 9]],
-    progress: Progress,
-) -> Applied {
-    if !is_within(d, i, at) {
-        return went_on(kept(constant(false), progress), b1, b2);
-    }
-    texts(
-        k, d, i, at, m, x, y, f, g, b1, b2, o1, o2, t1, t2, t, out, w, c, progress,
-    )
 }
 
 // ---- The whole run

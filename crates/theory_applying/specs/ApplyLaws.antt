@@ -1,35 +1,19 @@
 -- What inputs at edges of their tables show at a block and at its halves, and what an operator makes of it. Assumes nothing.
-use Rattle.std.specs.Prelude.{◌≡◌, cond, not, ◌&&◌, ◌||◌, ◌⊎◌, ℕ, zero, suc, ◌+◌, ◌-◌, ◌<◌, ◌^◌}
-use Rattle.std.proofs.Math.Path.{refl, sym, ap, subst⁻¹}
-use Rattle.std.proofs.Common.{ap₂, ◌∙◌, subst, true≢false, inl, inr, ⊎_elim, arith}
-use Rattle.std.proofs.Math.Bool.{Bool, true, false}
-use mathlib.Core.List.{List, [], ◌∷◌}
-use Rattle.std.proofs.Math.Dec.{eqb, ltb}
-use borrow.Author.Tests.{eqb-true, eqb-false, eq-eqb, ne_eqb, ltb-true, ltb-false}
+use Rattle.std.specs.Prelude.{◌≡◌, refl, Bool, true, false, cond, not, ◌&&◌, ◌||◌, ◌⊎◌, List, [], ◌∷◌, ℕ, zero, suc, ◌+◌, ◌-◌, ◌<◌, ◌^◌, eqb, ltb}
+use Rattle.std.proofs.Common.{sym, ap, ap₂, ◌∙◌, subst, true≢false, inl, inr, ⊎_elim, arith, eqb-true, ltb-true, ltb-false}
+use Rattle.std.proofs.lemmas.Bool.{eqb-false}
 use Rattle.theory_lists.specs.Lists.{differ, and_l, and_r, or_l, or_r, pow_pos}
+use Rattle.theory_reading.specs.Nodes.{node}
 use Rattle.theory_reading.specs.Deciding.{options, Decision, undecided, decided, complemented}
 use Rattle.theory_reading.specs.Words.{options-low, options-high, complemented-twice}
 use Rattle.theory_reading.specs.TableWalk.{table_walk, table_walk-zero, table_walk-skip, table_walk-go}
-use Rattle.theory_applying.specs.Applying.{Table, Source, node_of, passes, picks, child_source, half_source, first_source, second_source, alike, start_in}
-use Rattle.theory_applying.specs.Applying.{start_of, first_sources, second_sources, start_values, first_values, all_pass, all_alike, fixed}
+use Rattle.theory_applying.specs.Applying.{Source, passes, first_source, second_source, first_sources, second_sources, first_values, all_pass, fixed}
 
 -- ---- What an input shows ---------------------------------------------------------------------
 
--- the options from level i on, with the one that is fixed as it is set
-unfoldable pub fixed_options : Table → ℕ → List Bool → List Bool
-fixed_options t i [] = []
-fixed_options t i (o ∷ os) = picks t i o ∷ fixed_options t (i + 1) os
-
--- with none fixed, or one above, they are as they are
-pub plain-options : (t : Table) (i : ℕ) (os : List Bool) → t.level < i → fixed_options t i os ≡ os
-unfolding fixed_options
-plain-options t i [] l = refl
-plain-options t i (o ∷ os) l =
-    ap₂ ◌∷◌ (ap (λ (b : Bool). cond b t.value o) (ne_eqb i t.level (λ e. omega (arith, e, l)))) (plain-options t (i + 1) os (omega (arith, l)))
-
 -- what it decides under the options from level i on
 abbrev pub source_walk : Source → ℕ → List Bool → Decision
-source_walk x i os = complemented x.complement (table_walk x.table.nodes i x.number (fixed_options x.table i os))
+source_walk x i os = complemented x.complement (table_walk x.table i x.number os)
 
 -- the input shows, at a block of level i with m options, the decisions g
 abbrev pub Shows : Source → ℕ → ℕ → (ℕ → Bool) → Type 0
@@ -42,8 +26,8 @@ decided-same a b e = cc
 -- the constant decides no, turned about or not
 pub constant-walk : (x : Source) (i : ℕ) (os : List Bool) → x.number ≡ 0 → source_walk x i os ≡ decided x.complement
 constant-walk x i os z =
-    ap (λ (c : ℕ). complemented x.complement (table_walk x.table.nodes i c (fixed_options x.table i os))) z
-    ∙ ap (complemented x.complement) (table_walk-zero x.table.nodes i (fixed_options x.table i os)) ∙ no x.complement
+    ap (λ (c : ℕ). complemented x.complement (table_walk x.table i c os)) z
+    ∙ ap (complemented x.complement) (table_walk-zero x.table i os) ∙ no x.complement
   where
     no : (b : Bool) → complemented b (decided false) ≡ decided b
     no true = refl
@@ -52,86 +36,82 @@ constant-walk x i os z =
 module _ (i : ℕ) (x : Source) where
   -- inside brackets, and at the constant, the option is passed over
   passed : (o : Bool) (os : List Bool) → passes i x ≡ true → source_walk x i (o ∷ os) ≡ source_walk x (i + 1) os
-  unfolding fixed_options
-  passed o os e = go (eqb x.number 0) (ltb i (node_of x).level) refl refl e
+  passed o os e = go (eqb x.number 0) (ltb i (node x.table x.number).level) refl refl e
     where
-      go : (z l : Bool) → eqb x.number 0 ≡ z → ltb i (node_of x).level ≡ l → (z || l) ≡ true
+      go : (z l : Bool) → eqb x.number 0 ≡ z → ltb i (node x.table x.number).level ≡ l → (z || l) ≡ true
           → source_walk x i (o ∷ os) ≡ source_walk x (i + 1) os
       go true l z h e =
           let c = eqb-true x.number 0 z in constant-walk x i (o ∷ os) c ∙ sym (constant-walk x (i + 1) os c)
       go false true z h e =
           ap (complemented x.complement)
-          (table_walk-skip x.table.nodes i x.number (picks x.table i o) (fixed_options x.table (i + 1) os) (eqb-false x.number 0 z)
-          (ltb-true i (node_of x).level h))
+          (table_walk-skip x.table i x.number o os (eqb-false x.number 0 z)
+          (ltb-true i (node x.table x.number).level h))
       go false false z h e = absurd (true≢false (sym e))
 
   -- else it picks the child
-  picked : (o : Bool) (os : List Bool) → passes i x ≡ false → table_walk x.table.nodes i x.number (o ∷ os)
-      ≡ cond o (complemented (node_of x).complement (table_walk x.table.nodes (i + 1) (node_of x).second os))
-      (table_walk x.table.nodes (i + 1) (node_of x).first os)
+  picked : (o : Bool) (os : List Bool) → passes i x ≡ false → table_walk x.table i x.number (o ∷ os)
+      ≡ cond o (complemented (node x.table x.number).complement
+      (table_walk x.table (i + 1) (node x.table x.number).second os))
+      (table_walk x.table (i + 1) (node x.table x.number).first os)
   picked o os e =
-      table_walk-go x.table.nodes i x.number o os (eqb-false x.number 0 (or_l (eqb x.number 0) _ e))
-      (ltb-false i (node_of x).level (or_r (eqb x.number 0) _ e))
+      table_walk-go x.table i x.number o os (eqb-false x.number 0 (or_l (eqb x.number 0) _ e))
+      (ltb-false i (node x.table x.number).level (or_r (eqb x.number 0) _ e))
 
-  -- under the option o it goes on in that half
-  pub source-half : (o : Bool) (os : List Bool) → source_walk x i (o ∷ os) ≡ source_walk (half_source o i x) (i + 1) os
-  unfolding fixed_options
-  source-half o os = go (passes i x) refl
+  -- at no it goes on in the first half
+  source_first : (os : List Bool) → source_walk x i (false ∷ os) ≡ source_walk (first_source i x) (i + 1) os
+  source_first os = go (passes i x) refl
     where
-      rest : List Bool
-      rest = fixed_options x.table (i + 1) os
+      y : Source
+      y = record { table = x.table; number = (node x.table x.number).first; complement = x.complement }
 
-      child : (b : Bool) → complemented x.complement (cond b (complemented (node_of x).complement
-          (table_walk x.table.nodes (i + 1) (node_of x).second rest)) (table_walk x.table.nodes (i + 1) (node_of x).first rest))
-          ≡ source_walk (child_source b x) (i + 1) os
-      child true =
-          complemented-twice x.complement (node_of x).complement (table_walk x.table.nodes (i + 1) (node_of x).second rest)
-      child false = refl
+      go : (u : Bool) → passes i x ≡ u → source_walk x i (false ∷ os) ≡ source_walk (cond u x y) (i + 1) os
+      go true e = passed false os e
+      go false e = ap (complemented x.complement) (picked false os e)
 
-      go : (u : Bool) → passes i x ≡ u → source_walk x i (o ∷ os) ≡ source_walk (cond u x (child_source (picks x.table i o) x)) (i + 1) os
-      go true e = passed o os e
-      go false e = ap (complemented x.complement) (picked (picks x.table i o) rest e) ∙ child (picks x.table i o)
-
-  -- no turn is met at the first half, unless the option is set there
-  first-complement : picks x.table i false ≡ false → (first_source i x).complement ≡ x.complement
-  first-complement e = go (passes i x) (picks x.table i false) e
+  -- at yes in the second
+  source-second : (os : List Bool) → source_walk x i (true ∷ os) ≡ source_walk (second_source i x) (i + 1) os
+  source-second os = go (passes i x) refl
     where
-      go : (u b : Bool) → b ≡ false → (cond u x (child_source b x)).complement ≡ x.complement
-      go true b e = refl
-      go false true e = absurd (true≢false e)
-      go false false e = refl
+      c : Bool
+      c = (node x.table x.number).complement
 
-  -- the table stays
-  pub half-table : (o : Bool) → (half_source o i x).table ≡ x.table
-  half-table o = go (passes i x) (picks x.table i o)
+      y : Source
+      y = record { table = x.table; number = (node x.table x.number).second; complement = differ c x.complement }
+
+      go : (u : Bool) → passes i x ≡ u → source_walk x i (true ∷ os) ≡ source_walk (cond u x y) (i + 1) os
+      go true e = passed true os e
+      go false e =
+          ap (complemented x.complement) (picked true os e)
+          ∙ complemented-twice x.complement c (table_walk x.table (i + 1) y.number os)
+
+  -- no turn is met at the first half
+  first-complement : (first_source i x).complement ≡ x.complement
+  first-complement = go (passes i x)
     where
-      go : (u b : Bool) → (cond u x (child_source b x)).table ≡ x.table
-      go true b = refl
-      go false true = refl
-      go false false = refl
+      y : Source
+      y = record { table = x.table; number = (node x.table x.number).first; complement = x.complement }
 
-  -- so does the constant
-  half-constant : (o : Bool) → x.number ≡ 0 → half_source o i x ≡ x
-  half-constant o z =
-      ap (λ (b : Bool). cond (b || ltb i (node_of x).level) x (child_source (picks x.table i o) x)) (eq-eqb x.number 0 z)
+      go : (u : Bool) → (cond u x y).complement ≡ x.complement
+      go true = refl
+      go false = refl
 
 -- at the first half of a block an input shows what it shows at the first words of the block
 pub shows_first : (x : Source) (m i : ℕ) (g : ℕ → Bool) → Shows x (suc m) i g → Shows (first_source i x) m (i + 1) g
 shows_first x m i g h w l =
-    sym (source-half i x false (options m w)) ∙ ap (source_walk x i) (sym (options-low m w l)) ∙ h w (omega (arith, l))
+    sym (source_first i x (options m w)) ∙ ap (source_walk x i) (sym (options-low m w l)) ∙ h w (omega (arith, l))
 
 -- at the second half, what it shows at the others
 pub shows_second : (x : Source) (m i : ℕ) (g : ℕ → Bool) → Shows x (suc m) i g
     → Shows (second_source i x) m (i + 1) (λ w. g (2 ^ m + w))
 shows_second x m i g h w l =
     let e : 2 ^ m + w - 2 ^ m ≡ w = omega arith in
-    sym (source-half i x true (options m w))
+    sym (source-second i x (options m w))
     ∙ ap (λ (k : ℕ). source_walk x i (true ∷ options m k)) (sym e)
     ∙ ap (source_walk x i) (sym (options-high m (2 ^ m + w) (omega arith))) ∙ h (2 ^ m + w) (omega (arith, l))
 
 -- with no option left it is at the constant
 shows-none : (x : Source) (i : ℕ) (g : ℕ → Bool) → Shows x 0 i g → x.number ≡ 0
-unfolding table_walk options fixed_options
+unfolding table_walk options
 shows-none x i g h = go (eqb x.number 0) refl (h 0 (omega arith))
   where
     go : (u : Bool) → eqb x.number 0 ≡ u → complemented x.complement (cond u (decided false) undecided) ≡ decided (g 0)
@@ -143,48 +123,10 @@ shows-none x i g h = go (eqb x.number 0) refl (h 0 (omega arith))
 shows-constant : (x : Source) (m i : ℕ) (g : ℕ → Bool) → x.number ≡ 0 → Shows x m i g → (w : ℕ) → w < 2 ^ m → g w ≡ x.complement
 shows-constant x m i g z h w l = decided-same (g w) x.complement (sym (h w l) ∙ constant-walk x i (options m w) z)
 
--- ---- What it shows at the first word ---------------------------------------------------------
-
--- the first half is picked
-picks_first : (t : Table) (i : ℕ) → (t.value ≡ false) ⊎ (t.level < i) → picks t i false ≡ false
-picks_first t i (inl e) = ap (λ (v : Bool). cond (eqb i t.level) v false) e ∙ both (eqb i t.level)
-  where
-    both : (b : Bool) → cond b false false ≡ false
-    both true = refl
-    both false = refl
-picks_first t i (inr l) = ap (λ (b : Bool). cond b t.value false) (ne_eqb i t.level (λ e. omega (arith, e, l)))
-
--- whether it is turned about, if its option is not set, or above
-pub shows_low : (x : Source) (m i : ℕ) (g : ℕ → Bool) → (x.table.value ≡ false) ⊎ (x.table.level < i) → Shows x m i g → g 0 ≡ x.complement
-shows_low x zero i g p h = shows-constant x 0 i g (shows-none x i g h) h 0 (omega arith)
-shows_low x (suc m) i g p h =
-    shows_low (first_source i x) m (i + 1) g
-    (subst⁻¹ (λ (t : Table). (t.value ≡ false) ⊎ (t.level < i + 1)) (half-table i x false) (⊎_elim (λ e. inl e) (λ l. inr (omega (arith, l))) p))
-    (shows_first x m i g h) ∙ first-complement i x (picks_first x.table i p)
-
--- at the constant that is so at any rate
-start-constant : (e i : ℕ) (x : Source) → x.number ≡ 0 → start_in e i x ≡ x.complement
-unfolding start_in
-start-constant zero i x z = refl
-start-constant (suc e) i x z = ap (start_in e (i + 1)) (half-constant i x false z) ∙ start-constant e (i + 1) x z
-
--- down to below the option
-shows-down : (x : Source) (m i e : ℕ) (g : ℕ → Bool) → x.table.level < i + e → Shows x m i g → g 0 ≡ start_in e i x
-unfolding start_in
-shows-down x zero i e g l h =
-    let z = shows-none x i g h in shows-constant x 0 i g z h 0 (omega arith) ∙ sym (start-constant e i x z)
-shows-down x (suc m) i zero g l h = shows_low x (suc m) i g (inr (omega (arith, l))) h
-shows-down x (suc m) i (suc e) g l h =
-    shows-down (first_source i x) m (i + 1) e g (subst⁻¹ (λ (t : Table). t.level < i + 1 + e) (half-table i x false) (omega (arith, l)))
-    (shows_first x m i g h)
-
--- AT THE FIRST WORD it shows what it starts with
-pub shows-start : (x : Source) (m i : ℕ) (g : ℕ → Bool) → Shows x m i g → g 0 ≡ start_of i x
-shows-start x m i g h = go x.table.value refl
-  where
-    go : (v : Bool) → x.table.value ≡ v → g 0 ≡ cond v (start_in (suc x.table.level - i) i x) x.complement
-    go true e = shows-down x m i (suc x.table.level - i) g (omega arith) h
-    go false e = shows_low x m i g (inl e) h
+-- at the first word it shows whether it is turned about
+pub shows-start : (x : Source) (m i : ℕ) (g : ℕ → Bool) → Shows x m i g → g 0 ≡ x.complement
+shows-start x zero i g h = shows-constant x 0 i g (shows-none x i g h) h 0 (omega arith)
+shows-start x (suc m) i g h = shows-start (first_source i x) m (i + 1) g (shows_first x m i g h) ∙ first-complement i x
 
 -- ---- What all inputs show --------------------------------------------------------------------
 
@@ -231,59 +173,29 @@ all-second (x ∷ xs) m i [] h = h
 all-second (x ∷ xs) m i (g ∷ gs) h = (shows_second x m i g h.0, all-second xs m i gs h.1)
 
 -- at the first word
-all_start : (xs : List Source) (m i : ℕ) (gs : List (ℕ → Bool)) → ShowsAll xs m i gs → decisions_at gs 0 ≡ start_values i xs
+all_start : (xs : List Source) (m i : ℕ) (gs : List (ℕ → Bool)) → ShowsAll xs m i gs → decisions_at gs 0 ≡ first_values xs
 all_start [] m i [] h = refl
 all_start [] m i (g ∷ gs) h = absurd h
 all_start (x ∷ xs) m i [] h = absurd h
 all_start (x ∷ xs) m i (g ∷ gs) h = ap₂ ◌∷◌ (shows-start x m i g h.0) (all_start xs m i gs h.1)
 
--- with no option left
-all_none : (xs : List Source) (i : ℕ) (gs : List (ℕ → Bool)) → ShowsAll xs 0 i gs → decisions_at gs 0 ≡ first_values xs
-all_none [] i [] h = refl
-all_none [] i (g ∷ gs) h = absurd h
-all_none (x ∷ xs) i [] h = absurd h
-all_none (x ∷ xs) i (g ∷ gs) h =
-    ap₂ ◌∷◌ (shows-constant x 0 i g (shows-none x i g h.0) h.0 0 (omega arith)) (all_none xs i gs h.1)
-
 -- ---- A level that all pass over --------------------------------------------------------------
 
 -- they stay as they are at both halves
-pass-halves : (o : Bool) (i : ℕ) (x : Source) → passes i x ≡ true → half_source o i x ≡ x
-pass-halves o i x e = ap (λ (b : Bool). cond b x (child_source (picks x.table i o) x)) e
-
 pub pass-first : (i : ℕ) (xs : List Source) → all_pass i xs ≡ true → first_sources i xs ≡ xs
 pass-first i [] e = refl
 pass-first i (x ∷ xs) e =
-    ap₂ ◌∷◌ (pass-halves false i x (and_l (passes i x) (all_pass i xs) e)) (pass-first i xs (and_r (passes i x) (all_pass i xs) e))
+    ap₂ ◌∷◌ (ap (λ (b : Bool). cond b x (record { table = x.table; number = (node x.table x.number).first; complement = x.complement }))
+    (and_l (passes i x) (all_pass i xs) e)) (pass-first i xs (and_r (passes i x) (all_pass i xs) e))
 
 pub pass-second : (i : ℕ) (xs : List Source) → all_pass i xs ≡ true → second_sources i xs ≡ xs
 pass-second i [] e = refl
 pass-second i (x ∷ xs) e =
-    ap₂ ◌∷◌ (pass-halves true i x (and_l (passes i x) (all_pass i xs) e)) (pass-second i xs (and_r (passes i x) (all_pass i xs) e))
-
--- ---- A level at which both halves are alike for all ------------------------------------------
-
--- they are at the same edge at both
-alike-halves : (i : ℕ) (x : Source) → alike i x ≡ true → second_source i x ≡ first_source i x
-alike-halves i x e = go (passes i x) (eqb i x.table.level) e
-  where
-    go : (p k : Bool) → (p || k) ≡ true → cond p x (child_source (cond k x.table.value true) x) ≡ cond p x (child_source (cond k x.table.value false) x)
-    go true k e = refl
-    go false true e = refl
-    go false false e = absurd (true≢false (sym e))
-
-all_alike : (i : ℕ) (xs : List Source) → all_alike i xs ≡ true → second_sources i xs ≡ first_sources i xs
-all_alike i [] e = refl
-all_alike i (x ∷ xs) e = ap₂ ◌∷◌ (alike-halves i x (and_l (alike i x) (all_alike i xs) e)) (all_alike i xs (and_r (alike i x) (all_alike i xs) e))
-
--- where they pass over it this is so
-pub pass-all-alike : (i : ℕ) (xs : List Source) → all_alike i xs ≡ false → all_pass i xs ≡ false
-pass-all-alike i [] e = e
-pass-all-alike i (x ∷ xs) e = go (passes i x) (eqb i x.table.level) (all_alike i xs) (all_pass i xs) (pass-all-alike i xs) e
-  where
-    go : (p k a b : Bool) → (a ≡ false → b ≡ false) → ((p || k) && a) ≡ false → (p && b) ≡ false
-    go true k a b r e = r e
-    go false k a b r e = refl
+    ap₂ ◌∷◌ (ap (λ (b : Bool). cond b x (record {
+      table = x.table;
+      number = (node x.table x.number).second;
+      complement = differ (node x.table x.number).complement x.complement;
+    })) (and_l (passes i x) (all_pass i xs) e)) (pass-second i xs (and_r (passes i x) (all_pass i xs) e))
 
 -- nothing differs from itself
 pub differ_same : (b : Bool) → differ b b ≡ false
@@ -302,15 +214,15 @@ shows-once (x ∷ xs) m i (a ∷ gs) (b ∷ hs) h k w l =
     ap₂ ◌∷◌ (decided-same (a w) (b w) (sym (h.0 w l) ∙ k.0 w l)) (shows-once xs m i gs hs h.1 k.1 w l)
 
 -- so the words of the second half are those of the first
-pub pass-alike : (op : List Bool → Bool) (d i at : ℕ) (xs : List Source) (gs : List (ℕ → Bool)) (f : ℕ → Bool) → all_alike i xs ≡ true
+pub pass-alike : (op : List Bool → Bool) (d i at : ℕ) (xs : List Source) (gs : List (ℕ → Bool)) (f : ℕ → Bool) → all_pass i xs ≡ true
     → ShowsAll xs (suc d) i gs → ((w : ℕ) → w < 2 ^ suc d → f (at + w) ≡ op (decisions_at gs w))
     → (j : ℕ) → j < 2 ^ d → f (at + 2 ^ d + j) ≡ f (at + j)
 pass-alike op d i at xs gs f e sh mk j l =
     let z : at + 2 ^ d + j ≡ at + (2 ^ d + j) = omega arith in
     ap f z ∙ mk (2 ^ d + j) (omega (arith, l)) ∙ ap op (from_at (2 ^ d) gs j
-    ∙ shows-once (first_sources i xs) d (i + 1) (decisions_from (2 ^ d) gs) gs
-    (subst (λ (ys : List Source). ShowsAll ys d (i + 1) (decisions_from (2 ^ d) gs)) (all_alike i xs e) (all-second xs d i gs sh))
-    (all_first xs d i gs sh) j l)
+    ∙ shows-once xs d (i + 1) (decisions_from (2 ^ d) gs) gs
+    (subst (λ (ys : List Source). ShowsAll ys d (i + 1) (decisions_from (2 ^ d) gs)) (pass-second i xs e) (all-second xs d i gs sh))
+    (subst (λ (ys : List Source). ShowsAll ys d (i + 1) gs) (pass-first i xs e) (all_first xs d i gs sh)) j l)
     ∙ sym (mk j (omega (arith, l)))
 
 -- ---- What the constants fix ------------------------------------------------------------------
@@ -384,15 +296,9 @@ Makes op d at gs f = (w : ℕ) → w < 2 ^ d → f (at + w) ≡ op (decisions_at
 
 -- the first of them, from where the inputs stand
 pub first-correct : (op : List Bool → Bool) (d i at : ℕ) (xs : List Source) (gs : List (ℕ → Bool)) (f : ℕ → Bool) → ShowsAll xs d i gs
-    → Makes op d at gs f → f at ≡ op (start_values i xs)
+    → Makes op d at gs f → f at ≡ op (first_values xs)
 first-correct op d i at xs gs f sh mk =
     let z : at + 0 ≡ at = omega arith in ap f (sym z) ∙ mk 0 (pow_pos d) ∙ ap op (all_start xs d i gs sh)
-
--- with no option left
-pub word-correct : (op : List Bool → Bool) (i at : ℕ) (xs : List Source) (gs : List (ℕ → Bool)) (f : ℕ → Bool) → ShowsAll xs 0 i gs
-    → Makes op 0 at gs f → f at ≡ op (first_values xs)
-word-correct op i at xs gs f sh mk =
-    let z : at + 0 ≡ at = omega arith in ap f (sym z) ∙ mk 0 (pow_pos 0) ∙ ap op (all_none xs i gs sh)
 
 -- those of the second half
 pub second-correct : (op : List Bool → Bool) (d at : ℕ) (gs : List (ℕ → Bool)) (f : ℕ → Bool) → Makes op (suc d) at gs f

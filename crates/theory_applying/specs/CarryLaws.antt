@@ -9,7 +9,7 @@ use Prim.Native.Nat.{ℕ, zero, suc, ◌+◌, ◌-◌, ◌*◌, ◌≤◌, ◌<�
 use Rattle.std.proofs.Math.Dec.{ltb}
 use Rattle.theory_lists.specs.Lists.{differ, or_l, or_r, decide-le, pow_pos}
 use Rattle.theory_reading.specs.Bytes.{opener}
-use Rattle.theory_reading.specs.Nodes.{stamp}
+use Rattle.theory_reading.specs.Nodes.{Node, stamp}
 use Rattle.theory_reading.specs.Limits.{option_limit, table_limit}
 use Rattle.theory_writing.specs.UniqueTable.{State}
 use Rattle.theory_writing.specs.Texts.{tilde_if}
@@ -19,57 +19,42 @@ use Rattle.theory_engine.specs.Pending.{Waiting, push_all, level_room, end_room}
 use Rattle.theory_engine.specs.Engine.{Progress, Walked, meet_in, second_in}
 use Rattle.theory_engine.specs.Leading.{Stands, Leads}
 use Rattle.theory_engine.specs.Walking.{online-stamp, Ready, part_in, push-ready, second-ready, halves-lead, first-at, second_at}
-use Rattle.theory_applying.specs.Applying.{Table, Source}
+use Rattle.theory_applying.specs.Applying.{Source}
 use Rattle.theory_applying.specs.ApplyLaws.{decisions_at, decisions_from, from_at}
 use Rattle.theory_applying.specs.Operands.{Operand, Applied, any_text, readers_of, resume, halted, ended_at, went_on, edges_of, first_operands}
 use Rattle.theory_applying.specs.Operands.{second_operands, first_values_of}
 use Rattle.theory_applying.specs.OperandLaws.{ReaderLaws, AllFed, Operates, operates-first, operates-former, operates-latter}
 use Rattle.theory_applying.specs.OperandLaws.{Wholly, Cutly, edges-show, edges-passed, cut-former, cut-latter, cut-none}
 use Rattle.theory_applying.specs.OperandLaws.{cutly-halted, cutly-full, cutly-ended, cutly-after, or-other, all_first, all-second, all-passed}
-use Rattle.theory_applying.specs.OperandLaws.{all_none, all_start, AllSeated}
-use Rattle.theory_applying.specs.MemoLaws.{Coherent, Memory, memory-step}
+use Rattle.theory_applying.specs.OperandLaws.{all_none, all_start}
+use Rattle.theory_applying.specs.MemoLaws.{Memory, memory-step, memory-read}
 use Rattle.theory_applying.specs.Noting.{online-met}
 use Rattle.theory_applying.specs.Recalling.{recall_in}
 use Rattle.theory_applying.specs.RecallLaws.{recall-leads}
 use Rattle.theory_applying.specs.Carrying.{Carried, carried, recalled_on, carry_in}
-use Rattle.theory_applying.specs.Seating.{AllOwn, reader_tables, tables-edges, readers-first, seated-sit, all-seated-first, all-seated-second}
-use Rattle.theory_applying.specs.Seating.{all-own-first, all-own-between, all-own-second, all-own-latter, all-own-both}
+use Rattle.theory_applying.specs.Seating.{reader_tables, tables-edges, readers-first, AllSeated, seated-sit, all-seated-first, all-seated-second}
+use Rattle.theory_applying.specs.Seating.{all-last-second, all-ordered}
 use Rattle.node_records.specs.declared.WriterRecord.{WriterRecord}
-
--- ---- What the memo knows ---------------------------------------------------------------------
-
--- the block readers τs are those that the inputs fs may have, and the memo is true of all tables that they have
-abbrev pub Remembers : {BlockReader : Type 0} → (List Table → Type 0) → ℕ → (Own Still : ℕ → BlockReader → Type 0) → ℕ → (List Bool → Bool)
-    → List (Operand BlockReader) → List BlockReader → State → List (List ℕ) → Type 0
-Remembers Known places Own Still n op fs τs s μ = AllOwn places Own Still 0 fs τs × Memory n op Known s μ
-
--- WHAT THE MEMO ASKS of block readers: the tables of those that the inputs may have are known, a key means one thing in all of them, and an input that
--- reads on has one of them again
-pub record KnownLaws {BlockReader : Type 0} (deep_of : BlockReader → ℕ) (source_of : BlockReader → Source) (ended_of : BlockReader → Bool)
-    (next : BlockReader → BlockReader) (n c : ℕ) (Reads : BlockReader → ℕ → (ℕ → Bool) → Type 0) (Known : List Table → Type 0)
-    (places : ℕ) (Own Still : ℕ → BlockReader → Type 0) : Type 0 where
-  pub coherent : Coherent Known
-  pub own-still : (j : ℕ) (τ : BlockReader) → Own j τ → Still j τ
-  pub own-next : (j : ℕ) (τ : BlockReader) (at : ℕ) (x : ℕ → Bool) → Own j τ → Reads τ at x → at + 2 ^ (n - deep_of τ) < c → Own j (next τ)
-  pub known-still : (fs : List (Operand BlockReader)) → any_text fs ≡ false → AllOwn places Own Still 0 fs (readers_of fs)
-      → Known (reader_tables deep_of source_of ended_of next (readers_of fs))
 
 -- ---- What a part leads to --------------------------------------------------------------------
 
 -- The part of level i that ends before word e, all covered, leads to r, and the memo is true then; x: what the walk of Online knows of it
 pub record Carries {BlockReader : Type 0} (deep_of : BlockReader → ℕ) (source_of : BlockReader → Source) (ended_of : BlockReader → Bool)
     (next : BlockReader → BlockReader) (n : ℕ)
-    (Reads Ends : BlockReader → ℕ → (ℕ → Bool) → Type 0) (Known : List Table → Type 0) (places : ℕ) (Own Still : ℕ → BlockReader → Type 0) (op : List Bool → Bool)
-    (size i m e : ℕ) (o T p w : List ℕ) (fs : List (Operand BlockReader))
+    (Reads Ends : BlockReader → ℕ → (ℕ → Bool) → Type 0) (op : List Bool → Bool) (size i m e : ℕ) (o T p w : List ℕ) (fs : List (Operand BlockReader))
     (xs : List (ℕ → Bool)) (r : Carried BlockReader) (x : Went) : Type 0 where
   pub wholly : Wholly deep_of source_of ended_of next n Reads Ends size i m e o T p w fs xs r.applied x
-  pub memory : r.applied.walked.progress.full ≡ false → Remembers Known places Own Still n op fs r.applied.readers x.state r.memo
+  pub memory : r.applied.walked.progress.full ≡ false
+      → Memory n op (reader_tables deep_of source_of ended_of next r.applied.readers) x.state r.memo
 
 module _ {BlockReader : Type 0} (deep_of : BlockReader → ℕ) (source_of : BlockReader → Source) (ended_of : BlockReader → Bool)
     (next : BlockReader → BlockReader) (n c : ℕ)
     (Reads Ends : BlockReader → ℕ → (ℕ → Bool) → Type 0)
-    (law : ReaderLaws deep_of source_of ended_of next n c Reads Ends) (Known : List Table → Type 0) (places : ℕ) (Own Still : ℕ → BlockReader → Type 0)
-    (knows : KnownLaws deep_of source_of ended_of next n c Reads Known places Own Still) where
+    (law : ReaderLaws deep_of source_of ended_of next n Reads Ends) where
+  -- the tables of the inputs' block readers
+  abbrev tables : List BlockReader → List (List Node)
+  tables τs = reader_tables deep_of source_of ended_of next τs
+
   -- ---- A part that is covered -----------------------------------------------------------------
 
   -- with d options left, the walk over the part of level i leads to what the walk of Online knows
@@ -79,8 +64,8 @@ module _ {BlockReader : Type 0} (deep_of : BlockReader → ℕ) (source_of : Blo
       (out : List ℕ) (progress : Progress) (s : State) → at ≡ k * 2 ^ d → at + 2 ^ d ≤ c → Stands n size o T t out progress s → take m w ≡ p
       → m + level_room * d + end_room ≤ length w → ((j : ℕ) → stamp s.table j + 2 ^ d ≤ 4294967296)
       → AllFed deep_of source_of ended_of next n Reads Ends i d at fs xs → AllSeated deep_of source_of ended_of next i fs → Operates op c d at xs f
-      → Remembers Known places Own Still n op fs (readers_of fs) s μ
-      → Carries deep_of source_of ended_of next n Reads Ends Known places Own Still op size i m (at + 2 ^ d) o T p w fs xs
+      → Memory n op (tables (readers_of fs)) s μ
+      → Carries deep_of source_of ended_of next n Reads Ends op size i m (at + 2 ^ d) o T p w fs xs
       (carry_in deep_of source_of ended_of next hash op c size d i at m fs μ t out w progress) (online size d i at p f s)
 
   -- all inputs at edges
@@ -90,16 +75,16 @@ module _ {BlockReader : Type 0} (deep_of : BlockReader → ℕ) (source_of : Blo
       (out : List ℕ) (progress : Progress) (s : State) → any_text fs ≡ false → at + 2 ^ d ≤ c → Stands n size o T t out progress s
       → take m w ≡ p → m + level_room * d + end_room ≤ length w → ((j : ℕ) → stamp s.table j + 2 ^ d ≤ 4294967296)
       → AllFed deep_of source_of ended_of next n Reads Ends i d at fs xs → AllSeated deep_of source_of ended_of next i fs → Operates op c d at xs f
-      → Remembers Known places Own Still n op fs (readers_of fs) s μ
-      → Carries deep_of source_of ended_of next n Reads Ends Known places Own Still op size i m (at + 2 ^ d) o T p w fs xs
+      → Memory n op (tables (readers_of fs)) s μ
+      → Carries deep_of source_of ended_of next n Reads Ends op size i m (at + 2 ^ d) o T p w fs xs
       (recalled_on (recall_in hash op size d i m (edges_of deep_of source_of ended_of next fs) μ t out w progress) (readers_of fs)) (online size d i at p f s)
   edges-lead hash op size d i o real deep small few at m T p w fs xs f μ t out progress s none cov st here room young fed seat mk mem =
       let es = edges_of deep_of source_of ended_of next fs in
       let same = tables-edges deep_of source_of ended_of next fs in
-      let r = recall-leads Known knows.coherent hash op n size d i at m o T p w es (decisions_from at xs) f μ t out progress s real deep small few st here room young
+      let r = recall-leads hash op n size d i at m o T p w es (decisions_from at xs) f μ t out progress s real deep small few st here room young
       (seated-sit deep_of source_of ended_of next i fs none seat) (edges-show deep_of source_of ended_of next n Reads Ends i d at fs xs none fed)
       (λ w l. mk (at + w) (omega arith) (omega (arith, l)) (omega (arith, l, cov)) ∙ ap op (from_at at xs w))
-      (subst⁻¹ Known same (knows.known-still fs none mem.0)) mem.1 in
+      (subst⁻¹ (λ (ts : List (List Node)). Memory n op ts s μ) same mem) in
       record {
         wholly =
             record {
@@ -107,7 +92,9 @@ module _ {BlockReader : Type 0} (deep_of : BlockReader → ℕ) (source_of : Blo
               leads = r.leads;
               passed = λ g. edges-passed deep_of source_of ended_of next n Reads Ends i d at (at + 2 ^ d) fs xs none fed;
             };
-        memory = λ g. (mem.0, r.memory g);
+        memory =
+            λ g. subst (λ (ts : List (List Node)). Memory n op ts (online size d i at p f s).state
+            (recall_in hash op size d i m es μ t out w progress).memo) same (r.memory g);
       }
 
   -- with d options left, the walk over the part of level i within which the covered words end sends what a cut run sends
@@ -117,7 +104,7 @@ module _ {BlockReader : Type 0} (deep_of : BlockReader → ℕ) (source_of : Blo
       (out : List ℕ) (progress : Progress) (s : State) → at ≡ k * 2 ^ d → at < c → c < at + 2 ^ d
       → Stands n size o T t out progress s → take m w ≡ p → m + level_room * d + end_room ≤ length w
       → ((j : ℕ) → stamp s.table j + 2 ^ d ≤ 4294967296) → AllFed deep_of source_of ended_of next n Reads Ends i d at fs xs
-      → AllSeated deep_of source_of ended_of next i fs → Operates op c d at xs f → Remembers Known places Own Still n op fs (readers_of fs) s μ
+      → AllSeated deep_of source_of ended_of next i fs → Operates op c d at xs f → Memory n op (tables (readers_of fs)) s μ
       → Cutly o T (cut c size d i at p f s) (carry_in deep_of source_of ended_of next hash op c size d i at m fs μ t out w progress).applied
 
   -- ---- The halves of a part -------------------------------------------------------------------
@@ -130,7 +117,7 @@ module _ {BlockReader : Type 0} (deep_of : BlockReader → ℕ) (source_of : Blo
       (s : State) (z : at ≡ k * 2 ^ suc d) (st : Stands n size o T t out progress s) (here : take m w ≡ p)
       (room : m + level_room * suc d + end_room ≤ length w) (young : (j : ℕ) → stamp s.table j + 2 ^ suc d ≤ 4294967296)
       (fed : AllFed deep_of source_of ended_of next n Reads Ends i (suc d) at fs xs) (seat : AllSeated deep_of source_of ended_of next i fs)
-      (mk : Operates op c (suc d) at xs f) (mem : Remembers Known places Own Still n op fs (readers_of fs) s μ) where
+      (mk : Operates op c (suc d) at xs f) (mem : Memory n op (tables (readers_of fs)) s μ) where
     -- the next level
     up : i + 1 ≡ suc i
     up = omega arith
@@ -204,27 +191,24 @@ module _ {BlockReader : Type 0} (deep_of : BlockReader → ℕ) (source_of : Blo
 
     -- where inputs stand at the first half
     fed₁ : AllFed deep_of source_of ended_of next n Reads Ends (i + 1) d at ys xs
-    fed₁ = all_first deep_of source_of ended_of next n c Reads Ends law i d deep at fs xs fed
+    fed₁ = all_first deep_of source_of ended_of next n Reads Ends law i d deep at fs xs fed
 
     seat₁ : AllSeated deep_of source_of ended_of next (i + 1) ys
     seat₁ =
-        all-seated-first deep_of source_of ended_of next n c Reads Ends law
+        all-seated-first deep_of source_of ended_of next n Reads Ends law
         i d real deep at fs xs fed seat
 
-    mem₁ : Remembers Known places Own Still n op ys (readers_of ys) s μ
-    mem₁ = (
-      all-own-first deep_of source_of ended_of next n c Reads Ends law i d real deep places Own Still knows.own-still 0 fs mem.0,
-      mem.1,
-    )
+    mem₁ : Memory n op (tables (readers_of ys)) s μ
+    mem₁ = subst⁻¹ (λ (τs : List BlockReader). Memory n op (tables τs) s μ) (readers-first deep_of source_of ended_of next i fs) mem
 
     -- what the first half leads to
     abbrev First : Type 0
-    First = Carries deep_of source_of ended_of next n Reads Ends Known places Own Still op size (suc i) opened.count (at + 2 ^ d) o T p₁ opened.bytes ys xs a' x
+    First = Carries deep_of source_of ended_of next n Reads Ends op size (suc i) opened.count (at + 2 ^ d) o T p₁ opened.bytes ys xs a' x
 
     first : at + 2 ^ d ≤ c → First
     first cov =
         subst⁻¹ (λ (j : ℕ). AllFed deep_of source_of ended_of next n Reads Ends j d at ys xs → AllSeated deep_of source_of ended_of next j ys
-        → Carries deep_of source_of ended_of next n Reads Ends Known places Own Still op size (suc i) opened.count (at + 2 ^ d) o T p₁ opened.bytes ys xs
+        → Carries deep_of source_of ended_of next n Reads Ends op size (suc i) opened.count (at + 2 ^ d) o T p₁ opened.bytes ys xs
         (carry_in deep_of source_of ended_of next hash op c size d j at opened.count ys μ t out opened.bytes progress) x) up
         (λ h q. half (k * 2) at opened.count T p₁ opened.bytes ys xs f μ t out progress s (first-at k d at z) cov st ready.text
         (omega (arith, ready.count, ready.room, room)) (λ j. omega (arith, young j)) h q (operates-former op c d at xs f mk) mem₁)
@@ -235,30 +219,20 @@ module _ {BlockReader : Type 0} (deep_of : BlockReader → ℕ) (source_of : Blo
       -- where the inputs stand
       fed₂ : AllFed deep_of source_of ended_of next n Reads Ends (i + 1) d (at + 2 ^ d) zs xs
       fed₂ =
-          all-second deep_of source_of ended_of next n c Reads Ends law i d deep k at z goes fs xs
+          all-second deep_of source_of ended_of next n Reads Ends law i d deep k at z fs xs
           a.readers fed (h.wholly.passed g)
 
       seat₂ : AllSeated deep_of source_of ended_of next (i + 1) zs
       seat₂ =
-          all-seated-second deep_of source_of ended_of next n c Reads Ends law i d real deep k at z goes fs xs a.readers fed (h.wholly.passed g) seat
+          all-seated-second deep_of source_of ended_of next n Reads Ends law i d real deep k at z fs xs a.readers fed (h.wholly.passed g) seat
 
       -- the memo, with the texts read on
-      own₂ : AllOwn places Own Still 0 fs a.readers
-      own₂ =
-          all-own-between deep_of source_of ended_of next n c Reads Ends law i d real deep k at z goes places Own Still knows.own-still knows.own-next 0
-          fs xs a.readers mem.0 (h.wholly.passed g) (h.memory g).0
-
-      own₃ : AllOwn places Own Still 0 fs (readers_of zs)
-      own₃ =
-          all-own-second deep_of source_of ended_of next n c Reads Ends law i d real deep k at z goes places Own Still knows.own-still knows.own-next 0
-          fs xs a.readers fed (h.wholly.passed g) own₂
-
-      mem₂ : Remembers Known places Own Still n op zs (readers_of zs) x.state a'.memo
-      mem₂ = (
-        all-own-latter deep_of source_of ended_of next n c Reads Ends law i d real deep k at z goes places Own Still knows.own-still knows.own-next 0
-            fs a.readers own₂ own₃,
-        (h.memory g).1,
-      )
+      mem₂ : Memory n op (tables (readers_of zs)) x.state a'.memo
+      mem₂ =
+          memory-read n op (tables a.readers) (tables (readers_of zs)) x.state a'.memo
+          (all-ordered deep_of source_of ended_of next n Reads Ends law i d real deep k at z fs xs a.readers fed (h.wholly.passed g) seat)
+          (all-last-second deep_of source_of ended_of next n Reads Ends law i d real deep k at z fs xs a.readers fed (h.wholly.passed g) seat)
+          (h.memory g)
 
       -- what waits
       before : Ready w (m + level_room) p₂ (mid turn)
@@ -278,14 +252,14 @@ module _ {BlockReader : Type 0} (deep_of : BlockReader → ℕ) (source_of : Blo
       same : complement ≡ turn
       same =
           ap₂ differ (h.wholly.leads.after g).came.complement
-          (ap op (sym (all_start deep_of source_of ended_of next n c Reads Ends law (i + 1) d
-          (at + 2 ^ d) zs xs fed₂ seat₂))
+          (ap op (sym (all_start deep_of source_of ended_of next n Reads Ends law (i + 1) d
+          (at + 2 ^ d) zs xs fed₂))
           ∙ sym (operates-first op c d (at + 2 ^ d) xs f goes (operates-latter op c d at xs f mk)))
 
     -- what the second half leads to if it is covered; u: the edge
     abbrev Second : Bool → Carried BlockReader → Type 0
     Second u r =
-        Carries deep_of source_of ended_of next n Reads Ends Known places Own Still op size (suc i) (mid u).count (at + 2 ^ d + 2 ^ d) o (T ++ x.sent) p₂ (mid u).bytes zs xs
+        Carries deep_of source_of ended_of next n Reads Ends op size (suc i) (mid u).count (at + 2 ^ d + 2 ^ d) o (T ++ x.sent) p₂ (mid u).bytes zs xs
         r y
 
     second-leads : First → a.walked.progress.full ≡ false → at + 2 ^ suc d ≤ c → Second complement b'
@@ -302,7 +276,7 @@ module _ {BlockReader : Type 0} (deep_of : BlockReader → ℕ) (source_of : Blo
 
     -- what the part leads to if it is covered
     abbrev Whole : Carried BlockReader → Type 0
-    Whole r = Carries deep_of source_of ended_of next n Reads Ends Known places Own Still op size i m (at + 2 ^ suc d) o T p w fs xs r (online size (suc d) i at p f s)
+    Whole r = Carries deep_of source_of ended_of next n Reads Ends op size i m (at + 2 ^ suc d) o T p w fs xs r (online size (suc d) i at p f s)
 
     -- some input in its text
     halves-whole : at + 2 ^ suc d ≤ c → (h l r : Bool) → halted a ≡ h → leb c (at + 2 ^ d) ≡ l → halted b ≡ r
@@ -360,17 +334,12 @@ module _ {BlockReader : Type 0} (deep_of : BlockReader → ℕ) (source_of : Blo
                     goes_on = refl;
                     leads = led false g;
                     passed =
-                        λ h. all-passed deep_of source_of ended_of next n c Reads Ends law i d
-                        deep k at z goes fs xs a.readers b.readers fed (former.wholly.passed g) (q.wholly.passed v);
+                        λ h. all-passed deep_of source_of ended_of next n Reads Ends law i d
+                        deep k at z fs xs a.readers b.readers fed (former.wholly.passed g) (q.wholly.passed v);
                   };
               memory =
-                  λ h. (
-                    all-own-both deep_of source_of ended_of next n c Reads Ends law i d real deep k at z goes places Own Still knows.own-still
-                        knows.own-next 0 fs xs a.readers b.readers (own₂ former g goes) (own₃ former g goes) (q.wholly.passed v)
-                        (q.memory v).0,
-                    memory-step n op Known i y.state (online size (suc d) i at p f s).state b'.memo
-                        (online-met n size d i at f s st.sound st.normal real p₁ p₂ p deep) (q.memory v).1,
-                  );
+                  λ h. memory-step n op (tables b.readers) i y.state (online size (suc d) i at p f s).state b'.memo
+                  (online-met n size d i at f s st.sound st.normal real p₁ p₂ p deep) (q.memory v);
             }
 
     -- the part, covered
@@ -472,7 +441,7 @@ module _ {BlockReader : Type 0} (deep_of : BlockReader → ℕ) (source_of : Blo
   unfolding carry_in
   wholes hash op size zero i o real deep small few = λ k at m T p w fs xs f μ t out progress s z cov st here room young fed seat mk mem.
       edges-lead hash op size 0 i o real deep small few at m T p w fs xs f μ t out progress s
-      (all_none deep_of source_of ended_of next n c Reads Ends law i at fs xs
+      (all_none deep_of source_of ended_of next n Reads Ends law i at fs xs
       (omega (arith, deep)) fed) cov st here room young fed seat mk mem
   wholes hash op size (suc d) i o real deep small few =
       let half = wholes hash op size d (suc i) o (omega arith) (omega arith) small few in
@@ -486,8 +455,8 @@ module _ {BlockReader : Type 0} (deep_of : BlockReader → ℕ) (source_of : Blo
       → take m w ≡ p → m + level_room * d + end_room ≤ length w → ((j : ℕ) → stamp s.table j + 2 ^ d ≤ 4294967296)
       → AllFed deep_of source_of ended_of next n Reads Ends i d at fs xs → AllSeated deep_of source_of ended_of next i fs
       → ((w : ℕ) → at ≤ w → w < at + 2 ^ d → w < c → f w ≡ op (decisions_at xs w))
-      → Remembers Known places Own Still n op fs (readers_of fs) s μ
-      → Carries deep_of source_of ended_of next n Reads Ends Known places Own Still op size i m (at + 2 ^ d) o T p w fs xs
+      → Memory n op (tables (readers_of fs)) s μ
+      → Carries deep_of source_of ended_of next n Reads Ends op size i m (at + 2 ^ d) o T p w fs xs
       (carry_in deep_of source_of ended_of next hash op c size d i at m fs μ t out w progress) (online size d i at p f s)
   carry-leads hash op size d i at k m o T p w fs xs f μ t out progress s real deep small few =
       wholes hash op size d i o real deep small few k at m T p w fs xs f μ t out progress s
@@ -513,7 +482,7 @@ module _ {BlockReader : Type 0} (deep_of : BlockReader → ℕ) (source_of : Blo
       → Stands n size o T t out progress s → take m w ≡ p → m + level_room * d + end_room ≤ length w
       → ((j : ℕ) → stamp s.table j + 2 ^ d ≤ 4294967296) → AllFed deep_of source_of ended_of next n Reads Ends i d at fs xs
       → AllSeated deep_of source_of ended_of next i fs → ((w : ℕ) → at ≤ w → w < at + 2 ^ d → w < c → f w ≡ op (decisions_at xs w))
-      → Remembers Known places Own Still n op fs (readers_of fs) s μ
+      → Memory n op (tables (readers_of fs)) s μ
       → Cutly o T (cut c size d i at p f s) (carry_in deep_of source_of ended_of next hash op c size d i at m fs μ t out w progress).applied
   carry-cut hash op size d i at k m o T p w fs xs f μ t out progress s real deep small few =
       cuts hash op size d i o real deep small few k at m T p w fs xs f μ t out progress s

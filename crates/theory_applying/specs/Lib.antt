@@ -1,9 +1,7 @@
 -- The walk over stored nodes
 pub mod Applying
 pub mod ApplyLaws
-pub mod FixedShows
 -- What is remembered
-pub mod Knowing
 pub mod Memo
 pub mod Sitting
 pub mod MemoLaws

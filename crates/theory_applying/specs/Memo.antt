@@ -11,24 +11,21 @@ use Rattle.theory_applying.specs.Applying.{Source}
 use Rattle.node_records.specs.declared.WriterRecord.{WriterRecord}
 
 -- A row: 0 if it is empty, else 1, and 2 if the part is complemented; the number that the part came to (0: the constant) and its stamp;
--- then three cells of each input: the number at which it stood (0: the constant), the stamp of that in its table, and its mark: 1 if it is
--- turned about, and 2 more if an option is fixed in its table.
+-- then three cells of each input: the number at which it stood (0: the constant), the stamp of that in its table, and 1 if it is turned
+-- about.
 
 -- ---- The key ---------------------------------------------------------------------------------
-
-abbrev pub mark_of : Source → ℕ
-mark_of x = cond (eqb x.table.level 0) 0 2 + bit x.complement
 
 -- the cells of the inputs
 abbrev pub key_of : List Source → List ℕ
 key_of [] = []
-key_of (x ∷ xs) = x.number ∷ stamp x.table.nodes x.number ∷ mark_of x ∷ key_of xs
+key_of (x ∷ xs) = x.number ∷ stamp x.table x.number ∷ bit x.complement ∷ key_of xs
 
 -- they are the first of the cells r
 abbrev pub same_key : List ℕ → List Source → Bool
 same_key r [] = true
 same_key r (x ∷ xs) =
-    eqb (get_or r 0 0) x.number && (eqb (get_or r 1 0) (stamp x.table.nodes x.number) && (eqb (get_or r 2 0) (mark_of x)
+    eqb (get_or r 0 0) x.number && (eqb (get_or r 1 0) (stamp x.table x.number) && (eqb (get_or r 2 0) (bit x.complement)
     && same_key (drop 3 r) xs))
 
 -- ---- What a row says -------------------------------------------------------------------------

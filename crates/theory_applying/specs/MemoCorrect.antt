@@ -1,15 +1,16 @@
 -- How code of two inputs finds and fits a row of a memo: cell by cell. Assumes nothing.
 use Rattle.std.specs.Prelude.{◌≡◌, Bool, true, ◌&&◌, List, [], ◌∷◌, ℕ, eqb, get_or, drop}
 use Rattle.std.proofs.Common.{ap, ap₂, ◌∙◌, get_or-drop, drop-drop}
+use Rattle.theory_lists.specs.Lists.{bit}
 use Rattle.theory_reading.specs.Nodes.{stamp}
 use Rattle.theory_applying.specs.Applying.{Source}
-use Rattle.theory_applying.specs.Memo.{mark_of, same_key}
+use Rattle.theory_applying.specs.Memo.{same_key}
 
 -- ---- A row -----------------------------------------------------------------------------------
 
 -- the key of an input, in the cells a, b and c
 abbrev pub fits_edge : Source → ℕ → ℕ → ℕ → Bool → Bool
-fits_edge x a b c rest = eqb a x.number && (eqb b (stamp x.table.nodes x.number) && (eqb c (mark_of x) && rest))
+fits_edge x a b c rest = eqb a x.number && (eqb b (stamp x.table x.number) && (eqb c (bit x.complement) && rest))
 
 -- of two inputs, in cells 3 to 8
 pub key-pair : (r : List ℕ) (x y : Source) → same_key (drop 3 r) (x ∷ y ∷ [])

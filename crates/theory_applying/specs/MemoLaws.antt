@@ -1,25 +1,27 @@
 -- What is true of a memo: a row whose key fits inputs at edges of their tables, and whose number still has its stamp in the output's
--- table, tells what the operator makes of those edges, at whatever level they stand, and in whichever tables of their readings. So it stays while
--- the output's table is added to, and when a part is noted. Assumes nothing.
-use Rattle.std.specs.Prelude.{◌≡◌, refl, Bool, true, false, cond, ◌&&◌, eqb, get_or, drop}
-use Rattle.std.proofs.Common.{sym, ap, ◌∙◌, subst, inr, ⊎_elim, eqb-true}
+-- table, tells what the operator makes of those edges, at whatever level they stand. So it stays while the output's table is added to,
+-- while the inputs' tables are read on, and when a part is noted. Assumes nothing.
+use Rattle.std.specs.Prelude.{◌≡◌, refl, Bool, true, false, ◌&&◌, eqb, get_or, drop}
+use Rattle.std.proofs.Common.{sym, ap, ◌∙◌, subst, inr, ⊎_elim, eqb-true, eq-eqb}
 use Rattle.std.proofs.Math.Path.{subst⁻¹}
 use Rattle.std.proofs.Math.Logic.{inl}
 use mathlib.Core.List.{List, [], ◌∷◌}
 use Prim.Native.Nat.{ℕ, zero, suc, ◌+◌, ◌-◌, ◌≤◌, ◌<◌, ◌^◌}
 use native.Mathlib.Omega.{arith}
 use Rattle.std.proofs.lemmas.Bool.{eqb-false}
-use Rattle.theory_lists.specs.Lists.{bit, and_l, and_r, decide-le}
+use Rattle.theory_lists.specs.Lists.{bit, and_l, and_r, and-true, decide-le}
 use Rattle.theory_reading.specs.Nodes.{Node, node, stamp}
+use Rattle.theory_reading.specs.Lasting.{Lasts, Ordered}
 use Rattle.theory_writing.specs.UniqueTable.{State}
 use Rattle.theory_writing.specs.Steps.{Step}
 use Rattle.theory_writing.specs.Meaning.{Is, is_carried}
 use Rattle.theory_writing.specs.Rewalk.{is-shift}
-use Rattle.theory_applying.specs.Applying.{Table, Source, all_pass}
+use Rattle.theory_applying.specs.Applying.{Source, all_pass}
 use Rattle.theory_applying.specs.ApplyLaws.{ShowsAll, decisions_from, all_first, all-second, pass-first, pass-second, shows-once, Makes}
 use Rattle.theory_applying.specs.ApplyLaws.{second-correct}
-use Rattle.theory_applying.specs.Memo.{mark_of, key_of, same_key, is_empty, number_in, stamp_in, complement_in}
-use Rattle.theory_applying.specs.Sitting.{SitsAll, tables_of, all-pass-deep, all-sit-higher, not-deeper}
+use Rattle.theory_applying.specs.Memo.{same_key, is_empty, number_in, stamp_in, complement_in}
+use Rattle.theory_applying.specs.Sitting.{SitsAll, tables_of, all-pass-deep, all-sit-higher, not-deeper, AllLast, in_tables, shows-since}
+use Rattle.theory_applying.specs.Sitting.{sits-since}
 
 -- ---- What a number stands for ----------------------------------------------------------------
 
@@ -104,36 +106,34 @@ module _ (n : ℕ) (op : List Bool → Bool) (s : State) (k : ℕ) (c : Bool) (x
 
 -- ---- Rows ------------------------------------------------------------------------------------
 
--- inputs xs and ys with one key: where the latter sit and what they show, the former do
-pub record Like (xs ys : List Source) : Type 0 where
-  pub sits : (i : ℕ) → SitsAll i ys → SitsAll i xs
-  pub shows : (d i : ℕ) (gs : List (ℕ → Bool)) → ShowsAll ys d i gs → ShowsAll xs d i gs
+-- the stamps of a key are no greater than those in the tables
+abbrev pub KeyPast : List ℕ → List (List Node) → Type 0
+KeyPast r [] = Unit {0}
+KeyPast r (t ∷ ts) = (get_or r 1 0 ≤ stamp t (get_or r 0 0)) × KeyPast (drop 3 r) ts
 
--- Known: the tables that the inputs have at some time of a run. A key means one thing in all of them
-abbrev pub Coherent : (List Table → Type 0) → Type 0
-Coherent Known = (xs ys : List Source) → Known (tables_of xs) → Known (tables_of ys) → same_key (key_of xs) ys ≡ true → Like xs ys
-
--- what is true of a row that is not empty; s: the output's state
-pub record Entry (n : ℕ) (op : List Bool → Bool) (Known : List Table → Type 0) (s : State) (r : List ℕ) : Type 0 where
+-- what is true of a row that is not empty; ts: the tables of the inputs, s: the output's state
+pub record Entry (n : ℕ) (op : List Bool → Bool) (ts : List (List Node)) (s : State) (r : List ℕ) : Type 0 where
   pub past : 0 < number_in r → stamp_in r ≤ stamp s.table (number_in r)
-  pub told : (0 < number_in r → stamp s.table (number_in r) ≡ stamp_in r) → (ys : List Source) → Known (tables_of ys)
+  pub key-past : KeyPast (drop 3 r) ts
+  pub told : (0 < number_in r → stamp s.table (number_in r) ≡ stamp_in r) → (ys : List Source) → tables_of ys ≡ ts
       → same_key (drop 3 r) ys ≡ true → Tells n op s (number_in r) (complement_in r) ys
 
 -- of all rows of a memo
-abbrev pub Memory : ℕ → (List Bool → Bool) → (List Table → Type 0) → State → List (List ℕ) → Type 0
-Memory n op Known s μ = (p : ℕ) → is_empty (get_or μ p []) ≡ false → Entry n op Known s (get_or μ p [])
+abbrev pub Memory : ℕ → (List Bool → Bool) → List (List Node) → State → List (List ℕ) → Type 0
+Memory n op ts s μ = (p : ℕ) → is_empty (get_or μ p []) ≡ false → Entry n op ts s (get_or μ p [])
 
 -- rows of zeros are empty
-pub memory-none : (n : ℕ) (op : List Bool → Bool) (Known : List Table → Type 0) (s : State) (μ : List (List ℕ))
-    → ((p j : ℕ) → get_or (get_or μ p []) j 0 ≡ 0) → Memory n op Known s μ
-memory-none n op Known s μ z p e = absurd (eqb-false (get_or (get_or μ p []) 0 0) 0 e (z p 0))
+pub memory-none : (n : ℕ) (op : List Bool → Bool) (ts : List (List Node)) (s : State) (μ : List (List ℕ))
+    → ((p j : ℕ) → get_or (get_or μ p []) j 0 ≡ 0) → Memory n op ts s μ
+memory-none n op ts s μ z p e = absurd (eqb-false (get_or (get_or μ p []) 0 0) 0 e (z p 0))
 
 -- ---- The output's table is added to ----------------------------------------------------------
 
-entry-step : (n : ℕ) (op : List Bool → Bool) (Known : List Table → Type 0) (j : ℕ) (s s' : State) (r : List ℕ) → Step j s s'
-    → Entry n op Known s r → Entry n op Known s' r
-entry-step n op Known j s s' r st h = record {
+entry-step : (n : ℕ) (op : List Bool → Bool) (ts : List (List Node)) (j : ℕ) (s s' : State) (r : List ℕ) → Step j s s'
+    → Entry n op ts s r → Entry n op ts s' r
+entry-step n op ts j s s' r st h = record {
   past = λ l. omega (arith, h.past l, st.more (number_in r));
+  key-past = h.key-past;
   told = λ e ys t k i d at gs f real deep sit sh mk.
       let was : 0 < number_in r → stamp s.table (number_in r) ≡ stamp_in r = λ l. omega (arith, e l, h.past l, st.more (number_in r)) in
       is_carried j s s' st f d i (number_in r) (complement_in r) at (λ l. e l ∙ sym (was l))
@@ -141,51 +141,106 @@ entry-step n op Known j s s' r st h = record {
 }
 
 -- a memo stays true
-pub memory-step : (n : ℕ) (op : List Bool → Bool) (Known : List Table → Type 0) (j : ℕ) (s s' : State) (μ : List (List ℕ)) → Step j s s'
-    → Memory n op Known s μ → Memory n op Known s' μ
-memory-step n op Known j s s' μ st h p e = entry-step n op Known j s s' (get_or μ p []) st (h p e)
+pub memory-step : (n : ℕ) (op : List Bool → Bool) (ts : List (List Node)) (j : ℕ) (s s' : State) (μ : List (List ℕ)) → Step j s s'
+    → Memory n op ts s μ → Memory n op ts s' μ
+memory-step n op ts j s s' μ st h p e = entry-step n op ts j s s' (get_or μ p []) st (h p e)
 
--- ---- Keys ------------------------------------------------------------------------------------
+-- ---- The inputs' tables are read on ----------------------------------------------------------
+
+-- all are ordered
+abbrev pub AllOrdered : List (List Node) → Type 0
+AllOrdered [] = Unit {0}
+AllOrdered (t ∷ ts) = Ordered t × AllOrdered ts
+
+-- a key's stamps are then no greater
+key-read : (r : List ℕ) (ts us : List (List Node)) → AllLast ts us → KeyPast r ts → KeyPast r us
+key-read r [] [] l h = tt
+key-read r [] (u ∷ us) l h = absurd l
+key-read r (t ∷ ts) [] l h = absurd l
+key-read r (t ∷ ts) (u ∷ us) l h =
+    (omega (arith, h.0, l.0.more (get_or r 0 0)), key-read (drop 3 r) ts us l.1 h.1)
+
+-- an input whose key fits now
+module _ (r : List ℕ) (t : List Node) (x : Source) (l : Lasts t x.table) (past : get_or r 1 0 ≤ stamp t (get_or r 0 0))
+    (number : get_or r 0 0 ≡ x.number) (now : get_or r 1 0 ≡ stamp x.table x.number) where
+  -- had that stamp before
+  stamp-since : stamp x.table x.number ≡ stamp t x.number
+  stamp-since = omega (arith, past, ap (stamp t) number, now, l.more x.number)
+
+  key-since : get_or r 1 0 ≡ stamp t x.number
+  key-since = now ∙ stamp-since
 
 -- by the parts of a key
 pub record Keyed (r : List ℕ) (x : Source) (xs : List Source) : Type 0 where
   pub number : get_or r 0 0 ≡ x.number
-  pub stamps : get_or r 1 0 ≡ stamp x.table.nodes x.number
-  pub mark : get_or r 2 0 ≡ mark_of x
+  pub stamps : get_or r 1 0 ≡ stamp x.table x.number
+  pub complement : get_or r 2 0 ≡ bit x.complement
   pub rest : same_key (drop 3 r) xs ≡ true
 
 pub keyed : (r : List ℕ) (x : Source) (xs : List Source) → same_key r (x ∷ xs) ≡ true → Keyed r x xs
 keyed r x xs e =
     let a = eqb (get_or r 0 0) x.number in
-    let b = eqb (get_or r 1 0) (stamp x.table.nodes x.number) in
-    let c = eqb (get_or r 2 0) (mark_of x) in
+    let b = eqb (get_or r 1 0) (stamp x.table x.number) in
+    let c = eqb (get_or r 2 0) (bit x.complement) in
     let k = same_key (drop 3 r) xs in
     record {
       number = eqb-true (get_or r 0 0) x.number (and_l a (b && (c && k)) e);
-      stamps = eqb-true (get_or r 1 0) (stamp x.table.nodes x.number) (and_l b (c && k) (and_r a (b && (c && k)) e));
-      mark = eqb-true (get_or r 2 0) (mark_of x) (and_l c k (and_r b (c && k) (and_r a (b && (c && k)) e)));
+      stamps = eqb-true (get_or r 1 0) (stamp x.table x.number) (and_l b (c && k) (and_r a (b && (c && k)) e));
+      complement = eqb-true (get_or r 2 0) (bit x.complement) (and_l c k (and_r b (c && k) (and_r a (b && (c && k)) e)));
       rest = and_r c k (and_r b (c && k) (and_r a (b && (c && k)) e));
     }
 
--- a mark tells whether an option is fixed, and whether it is turned about
-pub mark-same : (x y : Source) → mark_of x ≡ mark_of y
-    → (eqb x.table.level 0 ≡ eqb y.table.level 0) × (x.complement ≡ y.complement)
-mark-same x y e = go (eqb x.table.level 0) (eqb y.table.level 0) x.complement y.complement e
+-- what fits a key now fitted it before, and showed and sat there as it does
+pub record Since (r : List ℕ) (ts : List (List Node)) (ys : List Source) : Type 0 where
+  pub tables : tables_of (in_tables ts ys) ≡ ts
+  pub fits : same_key r (in_tables ts ys) ≡ true
+  pub sits : (i : ℕ) → AllOrdered ts → SitsAll i ys → SitsAll i (in_tables ts ys)
+  pub shows : (d i : ℕ) (gs : List (ℕ → Bool)) → ShowsAll ys d i gs → ShowsAll (in_tables ts ys) d i gs
+
+since : (r : List ℕ) (ts : List (List Node)) (ys : List Source) → AllLast ts (tables_of ys) → KeyPast r ts → same_key r ys ≡ true
+    → Since r ts ys
+since r [] [] l h e = record { tables = refl; fits = refl; sits = λ i o s. tt; shows = λ d i gs s. s }
+since r [] (y ∷ ys) l h e = absurd l
+since r (t ∷ ts) [] l h e = absurd l
+since r (t ∷ ts) (y ∷ ys) l h e =
+    let k = keyed r y ys e in
+    let rest = since (drop 3 r) ts ys l.1 h.1 k.rest in
+    record {
+      tables = ap (λ (us : List (List Node)). t ∷ us) rest.tables;
+      fits = and-all (eq-both k.number) (eq-both (key-since r t y l.0 h.0 k.number k.stamps)) (eq-both k.complement)
+          rest.fits;
+      sits = λ i o s. (
+        sits-since t y i l.0 (λ q. stamp-since r t y l.0 h.0 k.number k.stamps) o.0 s.0,
+        rest.sits i o.1 s.1,
+      );
+      shows = show k.number k.stamps rest.shows;
+    }
   where
-    go : (a b c d : Bool) → cond a 0 2 + bit c ≡ cond b 0 2 + bit d → (a ≡ b) × (c ≡ d)
-    go true true true true e = (refl, refl)
-    go true true true false e = absurd (omega (arith, e))
-    go true true false true e = absurd (omega (arith, e))
-    go true true false false e = (refl, refl)
-    go true false true true e = absurd (omega (arith, e))
-    go true false true false e = absurd (omega (arith, e))
-    go true false false true e = absurd (omega (arith, e))
-    go true false false false e = absurd (omega (arith, e))
-    go false true true true e = absurd (omega (arith, e))
-    go false true true false e = absurd (omega (arith, e))
-    go false true false true e = absurd (omega (arith, e))
-    go false true false false e = absurd (omega (arith, e))
-    go false false true true e = (refl, refl)
-    go false false true false e = absurd (omega (arith, e))
-    go false false false true e = absurd (omega (arith, e))
-    go false false false false e = (refl, refl)
+    eq-both : {a b : ℕ} → a ≡ b → eqb a b ≡ true
+    eq-both {a} {b} e = eq-eqb a b e
+
+    and-all : {a b c d : Bool} → a ≡ true → b ≡ true → c ≡ true → d ≡ true → (a && (b && (c && d))) ≡ true
+    and-all p q u v =
+        and-true p (and-true q (and-true u v))
+
+    show : get_or r 0 0 ≡ y.number → get_or r 1 0 ≡ stamp y.table y.number
+        → ((d i : ℕ) (gs : List (ℕ → Bool)) → ShowsAll ys d i gs → ShowsAll (in_tables ts ys) d i gs)
+        → (d i : ℕ) (gs : List (ℕ → Bool)) → ShowsAll (y ∷ ys) d i gs → ShowsAll (in_tables (t ∷ ts) (y ∷ ys)) d i gs
+    show p q rest d i [] s = absurd s
+    show p q rest d i (g ∷ gs) s =
+        (shows-since t y d i g l.0 (λ z. stamp-since r t y l.0 h.0 p q) s.0, rest d i gs s.1)
+
+entry_read : (n : ℕ) (op : List Bool → Bool) (ts us : List (List Node)) (s : State) (r : List ℕ) → AllOrdered ts → AllLast ts us
+    → Entry n op ts s r → Entry n op us s r
+entry_read n op ts us s r o l h = record {
+  past = h.past;
+  key-past = key-read (drop 3 r) ts us l h.key-past;
+  told = λ e ys t k i d at gs f real deep sit sh mk.
+      let q = since (drop 3 r) ts ys (subst⁻¹ (AllLast ts) t l) h.key-past k in
+      h.told e (in_tables ts ys) q.tables q.fits i d at gs f real deep (q.sits i o sit) (q.shows d i gs sh) mk;
+}
+
+-- a memo stays true
+pub memory-read : (n : ℕ) (op : List Bool → Bool) (ts us : List (List Node)) (s : State) (μ : List (List ℕ)) → AllOrdered ts
+    → AllLast ts us → Memory n op ts s μ → Memory n op us s μ
+memory-read n op ts us s μ o l h p e = entry_read n op ts us s (get_or μ p []) o l (h p e)

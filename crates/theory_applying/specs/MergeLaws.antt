@@ -20,16 +20,16 @@ use Rattle.theory_engine.specs.Leading.{Stands}
 use Rattle.theory_engine.specs.Meeting.{online-fits}
 use Rattle.theory_engine.specs.Walking.{Ready, push-ready, tilde-length}
 use Rattle.theory_engine.specs.Streaming.{Wrote, send-wrote, full-wrote, none-output, done-wrote, head-length, start-stands}
-use Rattle.theory_applying.specs.Applying.{Table, Source}
+use Rattle.theory_applying.specs.Applying.{Source}
 use Rattle.theory_applying.specs.ApplyLaws.{jointly}
 use Rattle.theory_applying.specs.Operands.{Operand, Applied, readers_of}
-use Rattle.theory_applying.specs.OperandLaws.{ReaderLaws, AllFed, AllSeated, all_start}
+use Rattle.theory_applying.specs.OperandLaws.{ReaderLaws, AllFed, all_start}
 use Rattle.theory_applying.specs.Finishing.{sent_by, finish_in}
 use Rattle.theory_applying.specs.FinishLaws.{lead, walk, text-whole, text-short, text-none, covered-fewer, text-begins, start-young, cutly-wrote}
-use Rattle.theory_applying.specs.MemoLaws.{memory-none}
+use Rattle.theory_applying.specs.MemoLaws.{Memory, memory-none}
 use Rattle.theory_applying.specs.Carrying.{carry_in}
-use Rattle.theory_applying.specs.Seating.{AllOwn}
-use Rattle.theory_applying.specs.CarryLaws.{Remembers, KnownLaws, carry-leads, carry-cut}
+use Rattle.theory_applying.specs.Seating.{reader_tables, AllSeated}
+use Rattle.theory_applying.specs.CarryLaws.{carry-leads, carry-cut}
 use Rattle.theory_applying.specs.Merging.{merge_nodes_in, merge_in}
 use Rattle.node_records.specs.declared.WriterRecord.{WriterRecord}
 
@@ -39,14 +39,13 @@ use Rattle.node_records.specs.declared.WriterRecord.{WriterRecord}
 module _ {BlockReader : Type 0} (deep_of : BlockReader → ℕ) (source_of : BlockReader → Source) (ended_of : BlockReader → Bool)
     (next : BlockReader → BlockReader) (n c : ℕ)
     (Reads Ends : BlockReader → ℕ → (ℕ → Bool) → Type 0)
-    (law : ReaderLaws deep_of source_of ended_of next n c Reads Ends) (Known : List Table → Type 0) (places : ℕ) (Own Still : ℕ → BlockReader → Type 0)
-    (knows : KnownLaws deep_of source_of ended_of next n c Reads Known places Own Still) where
+    (law : ReaderLaws deep_of source_of ended_of next n Reads Ends) where
   -- y: after the size and its LF, all of which the output holds
   module _ (hash : List ℕ → ℕ) (op : List Bool → Bool) (size : ℕ) (fs : List (Operand BlockReader)) (xs : List (ℕ → Bool)) (μ : List (List ℕ))
       (t : List WriterRecord) (out : List ℕ) (y : Sent) (small : n ≤ option_limit) (few : size ≤ table_limit)
       (stands : Stands n size out (head size) t y.output (progress_after y) start) (room : length y.waits ≡ waiting_limit)
       (e : c ≤ 2 ^ n) (some : 0 < c) (fed : AllFed deep_of source_of ended_of next n Reads Ends 1 n 0 fs xs)
-      (seat : AllSeated deep_of source_of ended_of next 1 fs) (own : AllOwn places Own Still 0 fs (readers_of fs)) (none : (p j : ℕ) → get_or (get_or μ p []) j 0 ≡ 0) where
+      (seat : AllSeated deep_of source_of ended_of next 1 fs) (none : (p j : ℕ) → get_or (get_or μ p []) j 0 ≡ 0) where
     -- what the walk begins with
     abbrev p : List ℕ
     p = lead op n size c xs e
@@ -62,8 +61,8 @@ module _ {BlockReader : Type 0} (deep_of : BlockReader → ℕ) (source_of : Blo
     r = (carry_in deep_of source_of ended_of next hash op c size n 1 0 m.count fs μ t y.output m.bytes (progress_after y)).applied
 
     -- the memo is empty
-    mem : Remembers Known places Own Still n op fs (readers_of fs) start μ
-    mem = (own, memory-none n op Known start μ none)
+    mem : Memory n op (reader_tables deep_of source_of ended_of next (readers_of fs)) start μ
+    mem = memory-none n op (reader_tables deep_of source_of ended_of next (readers_of fs)) start μ none
 
     -- the bytes for what waits suffice
     wide : m.count + level_room * n + end_room ≤ length m.bytes
@@ -75,7 +74,7 @@ module _ {BlockReader : Type 0} (deep_of : BlockReader → ℕ) (source_of : Blo
         done-wrote n size m.count out (head size) p m.bytes (run_text n size c (jointly op xs)) r.walked (walk op n size c xs e) small
         (online-fits n size n 1 0 p (jointly op xs) start start-sound (start-normal n) (omega arith) (omega arith))
         (omega (arith, wide)) (text-whole op n size c xs e h)
-        (carry-leads deep_of source_of ended_of next n c Reads Ends law Known places Own Still knows hash op size n 1 0 0
+        (carry-leads deep_of source_of ended_of next n c Reads Ends law hash op size n 1 0 0
         m.count out (head size) p m.bytes fs xs (jointly op xs) μ t y.output (progress_after y) start (omega arith) (omega arith)
         small few (omega arith) (omega (arith, h)) stands ready.text wide (start-young n small) fed seat (λ w l g k. refl) mem).wholly.leads
 
@@ -84,7 +83,7 @@ module _ {BlockReader : Type 0} (deep_of : BlockReader → ℕ) (source_of : Blo
     short-wrote l =
         subst⁻¹ (λ (v : List ℕ). Wrote out v (sent_by r.walked)) (text-short op n size c xs e l)
         (cutly-wrote out (head size) (cut c size n 1 0 p (jointly op xs) start) r
-        (carry-cut deep_of source_of ended_of next n c Reads Ends law Known places Own Still knows hash op size n 1 0 0
+        (carry-cut deep_of source_of ended_of next n c Reads Ends law hash op size n 1 0 0
         m.count out (head size) p m.bytes fs xs (jointly op xs) μ t y.output (progress_after y) start (omega arith) (omega arith)
         small few (omega arith) some (omega (arith, l)) stands ready.text wide
         (start-young n small) fed seat (λ w l g k. refl) mem))
@@ -105,7 +104,7 @@ module _ {BlockReader : Type 0} (deep_of : BlockReader → ℕ) (source_of : Blo
         let m = push_all y.waits 0 (tilde_if (op ds)) in
         Wrote out (run_text n size c (jointly op xs)) (finish_in n c m.count
         (carry_in deep_of source_of ended_of next hash op c size n 1 0 m.count fs μ t y.output m.bytes (progress_after y)).applied))
-        (all_start deep_of source_of ended_of next n c Reads Ends law 1 n 0 fs xs fed seat)
+        (all_start deep_of source_of ended_of next n Reads Ends law 1 n 0 fs xs fed)
         finish-wrote
 
   -- the engine leaves in the output what the text of the run leaves there
@@ -113,10 +112,10 @@ module _ {BlockReader : Type 0} (deep_of : BlockReader → ℕ) (source_of : Blo
       (μ : List (List ℕ)) (t : List WriterRecord) (out w : List ℕ)
       → n ≤ option_limit → size ≤ table_limit → table_limit ≤ length t → ((i k : ℕ) → cell t i k ≡ 0) → length w ≡ waiting_limit
       → c ≤ 2 ^ n → ((p j : ℕ) → get_or (get_or μ p []) j 0 ≡ 0)
-      → (0 < c → AllFed deep_of source_of ended_of next n Reads Ends 1 n 0 fs xs × AllSeated deep_of source_of ended_of next 1 fs) → AllOwn places Own Still 0 fs (readers_of fs)
+      → (0 < c → AllFed deep_of source_of ended_of next n Reads Ends 1 n 0 fs xs × AllSeated deep_of source_of ended_of next 1 fs)
       → Wrote out (run_text n size c (jointly op xs)) (merge_in deep_of source_of ended_of next hash op n c size fs μ t out w)
   unfolding merge_in
-  merge-wrote hash op size fs xs μ t out w small few long zeros room e none fed own = go y.full (eqb c 0) refl refl
+  merge-wrote hash op size fs xs μ t out w small few long zeros room e none fed = go y.full (eqb c 0) refl refl
     where
       a : Waiting
       a = push_all w 0 (head size)
@@ -139,4 +138,4 @@ module _ {BlockReader : Type 0} (deep_of : BlockReader → ℕ) (source_of : Blo
       go false false f z =
           let some : 0 < c = ⊎_elim (λ g. absurd (eqb-false c 0 z (omega (arith, g)))) (λ g. g) (decide-le c 0) in
           merge-nodes hash op size fs xs μ t out y small few (start-stands n size out t y long zeros sent f) (ready.room ∙ room) e
-          some (fed some).0 (fed some).1 own none
+          some (fed some).0 (fed some).1 none

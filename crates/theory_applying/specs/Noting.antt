@@ -1,6 +1,6 @@
 -- A part that the memo tells is one step, and what a part came to may be noted. Assumes nothing.
 use Rattle.std.specs.Prelude.{◌≡◌, refl, Bool, true, false, cond, not, ◌&&◌, ◌||◌, List, [], ◌∷◌, ℕ, zero, suc, ◌+◌, ◌-◌, ◌≤◌, ◌<◌, ◌^◌, eqb, set, drop, take}
-use Rattle.std.proofs.Common.{sym, ap, ◌∙◌, subst, ⊎_elim, true≢false, arith, eqb-true}
+use Rattle.std.proofs.Common.{sym, ap, ap₂, ◌∙◌, subst, ⊎_elim, true≢false, arith, eqb-true}
 use Rattle.std.proofs.Math.Path.{subst⁻¹}
 use Rattle.std.proofs.Math.ListN.{get_or-eq_default}
 use Rattle.std.proofs.lemmas.Bool.{eqb-false, not-true}
@@ -22,11 +22,11 @@ use Rattle.theory_engine.specs.Engine.{Half, Progress, constant_half, number_hal
 use Rattle.theory_engine.specs.Leading.{Came, Stands, Leads}
 use Rattle.theory_engine.specs.Again.{Now, number-leads, online-means, online-now, came-entry}
 use Rattle.theory_engine.specs.Walking.{block-leads}
-use Rattle.theory_applying.specs.Applying.{Table, Source, all_pass}
+use Rattle.theory_applying.specs.Applying.{Source, all_pass}
 use Rattle.theory_applying.specs.ApplyLaws.{ShowsAll, Makes}
 use Rattle.theory_applying.specs.Memo.{key_of, same_key, is_empty, number_in, stamp_in, complement_in, is_young, tells, told_half, note_entry, remember_in}
 use Rattle.theory_applying.specs.Sitting.{SitsAll, tables_of}
-use Rattle.theory_applying.specs.MemoLaws.{is-deep, is-constant, Tells, part-tells, Coherent, Entry, Memory}
+use Rattle.theory_applying.specs.MemoLaws.{is-deep, is-constant, Tells, part-tells, KeyPast, Entry, Memory, keyed}
 use Rattle.node_records.specs.declared.WriterRecord.{WriterRecord}
 
 -- ---- What a part does to the output's state --------------------------------------------------
@@ -78,37 +78,66 @@ module _ (n size d i at : ℕ) (f : ℕ → Bool) (s : State) (sound : Sound s) 
 
 -- ---- Noting ----------------------------------------------------------------------------------
 
+-- one of two
+bit-same : (a b : Bool) → bit a ≡ bit b → a ≡ b
+bit-same true true e = refl
+bit-same true false e = absurd (omega (arith, e))
+bit-same false true e = absurd (omega (arith, e))
+bit-same false false e = refl
+
 bit-back : (c : Bool) → eqb (bit c + 1) 2 ≡ c
 bit-back true = refl
 bit-back false = refl
 
--- what a part came to, told of its edges and of all that have their key
-note-entry : (n : ℕ) (op : List Bool → Bool) (Known : List Table → Type 0) → Coherent Known → (s : State) (xs : List Source) (h : Half)
-    → Known (tables_of xs) → (0 < h.number → stamp s.table h.number ≡ h.stamp) → Tells n op s h.number h.complement xs
-    → Entry n op Known s (note_entry xs h)
-note-entry n op Known same s xs h here now told = record {
+-- an edge is its three parts
+source-same : (x y : Source) → x.table ≡ y.table → x.number ≡ y.number → x.complement ≡ y.complement → x ≡ y
+source-same x y a b c =
+    ap (λ (t : List Node). record { table = t; number = x.number; complement = x.complement }) a
+    ∙ ap (λ (k : ℕ). record { table = y.table; number = k; complement = x.complement }) b
+    ∙ ap (λ (u : Bool). record { table = y.table; number = y.number; complement = u }) c
+
+-- the inputs that fit the key of others in the same tables are those
+key-same : (xs ys : List Source) → tables_of ys ≡ tables_of xs → same_key (key_of xs) ys ≡ true → ys ≡ xs
+key-same [] [] t e = refl
+key-same [] (y ∷ ys) t e = cc
+key-same (x ∷ xs) [] t e = cc
+key-same (x ∷ xs) (y ∷ ys) t e =
+    let k = keyed (key_of (x ∷ xs)) y ys e in
+    let a : y.table ≡ x.table = cc in
+    let b : tables_of ys ≡ tables_of xs = cc in
+    ap₂ ◌∷◌ (source-same y x a (sym k.number) (sym (bit-same x.complement y.complement k.complement))) (key-same xs ys b k.rest)
+
+-- its stamps are those in the tables
+key-now : (xs : List Source) → KeyPast (key_of xs) (tables_of xs)
+key-now [] = tt
+key-now (x ∷ xs) = (omega arith, key-now xs)
+
+-- what a part came to, told of its edges
+note-entry : (n : ℕ) (op : List Bool → Bool) (s : State) (xs : List Source) (h : Half)
+    → (0 < h.number → stamp s.table h.number ≡ h.stamp) → Tells n op s h.number h.complement xs
+    → Entry n op (tables_of xs) s (note_entry xs h)
+note-entry n op s xs h now told = record {
   past = λ l. omega (arith, now l);
+  key-past = key-now xs;
   told = λ e ys t k.
-      let like = same xs ys here t k in
-      subst⁻¹ (λ (c : Bool). Tells n op s h.number c ys) (bit-back h.complement)
-      (λ i d at gs f real deep sit sh mk. told i d at gs f real deep (like.sits i sit) (like.shows d i gs sh) mk);
+      subst⁻¹ (λ (ys : List Source). Tells n op s h.number (eqb (bit h.complement + 1) 2) ys) (key-same xs ys t k)
+      (subst⁻¹ (λ (c : Bool). Tells n op s h.number c xs) (bit-back h.complement) told);
 }
 
 -- a memo stays true
-pub memory-note : (hash : List ℕ → ℕ) (n : ℕ) (op : List Bool → Bool) (Known : List Table → Type 0) → Coherent Known → (s : State) (μ : List (List ℕ))
-    (xs : List Source) (h : Half) → Known (tables_of xs)
+pub memory-note : (hash : List ℕ → ℕ) (n : ℕ) (op : List Bool → Bool) (s : State) (μ : List (List ℕ)) (xs : List Source) (h : Half)
     → (h.temporary ≡ false → (0 < h.number → stamp s.table h.number ≡ h.stamp) × Tells n op s h.number h.complement xs)
-    → Memory n op Known s μ → Memory n op Known s (remember_in hash μ xs h)
+    → Memory n op (tables_of xs) s μ → Memory n op (tables_of xs) s (remember_in hash μ xs h)
 unfolding remember_in
-memory-note hash n op Known same s μ xs h here told mem = go h.temporary refl
+memory-note hash n op s μ xs h told mem = go h.temporary refl
   where
     row : List ℕ
     row = note_entry xs h
 
-    go : (u : Bool) → h.temporary ≡ u → Memory n op Known s (cond u μ (set μ (hash (key_of xs)) row))
+    go : (u : Bool) → h.temporary ≡ u → Memory n op (tables_of xs) s (cond u μ (set μ (hash (key_of xs)) row))
     go true e = mem
-    go false e = λ p. get_or-set-either (λ (r : List ℕ). is_empty r ≡ false → Entry n op Known s r) μ (hash (key_of xs)) p row []
-        (λ z. note-entry n op Known same s xs h here (told e).0 (told e).1) (mem p)
+    go false e = λ p. get_or-set-either (λ (r : List ℕ). is_empty r ≡ false → Entry n op (tables_of xs) s r) μ (hash (key_of xs)) p row []
+        (λ z. note-entry n op s xs h (told e).0 (told e).1) (mem p)
 
 -- ---- What a part came to ---------------------------------------------------------------------
 
@@ -160,12 +189,12 @@ keeps-level t z f l s h k r v = ⊎_elim
     (decide-le k z)
 
 -- a part of level i, d options left, that a row of the memo tells
-pub told-leads : (n : ℕ) (op : List Bool → Bool) (Known : List Table → Type 0) (size d i at m : ℕ) (o T p w : List ℕ) (xs : List Source) (gs : List (ℕ → Bool))
+pub told-leads : (n : ℕ) (op : List Bool → Bool) (size d i at m : ℕ) (o T p w : List ℕ) (xs : List Source) (gs : List (ℕ → Bool))
     (f : ℕ → Bool) (t : List WriterRecord) (out : List ℕ) (progress : Progress) (s : State) (r : List ℕ) → 0 < i → i + d ≡ suc n
     → Stands n size o T t out progress s → take m w ≡ p → SitsAll i xs → ShowsAll xs d i gs → Makes op d at gs f
-    → Known (tables_of xs) → (is_empty r ≡ false → Entry n op Known s r) → tells r xs t ≡ true
+    → (is_empty r ≡ false → Entry n op (tables_of xs) s r) → tells r xs t ≡ true
     → Leads n size i m o T p w (kept (told_half r i t) t out w progress) (online size d i at p f s)
-told-leads n op Known size d i at m o T p w xs gs f t out progress s r real deep st here sit sh mk known row e = go (eqb k 0) refl young
+told-leads n op size d i at m o T p w xs gs f t out progress s r real deep st here sit sh mk row e = go (eqb k 0) refl young
   where
     k : ℕ
     k = number_in r
@@ -173,7 +202,7 @@ told-leads n op Known size d i at m o T p w xs gs f t out progress s r real deep
     c : Bool
     c = complement_in r
 
-    there : Entry n op Known s r
+    there : Entry n op (tables_of xs) s r
     there = row (not-true (is_empty r) (and_l (not (is_empty r)) (same_key (drop 3 r) xs && is_young r t) e))
 
     fits : same_key (drop 3 r) xs ≡ true
@@ -187,7 +216,7 @@ told-leads n op Known size d i at m o T p w xs gs f t out progress s r real deep
         (and_r (not (is_empty r)) (same_key (drop 3 r) xs && is_young r t) e)
 
     is : (0 < k → stamp s.table k ≡ stamp_in r) → Is s.table f d i k c at
-    is now = there.told now xs known fits i d at gs f real deep sit sh mk
+    is now = there.told now xs refl fits i d at gs f real deep sit sh mk
 
     go : (u : Bool) → eqb k 0 ≡ u → (u || eqb (cell t stamp_field k) (stamp_in r)) ≡ true
         → Leads n size i m o T p w

@@ -7,8 +7,9 @@ use Rattle.std.proofs.lemmas.Bool.{eqb-false}
 use Rattle.theory_lists.specs.Lists.{differ, or_l, or_r, or-false, or_left, or_right, decide-le, pow_pos}
 use Rattle.theory_lists.specs.Prefixes.{Begins, begins-left}
 use Rattle.theory_reading.specs.Bytes.{opener}
+use Rattle.theory_reading.specs.Nodes.{node}
 use Rattle.theory_reading.specs.Deciding.{options, decided}
-use Rattle.theory_reading.specs.Lasting.{Ordered}
+use Rattle.theory_reading.specs.Lasting.{Lasts, Ordered}
 use Rattle.theory_writing.specs.UniqueTable.{State}
 use Rattle.theory_writing.specs.Texts.{tilde_if}
 use Rattle.theory_writing.specs.Run.{output_after}
@@ -16,8 +17,8 @@ use Rattle.theory_writing.specs.Output.{full-written, full-output}
 use Rattle.theory_writing.specs.Online.{Went, waiting, online}
 use Rattle.theory_writing.specs.OnlineRuns.{cut}
 use Rattle.theory_engine.specs.Leading.{Leads}
-use Rattle.theory_applying.specs.Applying.{Source, passes, picks, child_source, half_source, first_source, second_source}
-use Rattle.theory_applying.specs.ApplyLaws.{Shows, ShowsAll, decisions_at, decisions_from, constant-walk, shows_first, shows_second, shows_low}
+use Rattle.theory_applying.specs.Applying.{Source, passes, first_source, second_source}
+use Rattle.theory_applying.specs.ApplyLaws.{Shows, ShowsAll, decisions_at, decisions_from, constant-walk, shows_first, shows_second, shows-start}
 use Rattle.theory_applying.specs.Sitting.{Sits}
 use Rattle.theory_applying.specs.Operands.{Operand, Applied, on_reader, at_edge, at_terminal, any_text, readers_of, resume, halted, ended_at, edge_of, edges_of}
 use Rattle.theory_applying.specs.Operands.{settle, first_operand, second_operand, first_operands, second_operands, first_values_of}
@@ -25,10 +26,9 @@ use Rattle.theory_applying.specs.Operands.{settle, first_operand, second_operand
 -- ---- Block readers ---------------------------------------------------------------------------
 
 -- WHAT THE WALK ASKS of block readers. Reads τ at x: the block reader τ, of the input x, stands at the block that begins with word `at`, of
--- 2 ^ (n - deep_of τ) words; Ends τ e x: it has come to the end of its text, and the input decides no from word e on; c: only blocks before word c are
--- asked for
+-- 2 ^ (n - deep_of τ) words; Ends τ e x: it has come to the end of its text, and the input decides no from word e on
 pub record ReaderLaws {BlockReader : Type 0} (deep_of : BlockReader → ℕ) (source_of : BlockReader → Source) (ended_of : BlockReader → Bool)
-    (next : BlockReader → BlockReader) (n c : ℕ)
+    (next : BlockReader → BlockReader) (n : ℕ)
     (Reads Ends : BlockReader → ℕ → (ℕ → Bool) → Type 0) : Type 0 where
   -- no more nodes are open around the block than there are options, and it begins after some blocks of as many words;
   pub reads-deep : (τ : BlockReader) (at : ℕ) (x : ℕ → Bool) → Reads τ at x → deep_of τ ≤ n
@@ -37,19 +37,17 @@ pub record ReaderLaws {BlockReader : Type 0} (deep_of : BlockReader → ℕ) (so
   pub reads-shows : (τ : BlockReader) (at : ℕ) (x : ℕ → Bool) → Reads τ at x
       → Shows (source_of τ) (n - deep_of τ) (deep_of τ + 1) (λ w. x (at + w))
   pub reads-sits : (τ : BlockReader) (at : ℕ) (x : ℕ → Bool) → Reads τ at x → Sits (deep_of τ + 1) (source_of τ)
-  -- if an option is fixed, it lies above the block;
-  pub reads-low : (τ : BlockReader) (at : ℕ) (x : ℕ → Bool) → Reads τ at x → (source_of τ).table.level ≤ deep_of τ
-  -- the next block begins where it ends, or the text ends there
+  -- the next block begins where it ends, or the text ends there, and the table lasts till then
   pub reads_on : (τ : BlockReader) (at : ℕ) (x : ℕ → Bool) → Reads τ at x → ended_of τ ≡ false
-  pub reads-next : (τ : BlockReader) (at : ℕ) (x : ℕ → Bool) → Reads τ at x → at + 2 ^ (n - deep_of τ) < c
+  pub reads-next : (τ : BlockReader) (at : ℕ) (x : ℕ → Bool) → Reads τ at x
       → Reads (next τ) (at + 2 ^ (n - deep_of τ)) x ⊎ Ends (next τ) (at + 2 ^ (n - deep_of τ)) x
+  pub reads-lasts : (τ : BlockReader) (at : ℕ) (x : ℕ → Bool) → Reads τ at x → Lasts (source_of τ).table (source_of (next τ)).table
   -- At the end of its text a block reader stays, with an ordered table.
   pub ends-over : (τ : BlockReader) (e : ℕ) (x : ℕ → Bool) → Ends τ e x → ended_of τ ≡ true
   pub ends-stays : (τ : BlockReader) (e : ℕ) (x : ℕ → Bool) → Ends τ e x → next τ ≡ τ
   pub ends-no : (τ : BlockReader) (e : ℕ) (x : ℕ → Bool) → Ends τ e x → (w : ℕ) → e ≤ w → x w ≡ false
   pub ends-later : (τ : BlockReader) (e j : ℕ) (x : ℕ → Bool) → Ends τ e x → e ≤ j → Ends τ j x
-  pub ends-ordered : (τ : BlockReader) (e : ℕ) (x : ℕ → Bool) → Ends τ e x → Ordered (source_of τ).table.nodes
-  pub ends_low : (τ : BlockReader) (e : ℕ) (x : ℕ → Bool) → Ends τ e x → (source_of τ).table.level ≡ 0
+  pub ends-ordered : (τ : BlockReader) (e : ℕ) (x : ℕ → Bool) → Ends τ e x → Ordered (source_of τ).table
 
 -- ---- Where the inputs stand ------------------------------------------------------------------
 
@@ -100,29 +98,6 @@ module _ {BlockReader : Type 0} (deep_of : BlockReader → ℕ) (source_of : Blo
   AllPassed e (f ∷ fs) [] υs = ⊥
   AllPassed e (f ∷ fs) (x ∷ xs) [] = ⊥
   AllPassed e (f ∷ fs) (x ∷ xs) (υ ∷ υs) = Passed e f x υ × AllPassed e fs xs υs
-
--- ---- Where inputs sit ------------------------------------------------------------------------
-
--- an edge sits at a part of level i, below the option that is fixed
-pub record Seat (i : ℕ) (y : Source) : Type 0 where
-  pub sits : Sits i y
-  pub low : y.table.level < i
-
-module _ {BlockReader : Type 0} (deep_of : BlockReader → ℕ) (source_of : BlockReader → Source) (ended_of : BlockReader → Bool)
-    (next : BlockReader → BlockReader) where
-  -- an input that is at an edge sits there
-  abbrev pub SeatedBy : Bool → Source → ℕ → Type 0
-  SeatedBy true y i = Unit {0}
-  SeatedBy false y i = Seat i y
-
-  abbrev pub Seated : ℕ → Operand BlockReader → Type 0
-  Seated i f = SeatedBy f.in_text (edge_of deep_of source_of ended_of next f) i
-
-  abbrev pub AllSeated : ℕ → List (Operand BlockReader) → Type 0
-  AllSeated i [] = Unit {0}
-  AllSeated i (f ∷ fs) = Seated i f × AllSeated i fs
-
--- ---- What a part decides ---------------------------------------------------------------------
 
 -- the words of a part that are covered are what op makes of the decisions
 abbrev pub Operates : (List Bool → Bool) → ℕ → ℕ → ℕ → List (ℕ → Bool) → (ℕ → Bool) → Type 0
@@ -287,34 +262,47 @@ module _ {BlockReader : Type 0} (deep_of : BlockReader → ℕ) (source_of : Blo
     (next : BlockReader → BlockReader) (i : ℕ)
     (f : Operand BlockReader) where
   -- an edge's halves are edges in the same table
-  edge-half : (o : Bool) → edge_of deep_of source_of ended_of next (at_edge f (half_source o i (edge_of deep_of source_of ended_of next f)))
-      ≡ half_source o i (edge_of deep_of source_of ended_of next f)
-  edge-half o = go (passes i x) (picks x.table i o)
+  pub edge-first : edge_of deep_of source_of ended_of next (at_edge f (first_source i (edge_of deep_of source_of ended_of next f)))
+      ≡ first_source i (edge_of deep_of source_of ended_of next f)
+  edge-first = go (passes i x)
     where
       x : Source
       x = edge_of deep_of source_of ended_of next f
 
-      go : (u b : Bool) → edge_of deep_of source_of ended_of next (at_edge f (cond u x (child_source b x))) ≡ cond u x (child_source b x)
-      go true b = refl
-      go false true = refl
-      go false false = refl
+      y : Source
+      y = record { table = x.table; number = (node x.table x.number).first; complement = x.complement }
 
-  pub edge-first : edge_of deep_of source_of ended_of next (at_edge f (first_source i (edge_of deep_of source_of ended_of next f)))
-      ≡ first_source i (edge_of deep_of source_of ended_of next f)
-  edge-first = edge-half false
+      go : (u : Bool) → edge_of deep_of source_of ended_of next (at_edge f (cond u x y)) ≡ cond u x y
+      go true = refl
+      go false = refl
 
   pub edge-second : edge_of deep_of source_of ended_of next (at_edge f (second_source i (edge_of deep_of source_of ended_of next f)))
       ≡ second_source i (edge_of deep_of source_of ended_of next f)
-  edge-second = edge-half true
+  edge-second = go (passes i x)
+    where
+      x : Source
+      x = edge_of deep_of source_of ended_of next f
+
+      y : Source
+      y =
+          record {
+            table = x.table;
+            number = (node x.table x.number).second;
+            complement = differ (node x.table x.number).complement x.complement;
+          }
+
+      go : (u : Bool) → edge_of deep_of source_of ended_of next (at_edge f (cond u x y)) ≡ cond u x y
+      go true = refl
+      go false = refl
 
 -- an input in its text
 abbrev pub texted : {BlockReader : Type 0} → BlockReader → Source → Operand BlockReader
 texted τ y = record { reader = τ; in_text = true; number = y.number; complement = y.complement }
 
 module _ {BlockReader : Type 0} (deep_of : BlockReader → ℕ) (source_of : BlockReader → Source) (ended_of : BlockReader → Bool)
-    (next : BlockReader → BlockReader) (n c : ℕ)
+    (next : BlockReader → BlockReader) (n : ℕ)
     (Reads Ends : BlockReader → ℕ → (ℕ → Bool) → Type 0)
-    (law : ReaderLaws deep_of source_of ended_of next n c Reads Ends) where
+    (law : ReaderLaws deep_of source_of ended_of next n Reads Ends) where
   module _ (i d : ℕ) (deep : i + suc d ≡ suc n) where
     -- an input in its text at a part of the next level; u: its text has ended, v: its block is as great as the part
     abbrev place : BlockReader → Source → Bool → Bool → Operand BlockReader
@@ -381,7 +369,7 @@ module _ {BlockReader : Type 0} (deep_of : BlockReader → ℕ) (source_of : Blo
             subst⁻¹ (λ (y : Source). Shows y d (i + 1) (λ w. x (at + w))) (edge-first deep_of source_of ended_of next i f)
             (shows_first (edge_of deep_of source_of ended_of next f) d i (λ w. x (at + w)) h)
 
-    module _ (k at : ℕ) (z : at ≡ k * 2 ^ suc d) (goes : at + 2 ^ d < c) where
+    module _ (k at : ℕ) (z : at ≡ k * 2 ^ suc d) where
       -- a block that begins in the middle of the part is no greater than a half
       middle-deep : (τ : BlockReader) (x : ℕ → Bool) → Reads τ (at + 2 ^ d) x → i ≤ deep_of τ
       middle-deep τ x h = ⊎_elim (λ g. g) (λ g. absurd (no g)) (decide-le i (deep_of τ))
@@ -397,8 +385,7 @@ module _ {BlockReader : Type 0} (deep_of : BlockReader → ℕ) (source_of : Blo
           → Passed deep_of source_of ended_of next n Reads Ends (at + 2 ^ d) (settle deep_of source_of ended_of next (i + 1) (texted τ y)) x υ
           → Comes deep_of source_of ended_of next n Reads Ends (next υ) (at + 2 ^ d) x
       text-next τ υ y x h q = ⊎_elim
-          (λ r. subst (λ (e : ℕ). Comes deep_of source_of ended_of next n Reads Ends (next υ) e x) r.1.1
-          (law.reads-next υ r.0 x r.1.0 (omega (arith, r.1.1, goes))))
+          (λ r. subst (λ (e : ℕ). Comes deep_of source_of ended_of next n Reads Ends (next υ) e x) r.1.1 (law.reads-next υ r.0 x r.1.0))
           (λ r. subst⁻¹ (λ (υ : BlockReader). Comes deep_of source_of ended_of next n Reads Ends υ (at + 2 ^ d) x) (law.ends-stays υ (at + 2 ^ d) x r) (inr r))
           (settled-passed at τ υ y x (inl h) q)
 
@@ -455,7 +442,7 @@ module _ {BlockReader : Type 0} (deep_of : BlockReader → ℕ) (source_of : Blo
     all_first at (f ∷ fs) [] h = h
     all_first at (f ∷ fs) (x ∷ xs) h = (fed-first at f x h.0, all_first at fs xs h.1)
 
-    module _ (k at : ℕ) (z : at ≡ k * 2 ^ suc d) (goes : at + 2 ^ d < c) where
+    module _ (k at : ℕ) (z : at ≡ k * 2 ^ suc d) where
       -- at the second half, with the block readers they have after the first
       pub all-second : (fs : List (Operand BlockReader)) (xs : List (ℕ → Bool)) (υs : List BlockReader)
           → AllFed deep_of source_of ended_of next n Reads Ends i (suc d) at fs xs
@@ -466,7 +453,7 @@ module _ {BlockReader : Type 0} (deep_of : BlockReader → ℕ) (source_of : Blo
       all-second (f ∷ fs) [] υs h q = absurd h
       all-second (f ∷ fs) (x ∷ xs) [] h q = absurd q
       all-second (f ∷ fs) (x ∷ xs) (υ ∷ υs) h q =
-          (fed-second k at z goes f x υ h.0 q.0, all-second fs xs υs h.1 q.1)
+          (fed-second k at z f x υ h.0 q.0, all-second fs xs υs h.1 q.1)
 
       -- after it
       pub all-passed : (fs : List (Operand BlockReader)) (xs : List (ℕ → Bool)) (υs φs : List BlockReader)
@@ -481,7 +468,7 @@ module _ {BlockReader : Type 0} (deep_of : BlockReader → ℕ) (source_of : Blo
       all-passed (f ∷ fs) (x ∷ xs) [] φs h q r = absurd q
       all-passed (f ∷ fs) (x ∷ xs) (υ ∷ υs) [] h q r = r
       all-passed (f ∷ fs) (x ∷ xs) (υ ∷ υs) (φ ∷ φs) h q r =
-          (passed-second k at z goes f x υ φ h.0 q.0 r.0, all-passed fs xs υs φs h.1 q.1 r.1)
+          (passed-second k at z f x υ φ h.0 q.0 r.0, all-passed fs xs υs φs h.1 q.1 r.1)
 
   -- with no option left none is in its text
   pub all_none : (i at : ℕ) (fs : List (Operand BlockReader)) (xs : List (ℕ → Bool)) → n < i → AllFed deep_of source_of ended_of next n Reads Ends i 0 at fs xs
@@ -497,11 +484,11 @@ module _ {BlockReader : Type 0} (deep_of : BlockReader → ℕ) (source_of : Blo
 
   -- what they decide at the first word of a part
   pub all_start : (i d at : ℕ) (fs : List (Operand BlockReader)) (xs : List (ℕ → Bool)) → AllFed deep_of source_of ended_of next n Reads Ends i d at fs xs
-      → AllSeated deep_of source_of ended_of next i fs → decisions_at xs at ≡ first_values_of deep_of source_of ended_of next fs
-  all_start i d at [] [] h s = refl
-  all_start i d at [] (x ∷ xs) h s = absurd h
-  all_start i d at (f ∷ fs) [] h s = absurd h
-  all_start i d at (f ∷ fs) (x ∷ xs) h s = ap₂ ◌∷◌ (ap x same ∙ go f.in_text h.0 s.0) (all_start i d at fs xs h.1 s.1)
+      → decisions_at xs at ≡ first_values_of deep_of source_of ended_of next fs
+  all_start i d at [] [] h = refl
+  all_start i d at [] (x ∷ xs) h = absurd h
+  all_start i d at (f ∷ fs) [] h = absurd h
+  all_start i d at (f ∷ fs) (x ∷ xs) h = ap₂ ◌∷◌ (ap x same ∙ go f.in_text h.0) (all_start i d at fs xs h.1)
     where
       same : at ≡ at + 0
       same = omega arith
@@ -510,9 +497,7 @@ module _ {BlockReader : Type 0} (deep_of : BlockReader → ℕ) (source_of : Blo
       g w = x (at + w)
 
       go : (u : Bool) → FedBy deep_of source_of ended_of next n Reads Ends u f.reader (edge_of deep_of source_of ended_of next f) i d at x
-          → SeatedBy deep_of source_of ended_of next u (edge_of deep_of source_of ended_of next f) i
           → g 0 ≡ cond u (source_of f.reader).complement f.complement
-      go true q t =
-          shows_low (source_of f.reader) (n - deep_of f.reader) (deep_of f.reader + 1) g
-          (inr (omega (arith, law.reads-low f.reader at x q.0))) (law.reads-shows f.reader at x q.0)
-      go false q t = shows_low (edge_of deep_of source_of ended_of next f) d i g (inr t.low) q
+      go true q =
+          shows-start (source_of f.reader) (n - deep_of f.reader) (deep_of f.reader + 1) g (law.reads-shows f.reader at x q.0)
+      go false q = shows-start (edge_of deep_of source_of ended_of next f) d i g q

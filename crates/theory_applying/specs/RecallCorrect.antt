@@ -8,7 +8,7 @@ use Rattle.theory_reading.specs.Bytes.{opener}
 use Rattle.theory_writing.specs.Texts.{tilde_if}
 use Rattle.theory_engine.specs.Pending.{Waiting, push_all, wait_in}
 use Rattle.theory_engine.specs.Engine.{Half, Progress, Walked, constant_half, number_half, kept, second_in}
-use Rattle.theory_applying.specs.Applying.{Source, first_sources, second_sources, start_values, first_values, all_alike, fixed}
+use Rattle.theory_applying.specs.Applying.{Source, first_sources, second_sources, first_values, all_pass, fixed}
 use Rattle.theory_applying.specs.Memo.{entry_for, look_up_in, told_half, remember_in}
 use Rattle.theory_applying.specs.Recalling.{Recalled, unnoted, alike_part, noted_in, recall_in}
 use Rattle.node_records.specs.declared.WriterRecord.{WriterRecord}
@@ -48,7 +48,7 @@ module _ (hash : List ℕ → ℕ) (op : List Bool → Bool) (size d i m : ℕ) 
 
   -- by either way
   abbrev second_from : List Source → Recalled → Half → Progress → Waiting → Recalled
-  second_from zs a g x r = cond (alike_part i xs g) (again_from (op (start_values (i + 1) zs)) a g x r) (walked_from zs a x r)
+  second_from zs a g x r = cond (alike_part i xs g) (again_from (op (first_values zs)) a g x r) (walked_from zs a x r)
 
   -- what waits of the first half, which had p before it and came to g
   abbrev wait_of : Waiting → Recalled → Half → Waiting
@@ -61,7 +61,7 @@ module _ (hash : List ℕ → ℕ) (op : List Bool → Bool) (size d i m : ℕ) 
   -- from the first half on, with what the second begins with
   abbrev started : List Source → Waiting → Recalled → Half → Recalled
   started zs p a g =
-      let u = differ g.complement (op (start_values (i + 1) zs)) in
+      let u = differ g.complement (op (first_values zs)) in
       let q = wait_of p a g in
       let r = push_all q.bytes q.count (tilde_if u) in
       met_by u g r (second_from zs a g a.walked.progress r)
@@ -123,10 +123,10 @@ module _ (hash : List ℕ → ℕ) (op : List Bool → Bool) (size d i m : ℕ) 
     -- u: the `~` between the halves, b: the second half, y: after both, ν: the memo then
     module _ (g : Half) (x : Progress) (zs : List Source) (c u : Bool) (q r : Waiting) (b : Recalled) (y : Walked) (ν : List (List ℕ))
         (came : g ≡ a.walked.half) (left : x ≡ a.walked.progress) (goes : x.full ≡ false) (gone : zs ≡ second_sources i xs)
-        (first : c ≡ op (start_values (i + 1) zs)) (complement : u ≡ differ g.complement c)
+        (first : c ≡ op (first_values zs)) (complement : u ≡ differ g.complement c)
         (waited : q ≡ wait_in a.walked.waits p.count g.wrote g.skipped g.number)
         (ready : r ≡ push_all q.bytes q.count (tilde_if u)) (met : y ≡ second_in size i r.count u g b.walked)
-        (noted : ν ≡ cond (y.progress.full || all_alike i xs) b.memo (remember_in hash b.memo xs y.half)) where
+        (noted : ν ≡ cond (y.progress.full || all_pass i xs) b.memo (remember_in hash b.memo xs y.half)) where
       -- what is left in the memo
       through : record { walked = y; memo = ν } ≡ met_by u g r b
       through =
@@ -149,10 +149,10 @@ module _ (hash : List ℕ → ℕ) (op : List Bool → Bool) (size d i m : ℕ) 
       -- the second half is walked
       pub recall-on : alike_part i xs g ≡ false → b ≡ walked_from zs a x r → record { walked = y; memo = ν } ≡ whole e
       recall-on f s =
-          recall-both (s ∙ ap (λ (t : Bool). cond t (again_from (op (start_values (i + 1) zs)) a g x r) (walked_from zs a x r)) (sym f))
+          recall-both (s ∙ ap (λ (t : Bool). cond t (again_from (op (first_values zs)) a g x r) (walked_from zs a x r)) (sym f))
 
       -- it is like the first
       pub recall-again : alike_part i xs g ≡ true → b ≡ again_from c a g x r → record { walked = y; memo = ν } ≡ whole e
       recall-again f s =
           recall-both (s ∙ ap (λ (c : Bool). again_from c a g x r) first
-          ∙ ap (λ (t : Bool). cond t (again_from (op (start_values (i + 1) zs)) a g x r) (walked_from zs a x r)) (sym f))
+          ∙ ap (λ (t : Bool). cond t (again_from (op (first_values zs)) a g x r) (walked_from zs a x r)) (sym f))

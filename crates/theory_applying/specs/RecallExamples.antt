@@ -10,7 +10,7 @@ use Rattle.theory_engine.specs.Recycling.{unlink_in, link_in, free_of, search_in
 use Rattle.theory_engine.specs.Recycling.{release_in, adopt_in, note_in, place_in, store_in, next_in}
 use Rattle.theory_engine.specs.Pending.{push_all, wait_in, close_in, sent_to}
 use Rattle.theory_engine.specs.Engine.{Progress, end_in, write_node, give_in, known_in, meet_in}
-use Rattle.theory_applying.specs.Applying.{plain_table, Source, start_in, first_sources, second_sources, start_values, fixed}
+use Rattle.theory_applying.specs.Applying.{Source, first_sources, second_sources, first_values, fixed}
 use Rattle.theory_applying.specs.Memo.{look_up_in, remember_in, slot_from, slot_in}
 use Rattle.writer_numbers.specs.Hashing.{stir}
 use Rattle.theory_applying.specs.Recalling.{alike_part, recall_in}
@@ -29,7 +29,7 @@ steps_in hash op size (suc d) i m xs μ t out w progress =
     let ys = first_sources i xs in
     let a = recall_in hash op size d (i + 1) p.count ys μ t out p.bytes progress in
     let h = a.walked.half in
-    let complement = differ h.complement (op (start_values (i + 1) (second_sources i xs))) in
+    let complement = differ h.complement (op (first_values (second_sources i xs))) in
     let q = wait_in a.walked.waits p.count h.wrote h.skipped h.number in
     let r = push_all q.bytes q.count (tilde_if complement) in
     let u = steps_in hash op size d (i + 1) p.count ys μ t out p.bytes progress in
@@ -49,18 +49,17 @@ parity_rows n zero = []
 parity_rows n (suc k) = parity_rows n k ++ (new_node (n - k) k k true 1 ∷ [])
 
 abbrev parity_of : ℕ → Source
-parity_of n = record { table = plain_table (no_node ∷ parity_rows n n); number = n; complement = false }
+parity_of n = record { table = no_node ∷ parity_rows n n; number = n; complement = false }
 
 -- the last option
 abbrev last_of : ℕ → Source
-last_of n = record { table = plain_table (no_node ∷ new_node n 0 0 true 1 ∷ []); number = 1; complement = false }
+last_of n = record { table = no_node ∷ new_node n 0 0 true 1 ∷ []; number = 1; complement = false }
 
 -- two or more of three options
 abbrev majority : Source
 majority =
     record {
-      table =
-          plain_table (no_node ∷ new_node 3 0 0 true 1 ∷ new_node 2 0 1 false 1 ∷ new_node 2 1 0 true 1 ∷ new_node 1 2 3 false 1 ∷ []);
+      table = no_node ∷ new_node 3 0 0 true 1 ∷ new_node 2 0 1 false 1 ∷ new_node 2 1 0 true 1 ∷ new_node 1 2 3 false 1 ∷ [];
       number = 4;
       complement = false;
     }

@@ -6,7 +6,7 @@ use Rattle.std.proofs.Common.{sym, ap, ap₂, ◌∙◌, subst, true≢false, ar
 use Rattle.std.proofs.lemmas.Bool.{eqb-false, not-true}
 use Rattle.theory_lists.specs.Lists.{differ, and_l, and_r, pow_pos}
 use Rattle.theory_reading.specs.Bytes.{opener}
-use Rattle.theory_reading.specs.Nodes.{terminal, entry, temporary, stamp}
+use Rattle.theory_reading.specs.Nodes.{terminal, entry, temporary, Node, stamp}
 use Rattle.theory_reading.specs.Limits.{option_limit, table_limit}
 use Rattle.theory_writing.specs.UniqueTable.{State}
 use Rattle.theory_writing.specs.Texts.{tilde_if}
@@ -21,12 +21,12 @@ use Rattle.theory_engine.specs.Engine.{Half, Progress, Walked, constant_half, nu
 use Rattle.theory_engine.specs.Leading.{skipped_by, Came, Stands, Leads}
 use Rattle.theory_engine.specs.Again.{still-leads, online-means, repeat-leads}
 use Rattle.theory_engine.specs.Walking.{online-stamp, Ready, part_in, push-ready, second-ready, halves-lead, constant-leads, block-leads}
-use Rattle.theory_applying.specs.Applying.{Table, Source, first_sources, second_sources, start_values, first_values, all_alike, fixed}
+use Rattle.theory_applying.specs.Applying.{Source, first_sources, second_sources, first_values, all_pass, fixed}
 use Rattle.theory_applying.specs.ApplyLaws.{ShowsAll, decisions_from, all_first, all-second, pass-alike, differ_same, all-fixed, Makes}
-use Rattle.theory_applying.specs.ApplyLaws.{pass-all-alike, first-correct, word-correct, second-correct}
+use Rattle.theory_applying.specs.ApplyLaws.{first-correct, second-correct}
 use Rattle.theory_applying.specs.Memo.{entry_for, look_up_in, told_half, remember_in}
 use Rattle.theory_applying.specs.Sitting.{SitsAll, tables_of, all-sit-first, all-sit-second, tables-first, tables-second}
-use Rattle.theory_applying.specs.MemoLaws.{is-constant, Coherent, Memory, memory-step}
+use Rattle.theory_applying.specs.MemoLaws.{is-constant, Memory, memory-step}
 use Rattle.theory_applying.specs.Noting.{online-step, online-met, came-kept, memory-note, part-noted, told-leads}
 use Rattle.theory_applying.specs.Recalling.{Recalled, unnoted, alike_part, noted_in, recall_in}
 use Rattle.node_records.specs.declared.WriterRecord.{WriterRecord}
@@ -94,23 +94,23 @@ alike-leads n size d i at mid m o T p q w f t out progress s h sound normal real
 
 -- ---- What a part leads to --------------------------------------------------------------------
 
--- The part of level i, for which the walk of Online knows x, leads to r, and the memo is true then
-pub record Recalls (n : ℕ) (op : List Bool → Bool) (size i m : ℕ) (o T p w : List ℕ) (Known : List Table → Type 0) (r : Recalled) (x : Went)
+-- The part of level i, for which the walk of Online knows x, leads to r, and the memo is true then; ts: the inputs' tables
+pub record Recalls (n : ℕ) (op : List Bool → Bool) (size i m : ℕ) (o T p w : List ℕ) (ts : List (List Node)) (r : Recalled) (x : Went)
     : Type 0 where
   pub leads : Leads n size i m o T p w r.walked x
-  pub memory : r.walked.progress.full ≡ false → Memory n op Known x.state r.memo
+  pub memory : r.walked.progress.full ≡ false → Memory n op ts x.state r.memo
 
 -- with d options left
-abbrev RecallsAll : (List Table → Type 0) → (List ℕ → ℕ) → (List Bool → Bool) → ℕ → ℕ → ℕ → ℕ → List ℕ → Type 0
-RecallsAll Known hash op n size d i o =
+abbrev RecallsAll : (List ℕ → ℕ) → (List Bool → Bool) → ℕ → ℕ → ℕ → ℕ → List ℕ → Type 0
+RecallsAll hash op n size d i o =
     (at m : ℕ) (T p w : List ℕ) (xs : List Source) (gs : List (ℕ → Bool)) (f : ℕ → Bool) (μ : List (List ℕ)) (t : List WriterRecord)
     (out : List ℕ) (progress : Progress) (s : State) → Stands n size o T t out progress s → take m w ≡ p → m + level_room * d + end_room ≤ length w
     → ((k : ℕ) → stamp s.table k + 2 ^ d ≤ 4294967296) → SitsAll i xs → ShowsAll xs d i gs → Makes op d at gs f
-    → Known (tables_of xs) → Memory n op Known s μ
-    → Recalls n op size i m o T p w Known (recall_in hash op size d i m xs μ t out w progress) (online size d i at p f s)
+    → Memory n op (tables_of xs) s μ
+    → Recalls n op size i m o T p w (tables_of xs) (recall_in hash op size d i m xs μ t out w progress) (online size d i at p f s)
 
 -- the halves met only if not more was sent before than the output holds
-pub second-goes : (size i m : ℕ) (v : Bool) (a : Half) (b : Walked) → (second_in size i m v a b).progress.full ≡ false → b.progress.full ≡ false
+second-goes : (size i m : ℕ) (v : Bool) (a : Half) (b : Walked) → (second_in size i m v a b).progress.full ≡ false → b.progress.full ≡ false
 second-goes size i m v a b e = go b.progress.full refl e
   where
     go : (u : Bool) → b.progress.full ≡ u
@@ -121,12 +121,12 @@ second-goes size i m v a b e = go b.progress.full refl e
 
 -- ---- From the halves to the part -------------------------------------------------------------
 
-module _ (Known : List Table → Type 0) (coherent : Coherent Known) (hash : List ℕ → ℕ) (op : List Bool → Bool) (n size d i : ℕ) (o : List ℕ) (real : 0 < i) (deep : i + suc d ≡ suc n)
-    (small : n ≤ option_limit) (few : size ≤ table_limit) (half : RecallsAll Known hash op n size d (suc i) o) (at m : ℕ) (T p w : List ℕ)
+module _ (hash : List ℕ → ℕ) (op : List Bool → Bool) (n size d i : ℕ) (o : List ℕ) (real : 0 < i) (deep : i + suc d ≡ suc n)
+    (small : n ≤ option_limit) (few : size ≤ table_limit) (half : RecallsAll hash op n size d (suc i) o) (at m : ℕ) (T p w : List ℕ)
     (xs : List Source) (gs : List (ℕ → Bool)) (f : ℕ → Bool) (μ : List (List ℕ)) (t : List WriterRecord) (out : List ℕ) (progress : Progress)
     (s : State) (st : Stands n size o T t out progress s) (here : take m w ≡ p) (room : m + level_room * suc d + end_room ≤ length w)
     (young : (k : ℕ) → stamp s.table k + 2 ^ suc d ≤ 4294967296) (sit : SitsAll i xs) (sh : ShowsAll xs (suc d) i gs)
-    (mk : Makes op (suc d) at gs f) (known : Known (tables_of xs)) (mem : Memory n op Known s μ) where
+    (mk : Makes op (suc d) at gs f) (mem : Memory n op (tables_of xs) s μ) where
   -- the next level
   next : i + 1 ≡ suc i
   next = omega arith
@@ -161,17 +161,21 @@ module _ (Known : List Table → Type 0) (coherent : Coherent Known) (hash : Lis
   abbrev x : Went
   x = online size d (suc i) at p₁ f s
 
-  first : Recalls n op size (suc i) opened.count o T p₁ opened.bytes Known a x
+  abbrev ts : List (List Node)
+  ts = tables_of xs
+
+  first : Recalls n op size (suc i) opened.count o T p₁ opened.bytes ts a x
   first =
-      subst⁻¹ (λ (j : ℕ). SitsAll j ys → ShowsAll ys d j gs → Recalls n op size (suc i) opened.count o T p₁ opened.bytes
-      Known (recall_in hash op size d j opened.count ys μ t out opened.bytes progress) x) next
+      subst (λ (ts : List (List Node)). Recalls n op size (suc i) opened.count o T p₁ opened.bytes ts a x) (tables-first i xs)
+      (subst⁻¹ (λ (j : ℕ). SitsAll j ys → ShowsAll ys d j gs → Recalls n op size (suc i) opened.count o T p₁ opened.bytes
+      (tables_of ys) (recall_in hash op size d j opened.count ys μ t out opened.bytes progress) x) next
       (λ k h. half at opened.count T p₁ opened.bytes ys gs f μ t out progress s st ready.text
       (omega (arith, ready.count, ready.room, room)) (λ k. omega (arith, young k)) k h (λ w l. mk w (omega (arith, l)))
-      (subst⁻¹ Known (tables-first i xs) known) mem) (all-sit-first i xs real sit) shown₁
+      (subst⁻¹ (λ (ts : List (List Node)). Memory n op ts s μ) (tables-first i xs) mem)) (all-sit-first i xs real sit) shown₁)
 
   -- the edge between the halves
   abbrev complement : Bool
-  complement = differ a.walked.half.complement (op (start_values (i + 1) zs))
+  complement = differ a.walked.half.complement (op (first_values zs))
 
   abbrev turn : Bool
   turn = differ x.complement (f (at + 2 ^ d))
@@ -194,14 +198,14 @@ module _ (Known : List Table → Type 0) (coherent : Coherent Known) (hash : Lis
   -- or what the first came to
   abbrev rep : Bool → Recalled
   rep u =
-      unnoted (kept (number_half a.walked.half.number a.walked.half.stamp a.walked.half.skipped (op (start_values (i + 1) zs)) false)
+      unnoted (kept (number_half a.walked.half.number a.walked.half.stamp a.walked.half.skipped (op (first_values zs)) false)
       a.walked.table a.walked.output (mid u).bytes a.walked.progress) a.memo
 
   abbrev latter : Recalled
   latter = cond (alike_part i xs a.walked.half) (rep complement) (b complement (i + 1))
 
   abbrev Second : Bool → Recalled → Type 0
-  Second u r = Recalls n op size (suc i) (mid u).count o (T ++ x.sent) p₂ (mid u).bytes Known r y
+  Second u r = Recalls n op size (suc i) (mid u).count o (T ++ x.sent) p₂ (mid u).bytes ts r y
 
   long : m + level_room + end_room ≤ length w
   long = omega (arith, room)
@@ -211,7 +215,7 @@ module _ (Known : List Table → Type 0) (coherent : Coherent Known) (hash : Lis
   made₂ = second-correct op d at gs f mk
 
   -- what it begins with, and what the first does
-  begins₂ : f (at + 2 ^ d) ≡ op (start_values (i + 1) zs)
+  begins₂ : f (at + 2 ^ d) ≡ op (first_values zs)
   begins₂ = first-correct op d (i + 1) (at + 2 ^ d) zs (decisions_from (2 ^ d) gs) f shown₂ made₂
 
   begins₁ : x.complement ≡ f at
@@ -232,8 +236,10 @@ module _ (Known : List Table → Type 0) (coherent : Coherent Known) (hash : Lis
     -- the second half is walked
     walked : Second turn (b turn (i + 1))
     walked =
-        subst⁻¹ (λ (j : ℕ). SitsAll j zs → ShowsAll zs d j (decisions_from (2 ^ d) gs)
-        → Recalls n op size (suc i) (mid turn).count o (T ++ x.sent) p₂ (mid turn).bytes Known (b turn j) y) next
+        subst (λ (ts : List (List Node)). Recalls n op size (suc i) (mid turn).count o (T ++ x.sent) p₂ (mid turn).bytes ts
+        (b turn (i + 1)) y) (tables-second i xs)
+        (subst⁻¹ (λ (j : ℕ). SitsAll j zs → ShowsAll zs d j (decisions_from (2 ^ d) gs)
+        → Recalls n op size (suc i) (mid turn).count o (T ++ x.sent) p₂ (mid turn).bytes (tables_of zs) (b turn j) y) next
         (λ k h. half (at + 2 ^ d) (mid turn).count (T ++ x.sent) p₂ (mid turn).bytes zs (decisions_from (2 ^ d) gs) f a.memo
         a.walked.table a.walked.output a.walked.progress x.state (first.leads.after g).stands before.text
         (omega (arith, before.count, before.room, room))
@@ -241,14 +247,14 @@ module _ (Known : List Table → Type 0) (coherent : Coherent Known) (hash : Lis
           arith,
           young j,
           online-stamp n size d (suc i) at p₁ f s st.sound st.normal (omega arith) (omega (arith, deep)) j,
-        )) k h made₂ (subst⁻¹ Known (tables-second i xs) known) (first.memory g))
-        (all-sit-second i xs real sit) shown₂
+        )) k h made₂ (subst⁻¹ (λ (ts : List (List Node)). Memory n op ts x.state a.memo) (tables-second i xs) (first.memory g)))
+        (all-sit-second i xs real sit) shown₂)
 
     -- it is like the first
     repeated : alike_part i xs a.walked.half ≡ true → Second turn (rep turn)
     repeated e =
         let h = a.walked.half in
-        let alike = pass-alike op d i at xs gs f (and_r (not h.temporary) (all_alike i xs) e) sh mk in
+        let alike = pass-alike op d i at xs gs f (and_r (not h.temporary) (all_pass i xs) e) sh mk in
         let z : at + 2 ^ d + 0 ≡ at + 2 ^ d = omega arith in
         let v : at + 0 ≡ at = omega arith in
         let stands = (first.leads.after g).stands in
@@ -259,9 +265,9 @@ module _ (Known : List Table → Type 0) (coherent : Coherent Known) (hash : Lis
               a.walked.progress) y) begins₂
               (alike-leads n size d (suc i) at (at + 2 ^ d) (mid turn).count o (T ++ x.sent) p₁ p₂ (mid turn).bytes f
               a.walked.table a.walked.output a.walked.progress s h st.sound st.normal (omega arith) (omega (arith, deep))
-              (first.leads.after g).came (not-true h.temporary (and_l (not h.temporary) (all_alike i xs) e))
+              (first.leads.after g).came (not-true h.temporary (and_l (not h.temporary) (all_pass i xs) e))
               (begins₁ ∙ ap f (sym v) ∙ sym (alike 0 (pow_pos d)) ∙ ap f z) alike stands before.text);
-          memory = λ u. memory-step n op Known (suc i) x.state y.state a.memo
+          memory = λ u. memory-step n op ts (suc i) x.state y.state a.memo
               (online-step n size d (suc i) (at + 2 ^ d) f x.state stands.sound stands.normal (omega arith) p₂
               (omega (arith, deep))) (first.memory g);
         }
@@ -288,26 +294,26 @@ module _ (Known : List Table → Type 0) (coherent : Coherent Known) (hash : Lis
       complement first.leads same (λ g. (second g).leads)
 
   -- the memo is true when they met,
-  met-memory : a.walked.progress.full ≡ false → joint.progress.full ≡ false → Memory n op Known whole.state latter.memo
+  met-memory : a.walked.progress.full ≡ false → joint.progress.full ≡ false → Memory n op ts whole.state latter.memo
   met-memory g h =
-      memory-step n op Known i y.state whole.state latter.memo
+      memory-step n op ts i y.state whole.state latter.memo
       (online-met n size d i at f s st.sound st.normal real p₁ p₂ p deep)
       ((second g).memory (second-goes size i (mid complement).count complement a.walked.half latter.walked h))
 
   -- and when the part is noted
   noted-memory : a.walked.progress.full ≡ false → Leads n size i m o T p w joint whole → joint.progress.full ≡ false → (u v : Bool)
-      → joint.progress.full ≡ u → all_alike i xs ≡ v → Memory n op Known whole.state
+      → joint.progress.full ≡ u → all_pass i xs ≡ v → Memory n op ts whole.state
       (cond (u || v) latter.memo (remember_in hash latter.memo xs joint.half))
   noted-memory g l h true v e k = met-memory g h
   noted-memory g l h false true e k = met-memory g h
   noted-memory g l h false false e k =
-      memory-note hash n op Known coherent whole.state latter.memo xs joint.half known
-      (part-noted n op size (suc d) i at p xs gs f s joint.half st.sound st.normal real deep sit sh mk (pass-all-alike i xs k) (l.after h).came)
+      memory-note hash n op whole.state latter.memo xs joint.half
+      (part-noted n op size (suc d) i at p xs gs f s joint.half st.sound st.normal real deep sit sh mk k (l.after h).came)
       (met-memory g h)
 
   -- by the halves
   by-halves : (u : Bool) → a.walked.progress.full ≡ u
-      → Recalls n op size i m o T p w Known (cond u a (noted_in hash i xs joint latter.memo)) whole
+      → Recalls n op size i m o T p w ts (cond u a (noted_in hash i xs joint latter.memo)) whole
   by-halves true e =
       record {
         leads = subst (λ (u : Bool). Leads n size i m o T p w (cond u a.walked joint) whole) e both;
@@ -315,21 +321,21 @@ module _ (Known : List Table → Type 0) (coherent : Coherent Known) (hash : Lis
       }
   by-halves false e =
       let l = subst (λ (u : Bool). Leads n size i m o T p w (cond u a.walked joint) whole) e both in
-      record { leads = l; memory = λ h. noted-memory e l h joint.progress.full (all_alike i xs) refl refl }
+      record { leads = l; memory = λ h. noted-memory e l h joint.progress.full (all_pass i xs) refl refl }
 
   -- nothing is noted
-  still-memory : Memory n op Known whole.state μ
+  still-memory : Memory n op ts whole.state μ
   still-memory =
-      memory-step n op Known i s whole.state μ (online-step n size (suc d) i at f s st.sound st.normal real p deep) mem
+      memory-step n op ts i s whole.state μ (online-step n size (suc d) i at f s st.sound st.normal real p deep) mem
 
   -- the memo tells it, or not
   by-memo : (u : Bool) → look_up_in hash μ xs t ≡ u
-      → Recalls n op size i m o T p w Known (cond u (unnoted (kept (told_half (entry_for hash μ xs) i t) t out w progress) μ)
+      → Recalls n op size i m o T p w ts (cond u (unnoted (kept (told_half (entry_for hash μ xs) i t) t out w progress) μ)
       (cond a.walked.progress.full a (noted_in hash i xs joint latter.memo))) whole
   by-memo true e =
       record {
         leads =
-            told-leads n op Known size (suc d) i at m o T p w xs gs f t out progress s (entry_for hash μ xs) real deep st here sit sh mk known
+            told-leads n op size (suc d) i at m o T p w xs gs f t out progress s (entry_for hash μ xs) real deep st here sit sh mk
             (mem (hash _)) e;
         memory = λ h. still-memory;
       }
@@ -337,7 +343,7 @@ module _ (Known : List Table → Type 0) (coherent : Coherent Known) (hash : Lis
 
   -- op is fixed, or not
   by-constants : (u : Bool) → fixed op xs ≡ u
-      → Recalls n op size i m o T p w Known (cond u (unnoted (kept (constant_half (op (first_values xs))) t out w progress) μ)
+      → Recalls n op size i m o T p w ts (cond u (unnoted (kept (constant_half (op (first_values xs))) t out w progress) μ)
       (cond (look_up_in hash μ xs t) (unnoted (kept (told_half (entry_for hash μ xs) i t) t out w progress) μ)
       (cond a.walked.progress.full a (noted_in hash i xs joint latter.memo)))) whole
   by-constants true e =
@@ -352,32 +358,32 @@ module _ (Known : List Table → Type 0) (coherent : Coherent Known) (hash : Lis
       }
   by-constants false e = by-memo (look_up_in hash μ xs t) refl
 
-  part-recalls : Recalls n op size i m o T p w Known (recall_in hash op size (suc d) i m xs μ t out w progress) whole
+  part-recalls : Recalls n op size i m o T p w ts (recall_in hash op size (suc d) i m xs μ t out w progress) whole
   unfolding recall_in
   part-recalls = by-constants (fixed op xs) refl
 
 -- ---- Each part -------------------------------------------------------------------------------
 
-recalls : (Known : List Table → Type 0) → Coherent Known → (hash : List ℕ → ℕ) (op : List Bool → Bool) (n size d i : ℕ) (o : List ℕ) → 0 < i → i + d ≡ suc n → n ≤ option_limit
-    → size ≤ table_limit → RecallsAll Known hash op n size d i o
+recalls : (hash : List ℕ → ℕ) (op : List Bool → Bool) (n size d i : ℕ) (o : List ℕ) → 0 < i → i + d ≡ suc n → n ≤ option_limit
+    → size ≤ table_limit → RecallsAll hash op n size d i o
 unfolding recall_in online
-recalls Known coherent hash op n size zero i o real deep small few = λ at m T p w xs gs f μ t out progress s st here room young sit sh mk known mem. record {
+recalls hash op n size zero i o real deep small few = λ at m T p w xs gs f μ t out progress s st here room young sit sh mk mem. record {
   leads =
       subst (λ (c : Bool). Leads n size i m o T p w (kept (constant_half c) t out w progress) (online size 0 i at p f s))
-      (word-correct op i at xs gs f sh mk) (constant-leads n size i m o T p w t out progress s (f at) st here);
+      (first-correct op 0 i at xs gs f sh mk) (constant-leads n size i m o T p w t out progress s (f at) st here);
   memory = λ h. mem;
 }
-recalls Known coherent hash op n size (suc d) i o real deep small few =
-    let half = recalls Known coherent hash op n size d (suc i) o (omega arith) (omega arith) small few in
-    λ at m T p w xs gs f μ t out progress s st here room young sit sh mk known mem.
-    part-recalls Known coherent hash op n size d i o real deep small few half at m T p w xs gs f μ t out progress s st here room young sit sh mk known mem
+recalls hash op n size (suc d) i o real deep small few =
+    let half = recalls hash op n size d (suc i) o (omega arith) (omega arith) small few in
+    λ at m T p w xs gs f μ t out progress s st here room young sit sh mk mem.
+    part-recalls hash op n size d i o real deep small few half at m T p w xs gs f μ t out progress s st here room young sit sh mk mem
 
 -- the walk over stored nodes leads to what the walk of Online knows, and its memo stays true
-pub recall-leads : (Known : List Table → Type 0) → Coherent Known → (hash : List ℕ → ℕ) (op : List Bool → Bool) (n size d i at m : ℕ) (o T p w : List ℕ) (xs : List Source)
+pub recall-leads : (hash : List ℕ → ℕ) (op : List Bool → Bool) (n size d i at m : ℕ) (o T p w : List ℕ) (xs : List Source)
     (gs : List (ℕ → Bool)) (f : ℕ → Bool) (μ : List (List ℕ)) (t : List WriterRecord) (out : List ℕ) (progress : Progress) (s : State)
     → 0 < i → i + d ≡ suc n → n ≤ option_limit → size ≤ table_limit → Stands n size o T t out progress s → take m w ≡ p
     → m + level_room * d + end_room ≤ length w → ((k : ℕ) → stamp s.table k + 2 ^ d ≤ 4294967296) → SitsAll i xs → ShowsAll xs d i gs
-    → Makes op d at gs f → Known (tables_of xs) → Memory n op Known s μ
-    → Recalls n op size i m o T p w Known (recall_in hash op size d i m xs μ t out w progress) (online size d i at p f s)
-recall-leads Known coherent hash op n size d i at m o T p w xs gs f μ t out progress s real deep small few =
-    recalls Known coherent hash op n size d i o real deep small few at m T p w xs gs f μ t out progress s
+    → Makes op d at gs f → Memory n op (tables_of xs) s μ
+    → Recalls n op size i m o T p w (tables_of xs) (recall_in hash op size d i m xs μ t out w progress) (online size d i at p f s)
+recall-leads hash op n size d i at m o T p w xs gs f μ t out progress s real deep small few =
+    recalls hash op n size d i o real deep small few at m T p w xs gs f μ t out progress s

@@ -1,22 +1,21 @@
--- Inputs at edges of ordered tables: an edge lies no higher than the part at which an input stands. And what an edge shows is the same in all
--- tables of one reading in which its number has one stamp. Assumes nothing.
-use Rattle.std.specs.Prelude.{◌≡◌, refl, ◌⊎◌, Bool, true, false, cond, ◌&&◌, ◌||◌, List, [], ◌∷◌, ℕ, suc, ◌+◌, ◌≤◌, ◌<◌, eqb, ltb}
-use Rattle.std.proofs.Common.{sym, ap, ap₂, ◌∙◌, inl, inr, true≢false, arith, eqb-true, ltb-true, ltb-false, lt-ltb}
+-- Inputs at edges of ordered tables: an edge lies no higher than the part at which an input stands. And what an edge shows lasts while
+-- its number keeps its stamp. Assumes nothing.
+use Rattle.std.specs.Prelude.{◌≡◌, refl, Bool, true, false, cond, ◌&&◌, ◌||◌, List, [], ◌∷◌, ℕ, suc, ◌+◌, ◌≤◌, ◌<◌, eqb, ltb}
+use Rattle.std.proofs.Common.{sym, ap, ap₂, ◌∙◌, true≢false, arith, eqb-true, ltb-true, ltb-false, lt-ltb}
 use Rattle.std.proofs.lemmas.Bool.{eqb-false}
-use Rattle.theory_lists.specs.Lists.{or_l, or_r, and-true}
+use Rattle.theory_lists.specs.Lists.{differ, or_l, or_r, and-true}
 use Rattle.theory_reading.specs.Nodes.{Node, node, stamp}
 use Rattle.theory_reading.specs.Deciding.{options, complemented}
-use Rattle.theory_reading.specs.TableWalk.{table_walk}
-use Rattle.theory_reading.specs.Lasting.{Lasts, Ordered, lasts-refl, is-first, is-second, table_walk-lasts}
-use Rattle.theory_applying.specs.Applying.{Table, Source, node_of, passes, picks, child_source, half_source, first_sources, second_sources, all_pass}
-use Rattle.theory_applying.specs.ApplyLaws.{Shows, fixed_options, half-table}
+use Rattle.theory_reading.specs.Lasting.{Lasts, Ordered, is-first, is-second, table_walk-lasts}
+use Rattle.theory_applying.specs.Applying.{Source, passes, first_source, second_source, first_sources, second_sources, all_pass}
+use Rattle.theory_applying.specs.ApplyLaws.{Shows}
 
 -- ---- Where an input sits ---------------------------------------------------------------------
 
 -- at the constant, or at a number of level i or deeper, in a table whose children lie deeper
 pub record Sits (i : ℕ) (x : Source) : Type 0 where
-  pub ordered : Ordered x.table.nodes
-  pub deep : 0 < x.number → i ≤ (node_of x).level
+  pub ordered : Ordered x.table
+  pub deep : 0 < x.number → i ≤ (node x.table x.number).level
 
 -- all inputs
 abbrev pub SitsAll : ℕ → List Source → Type 0
@@ -24,76 +23,124 @@ SitsAll i [] = Unit {0}
 SitsAll i (x ∷ xs) = Sits i x × SitsAll i xs
 
 -- their tables
-abbrev pub tables_of : List Source → List Table
+abbrev pub tables_of : List Source → List (List Node)
 tables_of [] = []
 tables_of (x ∷ xs) = x.table ∷ tables_of xs
 
 module _ (i : ℕ) (x : Source) (real : 0 < i) (h : Sits i x) where
   -- a level that it passes over lies above its number
-  pass-deep : passes i x ≡ true → 0 < x.number → i < (node_of x).level
+  pass-deep : passes i x ≡ true → 0 < x.number → i < (node x.table x.number).level
   pass-deep e r = go (eqb x.number 0) refl e
     where
-      go : (u : Bool) → eqb x.number 0 ≡ u → (u || ltb i (node_of x).level) ≡ true → i < (node_of x).level
+      go : (u : Bool) → eqb x.number 0 ≡ u → (u || ltb i (node x.table x.number).level) ≡ true
+          → i < (node x.table x.number).level
       go true z l = absurd (omega (arith, r, eqb-true x.number 0 z))
-      go false z l = ltb-true i (node_of x).level l
+      go false z l = ltb-true i (node x.table x.number).level l
 
   -- else its number is of that level
-  pass-level : passes i x ≡ false → (0 < x.number) × ((node_of x).level ≡ i)
+  pass-level : passes i x ≡ false → (0 < x.number) × ((node x.table x.number).level ≡ i)
   pass-level e =
       let z = eqb-false x.number 0 (or_l (eqb x.number 0) _ e) in
-      let l = ltb-false i (node_of x).level (or_r (eqb x.number 0) _ e) in
+      let l = ltb-false i (node x.table x.number).level (or_r (eqb x.number 0) _ e) in
       let r : 0 < x.number = omega (arith, z) in
       (r, omega (arith, l, h.deep r))
 
-  -- its children lie deeper
-  sits-child : (o : Bool) → passes i x ≡ false → Sits (i + 1) (child_source o x)
-  sits-child true e =
-      let l = pass-level e in
-      record {
-        ordered = h.ordered;
-        deep = λ r. omega (arith, l.1, h.ordered x.number (node_of x).second (omega (arith, l.1, real)) (is-second (node_of x)) r);
-      }
-  sits-child false e =
-      let l = pass-level e in
-      record {
-        ordered = h.ordered;
-        deep = λ r. omega (arith, l.1, h.ordered x.number (node_of x).first (omega (arith, l.1, real)) (is-first (node_of x)) r);
-      }
-
   -- it sits at its halves
-  pub sits-half : (o : Bool) → Sits (i + 1) (half_source o i x)
-  sits-half o = go (passes i x) refl
+  pub sits-first : Sits (i + 1) (first_source i x)
+  sits-first = go (passes i x) refl
     where
-      go : (u : Bool) → passes i x ≡ u → Sits (i + 1) (cond u x (child_source (picks x.table i o) x))
+      y : Source
+      y = record { table = x.table; number = (node x.table x.number).first; complement = x.complement }
+
+      go : (u : Bool) → passes i x ≡ u → Sits (i + 1) (cond u x y)
       go true e = record { ordered = h.ordered; deep = λ r. omega (arith, pass-deep e r) }
-      go false e = sits-child (picks x.table i o) e
+      go false e =
+          let l = pass-level e in
+          record {
+            ordered = h.ordered;
+            deep = λ r. omega (
+              arith,
+              l.1,
+              h.ordered x.number y.number (omega (arith, l.1, real)) (is-first (node x.table x.number)) r,
+            );
+          }
+
+  pub sits-second : Sits (i + 1) (second_source i x)
+  sits-second = go (passes i x) refl
+    where
+      y : Source
+      y =
+          record {
+            table = x.table;
+            number = (node x.table x.number).second;
+            complement = differ (node x.table x.number).complement x.complement;
+          }
+
+      go : (u : Bool) → passes i x ≡ u → Sits (i + 1) (cond u x y)
+      go true e = record { ordered = h.ordered; deep = λ r. omega (arith, pass-deep e r) }
+      go false e =
+          let l = pass-level e in
+          record {
+            ordered = h.ordered;
+            deep = λ r. omega (
+              arith,
+              l.1,
+              h.ordered x.number y.number (omega (arith, l.1, real)) (is-second (node x.table x.number)) r,
+            );
+          }
+
+-- its table stays
+table-first : (i : ℕ) (x : Source) → (first_source i x).table ≡ x.table
+table-first i x = go (passes i x)
+  where
+    y : Source
+    y = record { table = x.table; number = (node x.table x.number).first; complement = x.complement }
+
+    go : (u : Bool) → (cond u x y).table ≡ x.table
+    go true = refl
+    go false = refl
+
+table-second : (i : ℕ) (x : Source) → (second_source i x).table ≡ x.table
+table-second i x = go (passes i x)
+  where
+    y : Source
+    y =
+        record {
+          table = x.table;
+          number = (node x.table x.number).second;
+          complement = differ (node x.table x.number).complement x.complement;
+        }
+
+    go : (u : Bool) → (cond u x y).table ≡ x.table
+    go true = refl
+    go false = refl
 
 -- ---- All inputs ------------------------------------------------------------------------------
 
 pub all-sit-first : (i : ℕ) (xs : List Source) → 0 < i → SitsAll i xs → SitsAll (i + 1) (first_sources i xs)
 all-sit-first i [] r h = tt
-all-sit-first i (x ∷ xs) r h = (sits-half i x r h.0 false, all-sit-first i xs r h.1)
+all-sit-first i (x ∷ xs) r h = (sits-first i x r h.0, all-sit-first i xs r h.1)
 
 pub all-sit-second : (i : ℕ) (xs : List Source) → 0 < i → SitsAll i xs → SitsAll (i + 1) (second_sources i xs)
 all-sit-second i [] r h = tt
-all-sit-second i (x ∷ xs) r h = (sits-half i x r h.0 true, all-sit-second i xs r h.1)
+all-sit-second i (x ∷ xs) r h = (sits-second i x r h.0, all-sit-second i xs r h.1)
 
 pub tables-first : (i : ℕ) (xs : List Source) → tables_of (first_sources i xs) ≡ tables_of xs
 tables-first i [] = refl
-tables-first i (x ∷ xs) = ap₂ ◌∷◌ (half-table i x false) (tables-first i xs)
+tables-first i (x ∷ xs) = ap₂ ◌∷◌ (table-first i x) (tables-first i xs)
 
 pub tables-second : (i : ℕ) (xs : List Source) → tables_of (second_sources i xs) ≡ tables_of xs
 tables-second i [] = refl
-tables-second i (x ∷ xs) = ap₂ ◌∷◌ (half-table i x true) (tables-second i xs)
+tables-second i (x ∷ xs) = ap₂ ◌∷◌ (table-second i x) (tables-second i xs)
 
 -- inputs that sit deeper pass over the level
 sits-pass : (i : ℕ) (x : Source) → Sits (suc i) x → passes i x ≡ true
 sits-pass i x h = go (eqb x.number 0) refl
   where
-    go : (u : Bool) → eqb x.number 0 ≡ u → (u || ltb i (node_of x).level) ≡ true
+    go : (u : Bool) → eqb x.number 0 ≡ u → (u || ltb i (node x.table x.number).level) ≡ true
     go true e = refl
     go false e =
-        let z = eqb-false x.number 0 e in lt-ltb i (node_of x).level (h.deep (omega (arith, z)))
+        let z = eqb-false x.number 0 e in lt-ltb i (node x.table x.number).level (h.deep (omega (arith, z)))
 
 pub all-pass-deep : (i : ℕ) (xs : List Source) → SitsAll (suc i) xs → all_pass i xs ≡ true
 all-pass-deep i [] h = refl
@@ -114,71 +161,39 @@ not-deeper i j (x ∷ xs) e h = go (passes j x) refl e (λ d. not-deeper i j xs 
     go true p f rest = rest f
     go false p f rest =
         let z = eqb-false x.number 0 (or_l (eqb x.number 0) _ p) in
-        let l = ltb-false j (node_of x).level (or_r (eqb x.number 0) _ p) in
+        let l = ltb-false j (node x.table x.number).level (or_r (eqb x.number 0) _ p) in
         omega (arith, l, h.0.deep (omega (arith, z)))
 
 -- ---- Tables that are read on -----------------------------------------------------------------
 
--- a table goes on: its nodes last, and the same option is fixed
-pub record Continues (t u : Table) : Type 0 where
-  pub lasts : Lasts t.nodes u.nodes
-  pub level : u.level ≡ t.level
-  pub value : u.value ≡ t.value
+-- the tables of the inputs last
+abbrev pub AllLast : List (List Node) → List (List Node) → Type 0
+AllLast [] [] = Unit {0}
+AllLast [] (u ∷ us) = ⊥
+AllLast (t ∷ ts) [] = ⊥
+AllLast (t ∷ ts) (u ∷ us) = Lasts t u × AllLast ts us
 
-pub continues-refl : (t : Table) → Continues t t
-continues-refl t = record { lasts = lasts-refl t.nodes; level = refl; value = refl }
+-- the edge in another table
+abbrev pub in_table : List Node → Source → Source
+in_table t x = record { table = t; number = x.number; complement = x.complement }
 
--- the options are fixed as they were
-continues-options : (t u : Table) → Continues t u → (i : ℕ) (os : List Bool) → fixed_options u i os ≡ fixed_options t i os
-unfolding fixed_options
-continues-options t u l i [] = refl
-continues-options t u l i (o ∷ os) =
-    ap₂ ◌∷◌ (ap₂ (λ (k : ℕ) (v : Bool). cond (eqb i k) v o) l.level l.value) (continues-options t u l (i + 1) os)
+-- all of them, as many
+abbrev pub in_tables : List (List Node) → List Source → List Source
+in_tables [] xs = []
+in_tables (t ∷ ts) [] = []
+in_tables (t ∷ ts) (x ∷ xs) = in_table t x ∷ in_tables ts xs
 
--- TABLES OF ONE READING: both are ordered, and one goes on as the other
-pub record Akin (t u : Table) : Type 0 where
-  pub goes : Continues t u ⊎ Continues u t
-  pub ordered : Ordered t.nodes
-  pub also : Ordered u.nodes
+-- an edge whose number kept its stamp since the table t showed what it shows,
+pub shows-since : (t : List Node) (x : Source) (m i : ℕ) (g : ℕ → Bool) → Lasts t x.table
+    → (0 < x.number → stamp x.table x.number ≡ stamp t x.number) → Shows x m i g → Shows (in_table t x) m i g
+shows-since t x m i g l e h w b =
+    sym (ap (complemented x.complement) (table_walk-lasts t x.table l i x.number (options m w) e)) ∙ h w b
 
-pub akin-refl : (t : Table) → Ordered t.nodes → Akin t t
-akin-refl t o = record { goes = inl (continues-refl t); ordered = o; also = o }
-
--- a number with one stamp in both is one node
-module _ (t u : Table) (k : ℕ) (e : 0 < k → stamp t.nodes k ≡ stamp u.nodes k) where
-  akin-walk : Continues t u ⊎ Continues u t → (i : ℕ) (os : List Bool)
-      → table_walk t.nodes i k (fixed_options t i os) ≡ table_walk u.nodes i k (fixed_options u i os)
-  akin-walk (inl l) i os =
-      sym (table_walk-lasts t.nodes u.nodes l.lasts i k (fixed_options t i os) (λ r. sym (e r)))
-      ∙ ap (table_walk u.nodes i k) (sym (continues-options t u l i os))
-  akin-walk (inr l) i os =
-      table_walk-lasts u.nodes t.nodes l.lasts i k (fixed_options t i os) e ∙ ap (table_walk u.nodes i k) (continues-options u t l i os)
-
-  akin-level : Continues t u ⊎ Continues u t → 0 < k → (node t.nodes k).level ≡ (node u.nodes k).level
-  akin-level (inl l) r = ap (λ (y : Node). y.level) (sym (l.lasts.same k (sym (e r))))
-  akin-level (inr l) r = ap (λ (y : Node). y.level) (l.lasts.same k (e r))
-
--- so an edge to it shows and sits in one as in the other
-module _ (x y : Source) (h : Akin x.table y.table) (n : x.number ≡ y.number) (c : x.complement ≡ y.complement)
-    (e : stamp x.table.nodes x.number ≡ stamp y.table.nodes y.number) where
-  now : 0 < y.number → stamp x.table.nodes y.number ≡ stamp y.table.nodes y.number
-  now r = ap (stamp x.table.nodes) (sym n) ∙ e
-
-  pub akin-shows : (m i : ℕ) (g : ℕ → Bool) → Shows y m i g → Shows x m i g
-  akin-shows m i g s w l =
-      ap₂ (λ (b : Bool) (k : ℕ). complemented b (table_walk x.table.nodes i k (fixed_options x.table i (options m w)))) c n
-      ∙ ap (complemented y.complement) (akin-walk x.table y.table y.number now h.goes i (options m w)) ∙ s w l
-
-  pub akin-sits : (i : ℕ) → Sits i y → Sits i x
-  akin-sits i s =
-      record {
-        ordered = h.ordered;
-        deep = λ r.
-            let q : 0 < y.number = omega (arith, r, n) in
-            omega (
-              arith,
-              s.deep q,
-              akin-level x.table y.table y.number now h.goes q,
-              ap (λ (k : ℕ). (node x.table.nodes k).level) n,
-            );
-      }
+-- and sat as deep, in a table that was ordered
+pub sits-since : (t : List Node) (x : Source) (i : ℕ) → Lasts t x.table
+    → (0 < x.number → stamp x.table x.number ≡ stamp t x.number) → Ordered t → Sits i x → Sits i (in_table t x)
+sits-since t x i l e o h =
+    record {
+      ordered = o;
+      deep = λ r. omega (arith, h.deep r, ap (λ (y : Node). y.level) (l.same x.number (e r)));
+    }

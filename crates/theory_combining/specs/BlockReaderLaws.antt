@@ -1,44 +1,40 @@
 -- A block reader reads its stream: at every block it shows what the stream decides on the block's words, and the next begins where it
 -- ends, until the stream decides no more. So the walk over texts may have streams as its block readers. Assumes nothing.
 use Rattle.std.specs.Prelude.{◌≡◌, refl, ◌⊎◌, Bool, true, false, cond, List, ℕ, ◌+◌, ◌-◌, ◌*◌, ◌<◌, ◌≤◌, ◌^◌, ltb, length}
-use Rattle.std.proofs.Common.{sym, ap, ap₂, ◌∙◌, subst, inl, inr, ⊎_elim, arith, lt-ltb, le-ltb}
+use Rattle.std.proofs.Common.{sym, ap, ◌∙◌, subst, inl, inr, ⊎_elim, arith, lt-ltb, le-ltb}
 use Rattle.std.proofs.Math.Path.{subst⁻¹}
 use Rattle.std.proofs.Math.Option.{none}
 use Rattle.theory_lists.specs.Lists.{decide-le}
 use Rattle.theory_reading.specs.Limits.{option_limit, table_limit}
-use Rattle.theory_reading.specs.Aligned.{Multiple}
-use Rattle.theory_reading.specs.Nodes.{Node, node}
-use Rattle.theory_reading.specs.Reading.{reading}
-use Rattle.theory_reading.specs.TableWalk.{table_walk}
-use Rattle.theory_reading.specs.Deciding.{Decision, decided, complemented, options, decision}
+use Rattle.theory_reading.specs.Reading.{is_start, reading}
+use Rattle.theory_reading.specs.Deciding.{Decision, decided, options, decision}
 use Rattle.theory_reading.specs.Covered.{covered, covered-decided, uncovered-undecided, covered-most}
-use Rattle.theory_reading.specs.Lasting.{Ordered}
+use Rattle.theory_reading.specs.Lasting.{Lasts, Ordered}
 use Rattle.theory_writing.specs.Run.{or_no}
 use Rattle.theory_writing.specs.Inputs.{May}
-use Rattle.theory_applying.specs.Applying.{plain_table}
-use Rattle.theory_applying.specs.ApplyLaws.{Shows, source_walk, plain-options}
+use Rattle.theory_applying.specs.ApplyLaws.{Shows, source_walk}
 use Rattle.theory_applying.specs.Sitting.{Sits}
 use Rattle.theory_applying.specs.OperandLaws.{ReaderLaws, Comes}
+use Rattle.elements.specs.Abstraction.{context_of}
 use Rattle.reader.specs.ReadOn.{first_cursor}
-use Rattle.work_table.specs.TableLaws.{table_of}
-use Rattle.blocks.specs.Blocks.{ReadBlock, block_of, Next, next_block}
-use Rattle.blocks.specs.BlockLaws.{StandsAt, first-stands, stands_read, stands-ordered, BlockReached, next-reached, block-from, block-ordered, block_last}
-use Rattle.blocks.specs.BlockLaws.{passed-covers, passed-nested, passed-aligned, passed-sits, passed-decides}
-use Rattle.reader.specs.Loop.{ReachedBy}
-use Rattle.reader.specs.OpenCells.{ReadReached, ReadCursor}
+use Rattle.blocks.specs.Blocks.{Next, next_block}
+use Rattle.blocks.specs.BlockLaws.{StandsAt, first-stands, stands_read, next-stands}
+use Rattle.blocks.specs.BlockLaws.{block-from, block-covers, block-deep, block-aligned, block-later, block-ordered, block-lasts, block-sits}
+use Rattle.blocks.specs.BlockLaws.{block-decides, block_last, end-lasts}
+use Rattle.reader.specs.OpenCells.{ReadCursor}
 use Rattle.theory_combining.specs.BlockReaders.{BlockReader, reader_at, deep_of, source_of, ended_of, next_reader, first_reader}
 use Rattle.node_records.specs.declared.NodeRecord.{NodeRecord}
 
 -- ---- Where a block reader stands ---------------------------------------------------------------------
 
--- τ has the stream `bytes`, and stands at a block of it that begins with word `at`: the loop that reads passed it, with some word as its stop
+-- τ has the stream `bytes`, and stands at a block of it that begins with word `at`
 pub record ReadsOf (n : ℕ) (bytes : List ℕ) (τ : BlockReader) (at : ℕ) : Type 0 where
-  pub stop : ℕ
-  pub reached : ReadReached
-  pub by : ReachedBy n bytes stop reached τ.table
-  pub block : τ.block ≡ block_of reached
-  pub goes_on_lem : reached.halted ≡ false
-  pub begins : reached.from ≡ at
+  pub cursor : ReadCursor
+  pub lent : List NodeRecord
+  pub stands : StandsAt n bytes cursor lent
+  pub called : record { block = τ.block; table = τ.table } ≡ next_block n bytes cursor lent
+  pub goes_on_lem : τ.block.halted ≡ false
+  pub begins : cursor.run.covered ≡ at
   pub stream : τ.stream ≡ bytes
 
 -- ---- The input -------------------------------------------------------------------------------
@@ -85,79 +81,73 @@ pub record Ends (n : ℕ) (τ : BlockReader) (e : ℕ) (x : ℕ → Bool) : Type
   pub input : x ≡ held_of n bytes
   pub over : τ.block.halted ≡ true
   pub all : covered n bytes ≤ e
-  pub ordered : Ordered (source_of τ).table.nodes
+  pub ordered : Ordered (source_of τ).table
 
 -- ---- The block -------------------------------------------------------------------------------
 
--- an edge of a table in which no option is fixed shows what the table decides
-pub plain_walk : (ns : List Node) (k : ℕ) (c : Bool) (i : ℕ) (os : List Bool) → 0 < i
-    → source_walk (record { table = plain_table ns; number = k; complement = c }) i os ≡ complemented c (table_walk ns i k os)
-plain_walk ns k c i os l = ap (λ (os : List Bool). complemented c (table_walk ns i k os)) (plain-options (plain_table ns) i os l)
-
 module _ (n : ℕ) (few : n ≤ option_limit) (bytes : List ℕ) (τ : BlockReader) (at : ℕ) (h : ReadsOf n bytes τ at) where
-  abbrev x : ReadReached
-  x = h.reached
+  -- the block begins with word `at`
+  of-from : τ.block.from ≡ at
+  of-from = block-from n bytes few h.cursor h.lent h.stands τ.block τ.table h.called h.goes_on ∙ h.begins
 
-  -- the text has not ended there
-  pub of-on : τ.block.halted ≡ false
-  of-on = ap (λ (b : ReadBlock). b.halted) h.block ∙ h.goes_on
-
-  deep-same : x.deep ≡ deep_of τ
-  deep-same = sym (ap (λ (b : ReadBlock). b.deep) h.block)
-
-  -- the block ends where the cursor after it stands
-  pub of-covers : τ.block.cursor.run.covered ≡ at + 2 ^ (n - deep_of τ)
+  -- and ends where the cursor after it stands
+  of-covers : τ.block.cursor.run.covered ≡ at + 2 ^ (n - deep_of τ)
   of-covers =
-      ap (λ (b : ReadBlock). b.cursor.run.covered) h.block ∙ passed-covers n bytes h.stop x τ.table h.by h.goes_on
-      ∙ ap₂ (λ (i d : ℕ). i + 2 ^ (n - d)) h.begins deep-same
+      block-covers n bytes few h.cursor h.lent h.stands τ.block τ.table h.called h.goes_on
+      ∙ ap (λ (k : ℕ). k + 2 ^ (n - deep_of τ)) of-from
 
-  pub of-next : StandsAt n bytes τ.block.cursor τ.table
-  of-next = subst⁻¹ (λ (b : ReadBlock). StandsAt n bytes b.cursor τ.table) h.block h.by.stands
+  of-next : StandsAt n bytes τ.block.cursor τ.table
+  of-next = next-stands n bytes few h.cursor h.lent h.stands τ.block τ.table h.called
 
-  pub of-deep : deep_of τ ≤ n
-  of-deep = subst (λ (d : ℕ). d ≤ n) deep-same (passed-nested n bytes h.stop x τ.table h.by h.goes_on)
+  of-deep : deep_of τ ≤ n
+  of-deep = block-deep n bytes few h.cursor h.lent h.stands τ.block τ.table h.called h.goes_on
 
-  pub of-aligned : (k : ℕ) × (at ≡ k * 2 ^ (n - deep_of τ))
+  of-aligned : (k : ℕ) × (at ≡ k * 2 ^ (n - deep_of τ))
   of-aligned =
-      subst (λ (i : ℕ). Multiple (n - deep_of τ) i) h.begins
-      (subst (λ (d : ℕ). Multiple (n - d) x.from) deep-same (passed-aligned n bytes h.stop x τ.table h.by h.goes_on))
+      let a = block-aligned n bytes few h.cursor h.lent h.stands τ.block τ.table h.called h.goes_on in
+      (a.0, sym of-from ∙ a.1)
 
   -- its words are covered
-  pub of-within : at + 2 ^ (n - deep_of τ) ≤ covered n bytes
+  of-within : at + 2 ^ (n - deep_of τ) ≤ covered n bytes
   of-within = omega (arith, of-covers, stands_read n bytes τ.block.cursor τ.table of-next)
 
   -- and it shows what the stream decides on them
-  pub of_shows : Shows (source_of τ) (n - deep_of τ) (deep_of τ + 1) (λ w. held_of n bytes (at + w))
+  of_shows : Shows (source_of τ) (n - deep_of τ) (deep_of τ + 1) (λ w. held_of n bytes (at + w))
   of_shows w l =
-      let e : at + w - x.from ≡ w = omega (arith, h.begins) in
-      let z : x.run.covered ≡ at + 2 ^ (n - deep_of τ) = sym (ap (λ (b : ReadBlock). b.cursor.run.covered) h.block) ∙ of-covers in
-      let d = passed-decides n bytes h.stop x τ.table h.by h.goes_on (at + w) (omega (arith, h.begins)) (omega (arith, z, l)) in
-      plain_walk (table_of τ.table τ.block.cursor.run.size) τ.block.number τ.block.complement (deep_of τ + 1) (options (n - deep_of τ) w)
-      (omega arith)
-      ∙ sym (subst (λ (j : ℕ). decision n bytes (at + w) ≡ shown j) e
-      (subst⁻¹ (λ (b : ReadBlock). decision n bytes (at + w) ≡ complemented b.complement (table_walk (table_of τ.table b.cursor.run.size)
-      (b.deep + 1) b.number (options (n - b.deep) (at + w - x.from)))) h.block d))
+      let e : at + w - τ.block.from ≡ w = omega (arith, of-from) in
+      let d = block-decides n bytes few h.cursor h.lent h.stands τ.block τ.table h.called h.goes_on (at + w)
+      (omega (arith, of-from)) (omega (arith, of-covers, l)) in
+      sym (subst (λ (j : ℕ). decision n bytes (at + w) ≡ source_walk (source_of τ) (deep_of τ + 1) (options (n - deep_of τ) j)) e d)
       ∙ held-decides n bytes (at + w) (omega (arith, of-within, l))
-    where
-      shown : ℕ → Decision
-      shown j =
-          complemented τ.block.complement (table_walk (table_of τ.table τ.block.cursor.run.size) (deep_of τ + 1) τ.block.number
-          (options (n - deep_of τ) j))
 
   -- its edge sits at its level, in an ordered table
-  pub of-ordered : Ordered (source_of τ).table.nodes
-  of-ordered = stands-ordered n bytes τ.block.cursor.run τ.block.cursor.opens τ.table of-next
-
-  pub of-sits : Sits (deep_of τ + 1) (source_of τ)
+  of-sits : Sits (deep_of τ + 1) (source_of τ)
   of-sits =
       record {
-        ordered = of-ordered;
-        deep =
-            subst⁻¹ (λ (b : ReadBlock). 0 < b.number → b.deep + 1 ≤ (node (table_of τ.table b.cursor.run.size) b.number).level) h.block
-            (passed-sits n bytes h.stop x τ.table h.by h.goes_on);
+        ordered = block-ordered n bytes few h.cursor h.lent h.stands τ.block τ.table h.called;
+        deep = block-sits n bytes few h.cursor h.lent h.stands τ.block τ.table h.called h.goes_on;
       }
 
+  of-later : is_start (context_of τ.block.cursor.run.context) ≡ false
+  of-later = block-later n bytes few h.cursor h.lent h.stands τ.block τ.table h.called h.goes_on
+
 -- ---- The next block --------------------------------------------------------------------------
+
+-- its table lasts till the next block, or the end
+of_lasts : (n : ℕ) → n ≤ option_limit → (bytes : List ℕ) → (reading n bytes).fault ≡ none → (τ : BlockReader) (at : ℕ) → ReadsOf n bytes τ at
+    → Lasts (source_of τ).table (source_of (reader_at bytes (next_block n bytes τ.block.cursor τ.table))).table
+of_lasts n few bytes clean τ at h = go y.block.halted refl
+  where
+    y : Next
+    y = next_block n bytes τ.block.cursor τ.table
+
+    go : (u : Bool) → y.block.halted ≡ u → Lasts (source_of τ).table (source_of (reader_at bytes y)).table
+    go true e =
+        end-lasts n bytes few τ.block.cursor τ.table (of-next n few bytes τ at h) y.block y.table refl e clean
+        (of-later n few bytes τ at h)
+    go false e =
+        block-lasts n bytes few τ.block.cursor τ.table (of-next n few bytes τ at h) y.block y.table refl e
+        (of-later n few bytes τ at h)
 
 -- where a cursor has come to word `at`, the next block begins there, or the stream ends
 reader-comes : (n : ℕ) → n ≤ option_limit → (bytes : List ℕ) → (reading n bytes).fault ≡ none → (x : ℕ → Bool) → x ≡ held_of n bytes
@@ -168,32 +158,19 @@ reader-comes n few bytes clean x e c t h at i = go y.block.halted refl
     y : Next
     y = next_block n bytes c t
 
-    z : BlockReached n bytes c.run.covered y
-    z = next-reached n bytes few c t h
-
     go : (u : Bool) → y.block.halted ≡ u → Reads n (reader_at bytes y) at x ⊎ Ends n (reader_at bytes y) at x
     go true k = inr (record {
       bytes = bytes;
       input = e;
       over = k;
-      all = omega (arith, i, block_last n bytes few c t h k clean);
-      ordered = block-ordered n bytes few c t h;
+      all = omega (arith, i, block_last n bytes few c t h y.block y.table refl k clean);
+      ordered = block-ordered n bytes few c t h y.block y.table refl;
     })
     go false k = inl (record {
       bytes = bytes;
       input = e;
       clean = clean;
-      here =
-          record {
-            stop = c.run.covered;
-            reached = z.reached;
-            by = z.by;
-            block = z.block;
-            goes_on_lem = sym (ap (λ (b : ReadBlock). b.halted) z.block) ∙ k;
-            begins =
-                sym (ap (λ (b : ReadBlock). b.from) z.block) ∙ block-from n bytes few c t h k ∙ i;
-            stream = refl;
-          };
+      here = record { cursor = c; lent = t; stands = h; called = refl; goes_on_lem = k; begins = i; stream = refl };
     })
 
 -- ---- What the walk over texts asks -----------------------------------------------------------
@@ -217,23 +194,28 @@ module _ (n : ℕ) (few : n ≤ option_limit) where
   reads-next τ at x h =
       let s = h.bytes in
       subst (λ (υ : BlockReader). Reads n υ (at + 2 ^ (n - deep_of τ)) x ⊎ Ends n υ (at + 2 ^ (n - deep_of τ)) x)
-      (next-on τ s (of-on n few s τ at h.here) h.here.stream)
+      (next-on τ s h.here.goes_on h.here.stream)
       (reader-comes n few s h.clean x h.input τ.block.cursor τ.table (of-next n few s τ at h.here)
       (at + 2 ^ (n - deep_of τ)) (of-covers n few s τ at h.here))
+
+  reads-lasts : (τ : BlockReader) (at : ℕ) (x : ℕ → Bool) → Reads n τ at x → Lasts (source_of τ).table (source_of (next_reader n τ)).table
+  reads-lasts τ at x h =
+      subst (λ (υ : BlockReader). Lasts (source_of τ).table (source_of υ).table) (next-on τ h.bytes h.here.goes_on h.here.stream)
+      (of_lasts n few h.bytes h.clean τ at h.here)
 
   ends-no : (τ : BlockReader) (e : ℕ) (x : ℕ → Bool) → Ends n τ e x → (w : ℕ) → e ≤ w → x w ≡ false
   ends-no τ e x h w l = ap (λ (y : ℕ → Bool). y w) h.input ∙ held-no n h.bytes w (omega (arith, l, h.all))
 
-  -- STREAMS ARE BLOCK READERS of the walk over texts, as far as it goes.
-  pub stream-laws : (c : ℕ) → ReaderLaws deep_of source_of ended_of (next_reader n) n c (Reads n) (Ends n)
-  stream-laws c = record {
+  -- STREAMS ARE BLOCK READERS of the walk over texts.
+  pub stream-laws : ReaderLaws deep_of source_of ended_of (next_reader n) n (Reads n) (Ends n)
+  stream-laws = record {
     reads-deep = λ τ at x h. of-deep n few h.bytes τ at h.here;
     reads-aligned = λ τ at x h. of-aligned n few h.bytes τ at h.here;
     reads-shows = reads-shows;
     reads-sits = λ τ at x h. of-sits n few h.bytes τ at h.here;
-    reads-low = λ τ at x h. omega arith;
-    reads_on = λ τ at x h. of-on n few h.bytes τ at h.here;
-    reads-next = λ τ at x h l. reads-next τ at x h;
+    reads_on = λ τ at x h. h.here.goes_on;
+    reads-next = reads-next;
+    reads-lasts = reads-lasts;
     ends-over = λ τ e x h. h.over;
     ends-stays =
         λ τ e x h. ap (λ (u : Bool). cond u τ (reader_at τ.stream (next_block n τ.stream τ.block.cursor τ.table))) h.over;
@@ -246,7 +228,6 @@ module _ (n : ℕ) (few : n ≤ option_limit) where
       ordered = h.ordered;
     };
     ends-ordered = λ τ e x h. h.ordered;
-    ends_low = λ τ e x h. refl;
   }
 
   -- So the first block of a stream without a fault, or its end.

@@ -1,11 +1,11 @@
 -- A stream that is read block by block, as the combiner's code has it: a block reader for the walk over texts. Definitions only; BlockReaderLaws ties
 -- them to what the stream decides. Assumes nothing.
 use Rattle.std.specs.Prelude.{Bool, true, false, cond, List, ℕ}
-use Rattle.theory_applying.specs.Applying.{plain_table, Source}
+use Rattle.theory_applying.specs.Applying.{Source}
 use Rattle.theory_applying.specs.Operands.{Operand, settle}
 use Rattle.work_table.specs.TableLaws.{table_of}
 use Rattle.reader.specs.ReadOn.{first_cursor}
-use Rattle.blocks.specs.Blocks.{Next, next_block, block_at, ReadBlock}
+use Rattle.blocks.specs.Blocks.{Next, next_block, ReadBlock}
 use Rattle.node_records.specs.declared.NodeRecord.{NodeRecord}
 
 -- a stream, the block that was read last, and the lent table after it
@@ -26,7 +26,7 @@ deep_of τ = τ.block.deep
 abbrev pub source_of : BlockReader → Source
 source_of τ =
     record {
-      table = plain_table (table_of τ.table τ.block.cursor.run.size);
+      table = table_of τ.table τ.block.cursor.run.size;
       number = τ.block.number;
       complement = τ.block.complement;
     }
@@ -38,10 +38,6 @@ ended_of τ = τ.block.halted
 -- a block further, unless it has ended
 abbrev pub next_reader : ℕ → BlockReader → BlockReader
 next_reader n τ = cond τ.block.halted τ (reader_at τ.stream (next_block n τ.stream τ.block.cursor τ.table))
-
--- at the block that has the word w
-abbrev pub reader_with : ℕ → ℕ → BlockReader → BlockReader
-reader_with n w τ = reader_at τ.stream (block_at n τ.stream w τ.block τ.table)
 
 -- at the first block of a stream, with the table lent
 abbrev pub first_reader : ℕ → List ℕ → List NodeRecord → BlockReader

@@ -1,10 +1,10 @@
 -- One law for each way through code that stands at edges: what terminals fix, the edge at a half of a part, and where an input settles.
 -- Assumes nothing.
-use Rattle.std.specs.Prelude.{◌≡◌, refl, Bool, true, false, cond, not, ◌&&◌, ◌||◌, List, [], ◌∷◌, ℕ, ◌+◌, ◌<◌, eqb, ltb}
-use Rattle.std.proofs.Common.{sym, ap, ap₂, ◌∙◌, arith, ne_eqb}
+use Rattle.std.specs.Prelude.{◌≡◌, refl, Bool, true, false, cond, not, ◌&&◌, ◌||◌, List, [], ◌∷◌, ℕ, ◌+◌, eqb, ltb}
+use Rattle.std.proofs.Common.{sym, ap, ap₂, ◌∙◌}
 use Rattle.theory_lists.specs.Lists.{differ, differ_comm}
 use Rattle.theory_reading.specs.Nodes.{Node, node}
-use Rattle.theory_applying.specs.Applying.{fixed_table, Source, passes, child_source, half_source, first_source, fixed}
+use Rattle.theory_applying.specs.Applying.{Source, first_source, second_source, fixed}
 use Rattle.theory_applying.specs.Operands.{Operand, at_edge, at_terminal, edge_of, settle, first_operand}
 use Rattle.work_table.specs.Table.{get_in}
 use Rattle.work_table.specs.TableLaws.{record_node, table_of, table-node}
@@ -35,10 +35,10 @@ fixed-two op x y =
 
 -- ---- An edge at the halves of a part ---------------------------------------------------------
 
--- x: the edge in a table of z numbers, in which the option of level k is fixed to v; r: the record that code read
-module _ (k : ℕ) (v : Bool) (t : List NodeRecord) (z i : ℕ) (x : Edge) (r : NodeRecord) (read : r ≡ get_in t z x.number) where
+-- x: the edge in a table of z numbers; r: the record that code read
+module _ (t : List NodeRecord) (z i : ℕ) (x : Edge) (r : NodeRecord) (read : r ≡ get_in t z x.number) where
   abbrev source : Edge → Source
-  source e = record { table = fixed_table k v (table_of t z); number = e.number; complement = e.complement }
+  source e = record { table = table_of t z; number = e.number; complement = e.complement }
 
   same : record_node r ≡ node (table_of t z) x.number
   same = ap record_node read ∙ sym (table-node t z x.number)
@@ -48,24 +48,19 @@ module _ (k : ℕ) (v : Bool) (t : List NodeRecord) (z i : ℕ) (x : Edge) (r : 
   by-test false e f = refl
 
   -- y, e: the edge and its child as code holds them
-  pub first-child : (y e : Edge) → y ≡ x → e ≡ first_edge r i y → source e ≡ cond (passes i (source x)) (source x) (child_source false (source x))
+  pub first-child : (y e : Edge) → y ≡ x → e ≡ first_edge r i y → source e ≡ first_source i (source x)
   first-child y e g h =
       ap source (h ∙ ap (first_edge r i) g)
       ∙ by-test (eqb x.number 0 || ltb i r.level) x (record { number = r.first; complement = x.complement })
       ∙ ap (λ (n : Node). cond (eqb x.number 0 || ltb i n.level) (source x) (source (record { number = n.first; complement = x.complement })))
       same
 
-  pub second-child : (y e : Edge) → y ≡ x → e ≡ second_edge r i y → source e ≡ cond (passes i (source x)) (source x) (child_source true (source x))
+  pub second-child : (y e : Edge) → y ≡ x → e ≡ second_edge r i y → source e ≡ second_source i (source x)
   second-child y e g h =
       ap source (h ∙ ap (second_edge r i) g)
       ∙ by-test (eqb x.number 0 || ltb i r.level) x (record { number = r.second; complement = differ (not (eqb r.complement 0)) x.complement })
       ∙ ap (λ (n : Node). cond (eqb x.number 0 || ltb i n.level) (source x)
       (source (record { number = n.second; complement = differ n.complement x.complement }))) same
-
--- where no option is fixed, that is the half o
-pub plain-half : (o : Bool) (i : ℕ) (x : Source) → x.table.level < i → cond (passes i x) x (child_source o x) ≡ half_source o i x
-plain-half o i x l =
-    ap (λ (b : Bool). cond (passes i x) x (child_source (cond b x.table.value o) x)) (sym (ne_eqb i x.table.level (λ e. omega (arith, e, l))))
 
 -- ---- Where an input settles ------------------------------------------------------------------
 

@@ -20,7 +20,8 @@ use Rattle.theory_engine.specs.Engine.{Sent}
 use Rattle.theory_engine.specs.Streaming.{Wrote}
 use Rattle.theory_applying.specs.ApplyLaws.{jointly}
 use Rattle.theory_applying.specs.Operands.{Operand}
-use Rattle.theory_applying.specs.OperandLaws.{Fed, Seated}
+use Rattle.theory_applying.specs.OperandLaws.{Fed}
+use Rattle.theory_applying.specs.Seating.{Seated}
 use Rattle.theory_applying.specs.Merging.{merge_in}
 use Rattle.theory_applying.specs.MergeLaws.{merge-wrote}
 use Rattle.work_table.specs.TableLaws.{table_of}
@@ -28,10 +29,9 @@ use Rattle.blocks.specs.Blocks.{ReadBlock}
 use Rattle.blocks.specs.Load.{LoadTo, load}
 use Rattle.operators.specs.Operators.{opens_first, opens_second}
 use Rattle.theory_combining.specs.BlockReaders.{BlockReader, deep_of, source_of, ended_of, next_reader, begun_operand}
-use Rattle.theory_combining.specs.BlockReaderLaws.{held_of, held-may, Reads, Ends, plain_walk, stream-laws}
-use Rattle.theory_combining.specs.RootOperand.{root_operand, shown_by, root-may, root-fed, root-sits, root-seated}
+use Rattle.theory_combining.specs.BlockReaderLaws.{held_of, held-may, Reads, Ends, stream-laws}
+use Rattle.theory_combining.specs.RootOperand.{root_operand, shown_by, root-may, root-fed, root-seated}
 use Rattle.theory_combining.specs.Merged.{begun-fed, empty_records, zero-record, begun-seated}
-use Rattle.theory_combining.specs.Owning.{Family, Known, own_of, still_of, two-known, Enters, enters-still, begun-enters, two-enter}
 use Rattle.node_records.specs.declared.NodeRecord.{NodeRecord}
 use Rattle.node_records.specs.declared.WriterRecord.{WriterRecord}
 use Rattle.node_records.specs.Records.{no_writer_record}
@@ -95,9 +95,7 @@ module _ (n : ℕ) (few : n ≤ option_limit) (s : List ℕ) (t : List NodeRecor
     where
       go : (v whole : Bool) → x.whole ≡ whole → EntersWith v b x u
           → Fed deep_of source_of ended_of (next_reader n) n (Reads n) (Ends n) 1 n 0 (place v whole) (enters n s x v whole)
-      go true whole e h = λ w l.
-          plain_walk (table_of u b.cursor.run.size) 0 false 1 (options n w) (omega arith)
-          ∙ ap (complemented false) (table_walk-zero (table_of u b.cursor.run.size) 1 (options n w))
+      go true whole e h = λ w l. ap (complemented false) (table_walk-zero (table_of u b.cursor.run.size) 1 (options n w))
       go false true e h =
           subst⁻¹ (λ (u : List NodeRecord). Fed deep_of source_of ended_of (next_reader n) n (Reads n) (Ends n) 1 n 0
           (root_operand s b (on_table x u)) (shown_by n x)) (h.kept refl e)
@@ -109,24 +107,11 @@ module _ (n : ℕ) (few : n ≤ option_limit) (s : List ℕ) (t : List NodeRecor
   entered-seated v h = go v x.whole refl h
     where
       go : (v whole : Bool) → x.whole ≡ whole → EntersWith v b x u → Seated deep_of source_of ended_of (next_reader n) 1 (place v whole)
-      go true whole e h =
-          record { sits = record { ordered = h.blind refl; deep = λ l. absurd (omega (arith, l)) }; low = omega arith }
+      go true whole e h = record { ordered = h.blind refl; deep = λ l. absurd (omega (arith, l)) }
       go false true e h =
           subst⁻¹ (λ (u : List NodeRecord). Seated deep_of source_of ended_of (next_reader n) 1 (root_operand s b (on_table x u))) (h.kept refl e)
           (root-seated n s t x called e b (h.size refl e))
       go false false e h = begun-seated n few s u clean h.long
-
-  -- and has a block reader of a family, in its text or at an edge
-  entered-family : (v : Bool) → EntersWith v b x u → Enters n (entered v s b (on_table x u) (begun_operand n s u))
-  entered-family v h = go v x.whole refl h
-    where
-      go : (v whole : Bool) → x.whole ≡ whole → EntersWith v b x u → Enters n (place v whole)
-      go true whole e h = enters-still n (blind_operand s b (on_table x u)) refl (h.blind refl)
-      go false true e h =
-          enters-still n (root_operand s b (on_table x u)) refl
-          (subst⁻¹ (λ (u : List NodeRecord). Ordered (table_of u b.cursor.run.size)) (h.kept refl e)
-          (subst⁻¹ (λ (z : ℕ). Ordered (table_of x.table z)) (h.size refl e) (root-sits n s t x called e).ordered))
-      go false false e h = begun-enters n few s u h.long
 
 -- ---- The text of a run -----------------------------------------------------------------------
 
@@ -189,19 +174,6 @@ module _ (n op size : ℕ) (x y out : List ℕ) (t₁ t₂ : List NodeRecord) (f
   abbrev second : Operand BlockReader
   second = entered (ignores_second op) y b₂ (on_table Y u₂) (begun_operand n y u₂)
 
-  -- the block readers that they may have
-  enters₁ : Enters n first
-  enters₁ = entered-family n few x t₁ X loaded₁ clean₁ b₁ u₁ (ignores_first op) with₁
-
-  enters₂ : Enters n second
-  enters₂ = entered-family n few y t₂ Y loaded₂ clean₂ b₂ u₂ (ignores_second op) with₂
-
-  abbrev F : Family n
-  F = enters₁.family
-
-  abbrev G : Family n
-  G = enters₂.family
-
   -- the table for writing has k records, the cache g rows of j cells, all zero; w: where bytes wait
   pub entered-wrote : (hash : List ℕ → ℕ) (k g j : ℕ) (w : List ℕ) → table_limit ≤ k → length w ≡ waiting_limit
       → Wrote out (run_text n size c f) (merge_in deep_of source_of ended_of (next_reader n) hash (operate op) n c size
@@ -211,8 +183,7 @@ module _ (n op size : ℕ) (x y out : List ℕ) (t₁ t₂ : List NodeRecord) (f
       subst (λ (text : List ℕ). Wrote out text (merge_in deep_of source_of ended_of (next_reader n) hash (operate op) n c size
       (first ∷ second ∷ []) (empty_records g j) (replicate k no_writer_record) out w))
       (run-same n op x y t₁ t₂ X Y loaded₁ loaded₂ size c most f makes)
-      (merge-wrote deep_of source_of ended_of (next_reader n) n c (Reads n) (Ends n) (stream-laws n few c) (Known n c F G) 2 (own_of n c F G) (still_of n c F G)
-      (two-known n c F G) hash (operate op) size
+      (merge-wrote deep_of source_of ended_of (next_reader n) n c (Reads n) (Ends n) (stream-laws n few) hash (operate op) size
       (first ∷ second ∷ []) (enters n x X (ignores_first op) X.whole ∷ enters n y Y (ignores_second op) Y.whole ∷ []) (empty_records g j)
       (replicate k z) out w few fits (omega (arith, enough, length-replicate k z)) (zero-cell k) waits most (zero-record g j)
       (λ some. (
@@ -224,7 +195,7 @@ module _ (n op size : ℕ) (x y out : List ℕ) (t₁ t₂ : List NodeRecord) (f
           entered-seated n few x t₁ X loaded₁ clean₁ b₁ u₁ (ignores_first op) with₁,
           (entered-seated n few y t₂ Y loaded₂ clean₂ b₂ u₂ (ignores_second op) with₂, tt),
         ),
-      )) (two-enter n c first second enters₁ enters₂))
+      )))
 
   -- THE RUN; φ, ψ: the inputs where they enter, μ: the cache, t₀: the table for writing, s: what is sent
   pub entered-correct : (hash : List ℕ → ℕ) (k g j : ℕ) (w : List ℕ) → table_limit ≤ k → length w ≡ waiting_limit → (φ ψ : Operand BlockReader)

@@ -7,13 +7,5 @@ pub mod EdgeCorrect
 -- The call
 pub mod CombineCorrect
 pub mod Merged
-pub mod Owning
 pub mod Entering
--- Fixing an option
-pub mod BlockPlaces
-pub mod HalfReaders
-pub mod Fixing
-pub mod FixKnown
-pub mod FixLaws
-pub mod FixRuns
 pub mod Called

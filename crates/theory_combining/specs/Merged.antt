@@ -8,9 +8,9 @@ use Rattle.theory_lists.specs.Lists.{decide-le}
 use Rattle.theory_lists.specs.Maps.{get_or-replicate-same}
 use Rattle.theory_reading.specs.Limits.{option_limit, table_limit}
 use Rattle.theory_reading.specs.Reading.{reading}
-use Rattle.theory_applying.specs.Applying.{plain_table, Source}
-use Rattle.theory_applying.specs.OperandLaws.{Fed, Seated, settled}
-use Rattle.theory_applying.specs.Seating.{settle-seated}
+use Rattle.theory_applying.specs.Applying.{Source}
+use Rattle.theory_applying.specs.OperandLaws.{Fed, settled}
+use Rattle.theory_applying.specs.Seating.{Seated, settle-seated}
 use Rattle.theory_combining.specs.BlockReaders.{deep_of, source_of, ended_of, next_reader, first_reader, begun_operand}
 use Rattle.theory_combining.specs.BlockReaderLaws.{held_of, Reads, Ends, stream-laws, comes-first}
 use Rattle.node_records.specs.declared.NodeRecord.{NodeRecord}
@@ -33,14 +33,14 @@ zero-record g j p k =
 pub begun-fed : (n : ℕ) → n ≤ option_limit → (s : List ℕ) (t : List NodeRecord) → (reading n s).fault ≡ none → table_limit ≤ length t
     → Fed deep_of source_of ended_of (next_reader n) n (Reads n) (Ends n) 1 n 0 (begun_operand n s t) (held_of n s)
 begun-fed n few s t clean room =
-    let none : Source = record { table = plain_table []; number = 0; complement = false } in
-    settled deep_of source_of ended_of (next_reader n) n 0 (Reads n) (Ends n) (stream-laws n few 0) 0 n (omega arith) 0 (first_reader n s t) none
+    let none : Source = record { table = []; number = 0; complement = false } in
+    settled deep_of source_of ended_of (next_reader n) n (Reads n) (Ends n) (stream-laws n few) 0 n (omega arith) 0 (first_reader n s t) none
     (held_of n s) (comes-first n few s t clean room) (λ _. omega arith)
 
 -- an input that is read from its beginning sits at the outermost node, if it is at an edge
 pub begun-seated : (n : ℕ) → n ≤ option_limit → (s : List ℕ) (t : List NodeRecord) → (reading n s).fault ≡ none → table_limit ≤ length t
     → Seated deep_of source_of ended_of (next_reader n) 1 (begun_operand n s t)
 begun-seated n few s t clean room =
-    let none : Source = record { table = plain_table []; number = 0; complement = false } in
-    settle-seated deep_of source_of ended_of (next_reader n) n 0 (Reads n) (Ends n) (stream-laws n few 0) 1 0 (first_reader n s t) none (held_of n s)
-    (comes-first n few s t clean room) (omega arith)
+    let none : Source = record { table = []; number = 0; complement = false } in
+    settle-seated deep_of source_of ended_of (next_reader n) n (Reads n) (Ends n) (stream-laws n few) 1 0 (first_reader n s t) none (held_of n s)
+    (comes-first n few s t clean room)

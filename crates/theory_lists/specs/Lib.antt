@@ -2,6 +2,5 @@ pub mod Lists
 pub mod Lookups
 pub mod Maps
 pub mod Powers
-pub mod Multiples
 pub mod Prefixes
 pub mod Splits

@@ -1,14 +1,13 @@
--- Why a call is turned down (document 01, "Turned down"; document 02, R-5): the causes as one table, and what a refusal returns. Assumes nothing.
+-- Why a call is turned down (document 01, "Turned down"): the causes as one table, and what a refusal returns. Assumes nothing.
 use Rattle.std.specs.Prelude.{Bool, true, false, List, [], ◌∷◌, ℕ, leb}
 
 pub data Cause : Type 0 where
   option_count operator_code size_to_write work_table word_range truth_table : Cause
   wrong_byte declared_size too_deep not_in_table other_level not_storable bad_number : Cause
-  option_range no_point : Cause
 
--- What a refusal names: the call, as stream 0 and byte 0; a stream and a byte of it; or a stream and its length.
+-- What a refusal names: the call, as stream 0 and byte 0, or a stream and a byte of it.
 pub data Names : Type 0 where
-  call place stream_end : Names
+  call place : Names
 
 -- "Left as it was": all lent memory, or the output, where a truth table to be filled is one.
 pub data Leaves : Type 0 where
@@ -25,23 +24,21 @@ pub record CauseRow : Type 0 where
 abbrev pub cause_row_of : ℕ → ℕ → Names → Leaves → CauseRow
 cause_row_of k r n l = record { number = k; rank = r; names = n; leaves = l }
 
--- "Turned down", the table; behind its thirteen rows those of document 02
+-- "Turned down", the table
 abbrev pub cause_row : Cause → CauseRow
 cause_row option_count = cause_row_of 1 1 call keeps_all  -- n above 32; truth table n not 3 to 16
-cause_row operator_code = cause_row_of 2 3 call keeps_all  -- operator above 15; mode above 3
-cause_row size_to_write = cause_row_of 3 4 call keeps_all  -- size to write above the table limit
-cause_row work_table = cause_row_of 4 5 call keeps_all  -- a work table of fewer records
-cause_row word_range = cause_row_of 5 6 call keeps_all  -- word 2^n or more
-cause_row truth_table = cause_row_of 6 7 call keeps_all  -- truth table not 2^n / 8 bytes
-cause_row wrong_byte = cause_row_of 7 8 place keeps_output  -- byte not allowed there: that byte
-cause_row declared_size = cause_row_of 8 9 place keeps_output  -- declared size above the table limit: first digit
-cause_row too_deep = cause_row_of 9 10 place keeps_output  -- bracket deeper than n: bracket
-cause_row not_in_table = cause_row_of 10 11 place keeps_output  -- number not in the table: first digit
-cause_row other_level = cause_row_of 11 12 place keeps_output  -- number at another level: first digit
-cause_row not_storable = cause_row_of 12 13 place keeps_output  -- storing barred by a child; `(A)` of a temporary A: its `:` or `)`
-cause_row bad_number = cause_row_of 13 14 place keeps_output  -- number to store 0, above the size, a child of a stored node or its own child: first digit
-cause_row option_range = cause_row_of 14 2 call keeps_all  -- R-5: option 0 or above n, "after cause 1"
-cause_row no_point = cause_row_of 15 15 stream_end keeps_output  -- R-5: a stream without its point, "after all its other causes, at its length"
+cause_row operator_code = cause_row_of 2 2 call keeps_all  -- operator above 15
+cause_row size_to_write = cause_row_of 3 3 call keeps_all  -- size to write above the table limit
+cause_row work_table = cause_row_of 4 4 call keeps_all  -- a work table of fewer records
+cause_row word_range = cause_row_of 5 5 call keeps_all  -- word 2^n or more
+cause_row truth_table = cause_row_of 6 6 call keeps_all  -- truth table not 2^n / 8 bytes
+cause_row wrong_byte = cause_row_of 7 7 place keeps_output  -- byte not allowed there: that byte
+cause_row declared_size = cause_row_of 8 8 place keeps_output  -- declared size above the table limit: first digit
+cause_row too_deep = cause_row_of 9 9 place keeps_output  -- bracket deeper than n: bracket
+cause_row not_in_table = cause_row_of 10 10 place keeps_output  -- number not in the table: first digit
+cause_row other_level = cause_row_of 11 11 place keeps_output  -- number at another level: first digit
+cause_row not_storable = cause_row_of 12 12 place keeps_output  -- storing barred by a child; `(A)` of a temporary A: its `:` or `)`
+cause_row bad_number = cause_row_of 13 13 place keeps_output  -- number to store 0, above the size, a child of a stored node or its own child: first digit
 
 -- "Returned": cause, stream, byte
 pub record Refusal : Type 0 where

@@ -16,7 +16,7 @@ use Rattle.theory_reading.specs.Limits.{open_limit, table_limit}
 use Rattle.theory_reading.specs.Bytes.{opener, closer, tilde, colon, dot, blank, line_feed, is_digit}
 use Rattle.theory_reading.specs.Nodes.{is_kept, node}
 use Rattle.theory_reading.specs.Causes.{Cause, option_count, operator_code, size_to_write, work_table, word_range, truth_table, cause_row}
-use Rattle.theory_reading.specs.Causes.{wrong_byte, declared_size, too_deep, not_in_table, other_level, not_storable, bad_number, option_range, no_point}
+use Rattle.theory_reading.specs.Causes.{wrong_byte, declared_size, too_deep, not_in_table, other_level, not_storable, bad_number}
 use Rattle.theory_reading.specs.Element.{Element, opening, number, constant, turn, closing, storing, end, Open, in_first, in_second}
 use Rattle.theory_reading.specs.Element.{Context, start, lead, begins, after_digit, after_two, after_one, over, Place, Scan, read, unread}
 use Rattle.theory_reading.specs.Element.{number_at}
@@ -58,8 +58,6 @@ Meets n bytes s b not_storable =
     ⊎ (Reads bytes s closing × ((o : List Open) × (s.place.opens ≡ in_first ∷ o)) × (is_kept s.place.last ≡ false)))
     × (b ≡ s.place.at)
 Meets n bytes s b bad_number = (k : ℕ) × Reads bytes s (storing k) × (is_bad s k ≡ true) × (b ≡ s.place.at + 1)
-Meets n bytes s b option_range = ⊥
-Meets n bytes s b no_point = ⊥
 
 -- The cause is met at byte b, and none that is met there has a lower rank.
 pub record Counts (n : ℕ) (bytes : List ℕ) (s : State) (b : ℕ) (c : Cause) : Type 0 where
@@ -244,8 +242,6 @@ module _ (n : ℕ) (bytes : List ℕ) (s : State) where
   spares r b h₇ h₈ h₉ h₁₀ h₁₁ h₁₂ h₁₃ work_table = λ m. absurd m
   spares r b h₇ h₈ h₉ h₁₀ h₁₁ h₁₂ h₁₃ word_range = λ m. absurd m
   spares r b h₇ h₈ h₉ h₁₀ h₁₁ h₁₂ h₁₃ truth_table = λ m. absurd m
-  spares r b h₇ h₈ h₉ h₁₀ h₁₁ h₁₂ h₁₃ option_range = λ m. absurd m
-  spares r b h₇ h₈ h₉ h₁₀ h₁₁ h₁₂ h₁₃ no_point = λ m. absurd m
   spares r b h₇ h₈ h₉ h₁₀ h₁₁ h₁₂ h₁₃ wrong_byte = h₇
   spares r b h₇ h₈ h₉ h₁₀ h₁₁ h₁₂ h₁₃ declared_size = h₈
   spares r b h₇ h₈ h₉ h₁₀ h₁₁ h₁₂ h₁₃ too_deep = h₉

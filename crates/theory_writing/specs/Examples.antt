@@ -1,17 +1,14 @@
 -- Written streams computed, beside those of `PaperCases`: document 01's example of a program, and rows that tell the definitions from near misses of
 -- them (the edits in must-fail/ and edits/ each break one).
-use Rattle.std.specs.Prelude.{◌≡◌, refl, Bool, true, false, cond, ◌&&◌, List, [], ◌∷◌, map, ℕ, zero, suc, ◌+◌, ◌/◌, ◌%◌, ◌^◌, leb, ltb, eqb}
+use Rattle.std.specs.Prelude.{◌≡◌, refl, Bool, true, false, cond, ◌&&◌, [], ◌∷◌, ℕ, zero, suc, ◌+◌, ◌/◌, ◌%◌, ◌^◌, leb, ltb, eqb}
 use Rattle.theory_reading.specs.Limits.{table_limit}
 use Rattle.theory_reading.specs.Bytes.{text}
-use Rattle.theory_reading.specs.Causes.{option_count, operator_code, size_to_write, work_table, wrong_byte, not_in_table, option_range, no_point, refused, done}
-use Rattle.theory_reading.specs.Causes.{refusal}
+use Rattle.theory_reading.specs.Causes.{operator_code, size_to_write, wrong_byte, not_in_table, refused, done, refusal}
 use Rattle.theory_reading.specs.Deciding.{undecided, decided}
 use Rattle.theory_writing.specs.UniqueTable.{start}
 use Rattle.theory_writing.specs.Rules.{Text, number, one, two, part}
 use Rattle.theory_writing.specs.Run.{digit_at, operate, Input, run_covered, run_text, run_of, output_after, whole, input_ended, output_full, answer_of}
 use Rattle.theory_writing.specs.Calls.{write_answer, combine_answer}
-use Rattle.theory_writing.specs.Fixing.{set_to, fix_text}
-use Rattle.theory_writing.specs.FixCall.{fix_answer}
 
 -- binary digit w of x: the decision at word w
 abbrev by_number : ℕ → ℕ → Bool
@@ -175,95 +172,6 @@ second-stream : combine_answer 3 14 4 (text "4\n(0(0~0):1):2." ∷ text "4\n(1).
     ≡ refused (refusal not_in_table 2 3)
 unfolding combine_answer text
 second-stream = refl
-
--- ---- Fixing and forgetting an option (document 02, R-5) --------------------------------------
-
--- option 1 of three has weight 4
-option-one : map (set_to 3 1 true) (0 ∷ 3 ∷ 4 ∷ 7 ∷ []) ≡ 4 ∷ 7 ∷ 4 ∷ 7 ∷ []
-unfolding set_to
-option-one = refl
-
-option-three : map (set_to 3 3 false) (0 ∷ 3 ∷ 4 ∷ 7 ∷ []) ≡ 0 ∷ 2 ∷ 4 ∷ 6 ∷ []
-unfolding set_to
-option-three = refl
-
--- two or more of three set, P4: with the option no both others are asked for, with yes one of them is enough
-abbrev fixed : ℕ → List (List ℕ)
-unfolding fix_text text
-fixed k = map (λ mode. fix_text 3 k mode 4 (text "4\n((0(0~0):1):2(1~0):3):4.")) (0 ∷ 1 ∷ 2 ∷ 3 ∷ [])
-
-first-fixed : fixed 1 ≡ map text ("4\n((0(0~0):1):2)." ∷ "4\n(((0~0):1~0):2)." ∷ "4\n(((0~0):1~0):2)." ∷ "4\n((0(0~0):1):2)." ∷ [])
-unfolding fix_text text
-first-fixed = refl
-
-second-fixed : fixed 2 ≡ map text ("4\n(0((0~0):1)):2." ∷ "4\n(((0~0):1)~0):2." ∷ "4\n(((0~0):1)~0):2." ∷ "4\n(0((0~0):1)):2." ∷ [])
-unfolding fix_text text
-second-fixed = refl
-
-third-fixed : fixed 3 ≡ map text ("4\n(0(0~0):1):2." ∷ "4\n((0~0):1~0):2." ∷ "4\n((0~0):1~0):2." ∷ "4\n(0(0~0):1):2." ∷ [])
-unfolding fix_text text
-third-fixed = refl
-
--- the one option of one: no word is left to ask about
-only-fixed : map (λ mode. fix_text 1 1 mode 1 (text "1\n(0~0):1.")) (0 ∷ 1 ∷ 2 ∷ 3 ∷ []) ≡ map text ("1\n0." ∷ "1\n~0." ∷ "1\n~0." ∷ "1\n0." ∷ [])
-unfolding fix_text text
-only-fixed = refl
-
--- the second option of an exclusive or: the modes 2 and 3 are constants
-odd-fixed : map (λ mode. fix_text 2 2 mode 0 (text "0\n((0~0)~(0~0)).")) (0 ∷ 1 ∷ 2 ∷ 3 ∷ [])
-    ≡ map text ("0\n(0~0)." ∷ "0\n~(0~0)." ∷ "0\n~0." ∷ "0\n0." ∷ [])
-unfolding fix_text text
-odd-fixed = refl
-
--- work tables of so many records
-abbrev three : ℕ → List ℕ
-three r = r ∷ r ∷ r ∷ []
-
-fix-taken : fix_answer 1 1 1 1 (text "1\n(0~0):1.") (text ".....") (three table_limit) ≡ done (record { written = 5; covered = 2; ending = whole })
-unfolding fix_answer text
-fix-taken = refl
-
--- as settled: "Order: 1, 14, 2 (mode), 3, 4, then the stream's 7 to 13, then 15. n 2, k 0, mode 9, size 9999: 14, 0, 0."
-options-before : fix_answer 33 0 9 9999 [] [] (three 0) ≡ refused (refusal option_count 0 0)
-unfolding fix_answer
-options-before = refl
-
-option-before : fix_answer 2 0 9 9999 [] [] (three 0) ≡ refused (refusal option_range 0 0)
-unfolding fix_answer
-option-before = refl
-
-option-above : fix_answer 2 3 9 9999 [] [] (three 0) ≡ refused (refusal option_range 0 0)
-unfolding fix_answer
-option-above = refl
-
-no-options : fix_answer 0 1 0 0 (text "0\n0.") [] (three table_limit) ≡ refused (refusal option_range 0 0)
-unfolding fix_answer text
-no-options = refl
-
-mode-before : fix_answer 2 2 4 769 [] [] (three 0) ≡ refused (refusal operator_code 0 0)
-unfolding fix_answer
-mode-before = refl
-
-size-before : fix_answer 2 2 3 769 [] [] (three 0) ≡ refused (refusal size_to_write 0 0)
-unfolding fix_answer
-size-before = refl
-
-tables-before : fix_answer 2 2 3 768 (text "1\n)") [] (table_limit ∷ table_limit ∷ 767 ∷ []) ≡ refused (refusal work_table 0 0)
-unfolding fix_answer text
-tables-before = refl
-
-fault-before : fix_answer 1 1 0 1 (text "1\n(0~)") [] (three table_limit) ≡ refused (refusal wrong_byte 1 5)
-unfolding fix_answer text
-fault-before = refl
-
--- "15 is about the point: n 1, k 1, `1/(0~0)` covers all words and is 15, 1, 7. The empty stream is 15, 1, 0."
-point-wanted : fix_answer 1 1 0 1 (text "1\n(0~0)") [] (three table_limit) ≡ refused (refusal no_point 1 7)
-unfolding fix_answer text
-point-wanted = refl
-
-point-of-empty : fix_answer 1 1 0 1 [] [] (three table_limit) ≡ refused (refusal no_point 1 0)
-unfolding fix_answer
-point-of-empty = refl
 
 -- ---- The output ------------------------------------------------------------------------------
 

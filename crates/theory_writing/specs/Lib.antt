@@ -4,8 +4,6 @@ pub mod Rules
 pub mod Texts
 pub mod Run
 pub mod Calls
-pub mod Fixing
-pub mod FixCall
 pub mod Join
 pub mod JoinExample
 pub mod PaperCases
@@ -35,7 +33,5 @@ pub mod Flow
 pub mod Online
 pub mod OnlineRuns
 pub mod CallLaws
-pub mod FixLaws
-pub mod OptionLaws
 -- The queue as code holds it
 pub mod Links

@@ -28,7 +28,6 @@ void lowered_fill(rule_filled *, uint32_t, const_slice *, bytes_slice *, table_s
 void lowered_write(rule_written *, uint32_t, uint32_t, const_slice *, bytes_slice *, nodes_slice *);
 void lowered_combine(rule_written *, uint32_t, uint32_t, uint32_t, const_slice *, const_slice *, bytes_slice *, table_slice *, table_slice *,
                      nodes_slice *);
-void lowered_fix(rule_written *, uint32_t, uint32_t, uint32_t, uint32_t, const_slice *, bytes_slice *, table_slice *, table_slice *, nodes_slice *);
 void lowered_begin(rule_place *);
 void lowered_step(rule_stepped *, rule_place *, const_slice *);
 
@@ -92,20 +91,6 @@ rule_written rule_combine(uint32_t n, uint32_t op, uint32_t size, const uint8_t 
     nodes_slice t3 = {table3, records3};
     rule_written r;
     lowered_combine(&r, n, op, size, &s1, &s2, &o, &t1, &t2, &t3);
-    return r;
-}
-
-rule_written rule_fix(uint32_t n, uint32_t option, uint32_t mode, uint32_t size, const uint8_t *stream, size_t stream_bytes, uint8_t *output,
-                      size_t output_bytes, rule_record *table1, size_t records1, rule_record *table2, size_t records2, rule_node *table3,
-                      size_t records3)
-{
-    const_slice s = {stream, stream_bytes};
-    bytes_slice o = {output, output_bytes};
-    table_slice t1 = {table1, records1};
-    table_slice t2 = {table2, records2};
-    nodes_slice t3 = {table3, records3};
-    rule_written r;
-    lowered_fix(&r, n, option, mode, size, &s, &o, &t1, &t2, &t3);
     return r;
 }
 

@@ -9,14 +9,13 @@
 //! | `reader "STREAM"` | `rule_begin`, then `rule_step` to its stop |
 //! | `write N RECORDS SIZE LENGTH "TRUTHS"` | `rule_write` with an output of LENGTH bytes |
 //! | `combine N RECORDS RECORDS RECORDS OP SIZE LENGTH "STREAM" "STREAM"` | `rule_combine` with an output of LENGTH bytes |
-//! | `fix N RECORDS RECORDS RECORDS OPTION MODE SIZE LENGTH "STREAM"` | `rule_fix` with an output of LENGTH bytes |
 //!
 //! RECORDS is the length of a work table. In STREAM a byte that is no printable character, a
 //! space, a quote or a backslash stands as `\n` or `\xNN`. TRUTHS are the bytes of the truth table,
 //! two hexadecimal digits each. What the lent slices hold before the call follows from the line.
 
-pub const NAMES: [&str; 8] = [
-    "check", "decide", "fill", "reader", "write", "combine", "next", "fix",
+pub const NAMES: [&str; 7] = [
+    "check", "decide", "fill", "reader", "write", "combine", "next",
 ];
 
 #[derive(Clone, Debug, PartialEq, Eq)]
@@ -28,7 +27,6 @@ pub enum Call {
     Write { size: u32, output: usize },
     Combine(Combine),
     Next { word: u64 },
-    Fix(Fix),
 }
 
 /// The arguments of `rule_combine` beside those that every case has.
@@ -42,22 +40,11 @@ pub struct Combine {
     pub second: Vec<u8>,
 }
 
-/// The arguments of `rule_fix` beside those that every case has.
-#[derive(Clone, Debug, PartialEq, Eq)]
-pub struct Fix {
-    pub option: u32,
-    pub mode: u32,
-    pub size: u32,
-    pub output: usize,
-    /// The records of the second and of the third work table.
-    pub others: [usize; 2],
-}
-
 #[derive(Clone, Debug, PartialEq, Eq)]
 pub struct Case {
     pub call: Call,
     pub n: u32,
-    /// The records of the work table, of several those of the first.
+    /// The records of the work table, of combining those of the first.
     pub records: usize,
     /// What is lent to be read: the stream, of combining the first, of `rule_write` the truth table.
     pub stream: Vec<u8>,
@@ -74,7 +61,6 @@ impl Case {
             Call::Write { .. } => 4,
             Call::Combine(_) => 5,
             Call::Next { .. } => 6,
-            Call::Fix(_) => 7,
         }
     }
 
@@ -91,7 +77,6 @@ impl Case {
         match &self.call {
             Call::Write { output, .. } => *output,
             Call::Combine(combine) => combine.output,
-            Call::Fix(fix) => fix.output,
             _ => 0,
         }
     }
@@ -108,9 +93,7 @@ impl Case {
     pub fn tables(&self) -> [usize; 3] {
         match &self.call {
             Call::Write { .. } => [0, 0, self.records],
-            Call::Combine(Combine { others, .. }) | Call::Fix(Fix { others, .. }) => {
-                [self.records, others[0], others[1]]
-            }
+            Call::Combine(combine) => [self.records, combine.others[0], combine.others[1]],
             _ => [self.records, 0, 0],
         }
     }
@@ -122,7 +105,6 @@ impl Case {
             Call::Decide { word } | Call::Next { word } => numbers.push(*word),
             Call::Write { size, output } => numbers.push(u64::from(*size) << 32 | *output as u64),
             Call::Combine(combine) => numbers.extend(combine.numbers()),
-            Call::Fix(fix) => numbers.extend(fix.numbers()),
             _ => numbers.push(self.truths() as u64),
         }
         let bytes = numbers.iter().flat_map(|number| number.to_le_bytes());
@@ -154,12 +136,6 @@ impl Case {
                 let [two, three, op, size, output] = combine.numbers();
                 let second = escaped(&combine.second);
                 format!("{name} {n} {records} {two} {three} {op} {size} {output} {stream} {second}")
-            }
-            Call::Fix(fix) => {
-                let [two, three, option, mode, size, output] = fix.numbers();
-                format!(
-                    "{name} {n} {records} {two} {three} {option} {mode} {size} {output} {stream}"
-                )
             }
         }
     }
@@ -196,16 +172,6 @@ impl Case {
                 };
                 (Call::Combine(combine), n, records, stream)
             }
-            ["fix", n, records, two, three, option, mode, size, length, stream] => {
-                let fix = Fix {
-                    option: option.parse().ok()?,
-                    mode: mode.parse().ok()?,
-                    size: size.parse().ok()?,
-                    output: length.parse().ok()?,
-                    others: [two.parse().ok()?, three.parse().ok()?],
-                };
-                (Call::Fix(fix), n, records, stream)
-            }
             _ => return None,
         };
         Some(Case {
@@ -226,15 +192,6 @@ impl Combine {
         let [two, three] = self.others.map(|records| records as u64);
         let (op, size) = (self.op.into(), self.size.into());
         [two, three, op, size, self.output as u64]
-    }
-}
-
-impl Fix {
-    /// The records of the second and the third work table, option, mode, size, output.
-    fn numbers(&self) -> [u64; 6] {
-        let [two, three] = self.others.map(|records| records as u64);
-        let [option, mode, size] = [self.option, self.mode, self.size].map(u64::from);
-        [two, three, option, mode, size, self.output as u64]
     }
 }
 

@@ -360,7 +360,7 @@ fn beginnings_of_two_options() -> BTreeSet<Vec<u8>> {
 }
 
 /// Option counts that no stream has.
-pub const WRONG_OPTIONS: [u32; 5] = [33, 64, (1 << 16) + 3, 1 << 31, u32::MAX];
+const WRONG_OPTIONS: [u32; 5] = [33, 64, (1 << 16) + 3, 1 << 31, u32::MAX];
 
 /// Operators that there are not.
 const WRONG_OPERATORS: [u32; 6] = [16, 17, 255, (1 << 16) + 8, 1 << 31, u32::MAX];
@@ -369,11 +369,11 @@ const WRONG_OPERATORS: [u32; 6] = [16, 17, 255, (1 << 16) + 8, 1 << 31, u32::MAX
 pub const MOST: u32 = MOST_SIZE as u32;
 
 /// Sizes that are not written.
-pub const WRONG_SIZES: [u32; 5] = [MOST + 1, MOST + 2, (1 << 16) + 2, 1 << 31, u32::MAX];
+const WRONG_SIZES: [u32; 5] = [MOST + 1, MOST + 2, (1 << 16) + 2, 1 << 31, u32::MAX];
 
 /// Work tables, one or more of them too short but for the first and the last row.
 const SHORT: usize = LEAST_RECORDS - 1;
-pub const TABLES: [[usize; 3]; 7] = [
+const TABLES: [[usize; 3]; 7] = [
     [LEAST_RECORDS; 3],
     [SHORT, LEAST_RECORDS, LEAST_RECORDS],
     [LEAST_RECORDS, SHORT, LEAST_RECORDS],

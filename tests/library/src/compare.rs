@@ -1,11 +1,11 @@
 //! One case put to the library and to the plain walk.
 
-use crate::case::{Call, Case, Combine, Fix};
+use crate::case::{Call, Case, Combine};
 use crate::foreign::{self, Checked, Decided, Filled, Found, Place, Stepped, Stream, Written};
 use crate::lent::{Lent, Memory};
 use std::fmt::Debug;
 use std::time::{Duration, Instant};
-use walk::calls::{check, combine, decide, fill, fix, next, write, Decision, Next};
+use walk::calls::{check, combine, decide, fill, next, write, Decision, Next};
 use walk::reader::{Element, Reader, Step};
 use walk::refusal::Refusal;
 use walk::run::Ending;
@@ -18,7 +18,7 @@ const SOON: Duration = Duration::from_secs(1);
 
 /// What the walk says of a case. The cause is 0 if it is taken (for the reader: if the bytes ran out); the
 /// ending is that of a call that writes and is taken, and the text what it writes; for finding the next word it is
-/// which of the three answers is given. `time` is how long the library combined or fixed.
+/// which of the three answers is given. `time` is how long the library combined.
 #[derive(Clone, Debug, Default)]
 pub struct Outcome {
     pub cause: usize,
@@ -62,7 +62,6 @@ pub fn compare(case: &Case) -> Result<Outcome, String> {
         Call::Write { size, .. } => compare_write(case, *size, &mut memory)?,
         Call::Combine(of) => compare_combine(case, of, &mut memory)?,
         Call::Next { word } => compare_next(case, *word, &mut memory)?,
-        Call::Fix(of) => compare_fix(case, of, &mut memory)?,
     };
     if !memory.streams.iter().all(Lent::unchanged) {
         return Err("what was lent to be read or what stands beside it was changed".to_string());
@@ -233,38 +232,6 @@ fn compare_combine(case: &Case, of: &Combine, memory: &mut Memory) -> Result<Out
     same_tables(memory, [one, two, three].map(|table| is_zero(&table)))?;
     let outcome = Outcome::of_writing(expected, output);
     Ok(Outcome { time, ..outcome })
-}
-
-fn compare_fix(case: &Case, of: &Fix, memory: &mut Memory) -> Result<Outcome, String> {
-    let [mut one, mut two, mut three] = case.tables().map(|records| vec![GARBAGE; records]);
-    let mut output = memory.output.was().to_vec();
-    let answer = fix(
-        case.n.into(),
-        of.option.into(),
-        of.mode.into(),
-        of.size.into(),
-        &case.stream,
-        &mut output,
-        [&mut one, &mut two, &mut three],
-    );
-    let expected = written(answer);
-    let start = Instant::now();
-    let given = fixed(case, of, memory);
-    let time = start.elapsed();
-    same(expected, given)?;
-    same_bytes("output", &memory.output, &output)?;
-    same_tables(memory, [one, two, three].map(|table| is_zero(&table)))?;
-    let outcome = Outcome::of_writing(expected, output);
-    Ok(Outcome { time, ..outcome })
-}
-
-/// What the library answers when it fixes an option.
-pub fn fixed(case: &Case, of: &Fix, memory: &mut Memory) -> Written {
-    let numbers = [case.n, of.option, of.mode, of.size];
-    let (stream, output) = (memory.stream(), memory.output());
-    let (tables, nodes) = (memory.both_tables(), memory.nodes());
-    // SAFETY: the slices are lent as rule.h asks.
-    unsafe { foreign::rule_fix(numbers, stream, output, tables, nodes) }
 }
 
 /// What the library answers when it combines.

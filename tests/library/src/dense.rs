@@ -4,17 +4,24 @@
 
 use crate::case::Case;
 use crate::combines::{combine, output_for, MOST};
-use crate::dense_streams::{
-    recycled_stream, some_count, some_size, some_stream, stream_of, INPUTS, MOST_OUTPUT,
-};
 use crate::streams::changed;
 use std::ops::RangeInclusive;
-use walk::dense::{rule, selected, SIZES};
-use walk::diagrams::Diagrams;
+use walk::dense::{remainder_of_count, rule, selected, stream, stream_of_size, SIZES};
+use walk::diagrams::{Diagrams, Edge};
+use walk::limits::MOST_SIZE;
 use walk::random::Random;
 use walk::reading::read;
 use walk::run::combined_text;
 use walk::shapes::cut;
+
+/// The option counts of these cases.
+pub const OPTIONS: RangeInclusive<u32> = 17..=32;
+
+/// An output has at most so many bytes.
+const MOST_OUTPUT: usize = 65_536;
+
+/// The bytes that an input has at most.
+const INPUTS: [usize; 4] = [600, 3_000, 9_000, 24_000];
 
 /// Runs of a chain.
 const LINKS: usize = 6;
@@ -93,9 +100,9 @@ impl Dense {
         let (n, size) = (self.n(), self.size());
         let mut diagrams = Diagrams::new();
         let edge = rule(&mut self.random, &mut diagrams, n);
-        let first = stream_of(&mut self.random, &diagrams, n, edge);
+        let first = self.stream_of(&diagrams, n, edge);
         let second = match self.random.below(3) {
-            0 => stream_of(&mut self.random, &diagrams, n, edge),
+            0 => self.stream_of(&diagrams, n, edge),
             _ => first.clone(),
         };
         self.of_streams(n, op, size, [first, second])
@@ -123,7 +130,21 @@ impl Dense {
     fn recycled(&mut self) -> Case {
         let n = self.n();
         let most = self.random.pick(&INPUTS);
-        let streams = [(); 2].map(|()| recycled_stream(&mut self.random, n, most));
+        let mut diagrams = Diagrams::new();
+        let streams = [(); 2].map(|()| loop {
+            let edge = match self.random.below(6) {
+                0 => remainder_of_count(&mut self.random, &mut diagrams, n),
+                _ => selected(&mut self.random, &mut diagrams, n, 7),
+            };
+            let size = match self.random.below(4) {
+                0 => 16 + self.random.below(50),
+                _ => 3 + self.random.below(12),
+            };
+            let stream = stream_of_size(&mut self.random, &diagrams, n, edge, size, most);
+            if stream.ends_with(b".") || self.random.chance(1, 4) {
+                break stream;
+            }
+        });
         let size = match self.random.below(4) {
             0 => self.size(),
             _ => 2 + self.random.below(30) as u32,
@@ -139,7 +160,7 @@ impl Dense {
         let one = rule(&mut self.random, &mut diagrams, n);
         let other = selected(&mut self.random, &mut diagrams, n, 4);
         let two = diagrams.combine(self.random.below(16), one, other);
-        let streams = [one, two].map(|edge| stream_of(&mut self.random, &diagrams, n, edge));
+        let streams = [one, two].map(|edge| self.stream_of(&diagrams, n, edge));
         self.of_streams(n, op, size, streams)
     }
 
@@ -170,15 +191,20 @@ impl Dense {
     // ---- Arguments
 
     fn n(&mut self) -> u32 {
-        some_count(&mut self.random, &self.options)
+        let (least, most) = (*self.options.start(), *self.options.end());
+        match self.random.below(2) {
+            0 => most,
+            _ => least + self.random.below(u64::from(most - least + 1)) as u32,
+        }
     }
 
     fn size(&mut self) -> u32 {
-        some_size(&mut self.random)
-    }
-
-    fn stream(&mut self, n: u32) -> Vec<u8> {
-        some_stream(&mut self.random, n)
+        let size = match self.random.below(4) {
+            0 => self.random.below(MOST_SIZE + 1),
+            1 => self.random.pick(&SIZES),
+            _ => self.random.pick(&[64, 256, MOST_SIZE - 1, MOST_SIZE]),
+        };
+        size as u32
     }
 
     fn output(&mut self, n: u32, op: u32, size: u32, streams: &[Vec<u8>; 2]) -> usize {
@@ -187,6 +213,23 @@ impl Dense {
         }
         let length = text(n, op, size, streams).len();
         output_for(&mut self.random, length).min(MOST_OUTPUT)
+    }
+
+    /// A stream of some rule, whole mostly.
+    fn stream(&mut self, n: u32) -> Vec<u8> {
+        loop {
+            let mut diagrams = Diagrams::new();
+            let edge = rule(&mut self.random, &mut diagrams, n);
+            let stream = self.stream_of(&diagrams, n, edge);
+            if stream.ends_with(b".") || self.random.chance(1, 4) {
+                return stream;
+            }
+        }
+    }
+
+    fn stream_of(&mut self, diagrams: &Diagrams, n: u32, edge: Edge) -> Vec<u8> {
+        let most = self.random.pick(&INPUTS);
+        stream(&mut self.random, diagrams, n, edge, most)
     }
 }
 

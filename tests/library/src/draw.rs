@@ -28,10 +28,9 @@ pub struct Draw {
     ready: Vec<Case>,
     /// Option count and stream.
     long: Vec<(u32, Vec<u8>)>,
-    /// Cases of writing, of combining and of fixing among the walk's own.
+    /// Cases of writing, and of combining, among the walk's own.
     writes: Vec<Case>,
     combines: Vec<Case>,
-    fixes: Vec<Case>,
 }
 
 impl Draw {
@@ -42,7 +41,6 @@ impl Draw {
             long: Vec::new(),
             writes: Vec::new(),
             combines: Vec::new(),
-            fixes: Vec::new(),
         };
         for case in cases(seed, count / OWN) {
             draw.take(case);
@@ -76,11 +74,6 @@ impl Draw {
         std::mem::take(&mut self.combines)
     }
 
-    /// The cases of fixing that the walk has, for `Fixes`.
-    pub fn fixes(&mut self) -> Vec<Case> {
-        std::mem::take(&mut self.fixes)
-    }
-
     pub fn case(&mut self) -> Case {
         if let Some(case) = self.ready.pop() {
             return case;
@@ -103,7 +96,8 @@ impl Draw {
     }
 
     /// A case of the walk. Of the calls that write, the streams are checked, and what is written from a
-    /// truth table is filled back; the calls themselves are kept for `Writes`, `Combines` and `Fixes`.
+    /// truth table is filled back; the calls themselves are kept for `Writes` and
+    /// `Combines`.
     fn take(&mut self, case: walk::case::Case) {
         use walk::case::Case::*;
         let small = |number: u64| u32::try_from(number).expect("the walk's numbers are small");
@@ -189,29 +183,6 @@ impl Draw {
                 stream,
                 word,
             } => push(Call::Next { word }, n, records, stream),
-            Fix {
-                n,
-                option,
-                mode,
-                size,
-                records: [one, two, three],
-                stream,
-                output,
-            } => {
-                self.fixes.push(Case {
-                    call: Call::Fix(case::Fix {
-                        option: small(option),
-                        mode: small(mode),
-                        size: small(size),
-                        output: output.len(),
-                        others: [two, three],
-                    }),
-                    n: small(n),
-                    records: one,
-                    stream: stream.clone(),
-                });
-                push(Call::Check, n, one, stream);
-            }
         }
     }
 

@@ -245,22 +245,6 @@ mod calls {
             table3: *mut Node,
             records3: usize,
         ) -> Written;
-        pub fn rule_fix(
-            n: u32,
-            option: u32,
-            mode: u32,
-            size: u32,
-            stream: *const u8,
-            stream_bytes: usize,
-            output: *mut u8,
-            output_bytes: usize,
-            table1: *mut Record,
-            records1: usize,
-            table2: *mut Record,
-            records2: usize,
-            table3: *mut Node,
-            records3: usize,
-        ) -> Written;
         pub fn rule_begin() -> Place;
         pub fn rule_step(place: Place, stream: *const u8, stream_bytes: usize) -> Stepped;
     }
@@ -311,21 +295,6 @@ pub unsafe fn rule_combine(
     calls::rule_combine(
         n, op, size, x.bytes, x.length, y.bytes, y.length, o.bytes, o.length, t1.records,
         t1.length, t2.records, t2.length, t3.records, t3.length,
-    )
-}
-
-/// # Safety
-/// What is lent is there, and nothing else refers to it.
-pub unsafe fn rule_fix(
-    [n, option, mode, size]: [u32; 4],
-    s: Stream,
-    o: Bytes,
-    [t1, t2]: [Table; 2],
-    t3: Nodes,
-) -> Written {
-    calls::rule_fix(
-        n, option, mode, size, s.bytes, s.length, o.bytes, o.length, t1.records, t1.length,
-        t2.records, t2.length, t3.records, t3.length,
     )
 }
 

@@ -1,11 +1,10 @@
 //! The proved library compared with the plain walk, call by call and slice by slice.
 //!
 //! `library SEED COUNT` compares, for SEED, the cases whose answer is stated, at least COUNT cases of the calls that
-//! read, more of finding the next word and rules that are listed by it, then those of writing, of combining and of
-//! fixing that are always there and random ones, a tenth of COUNT each, then those of combining dense rules with many
-//! options, a fiftieth, of fixing them, half as many, and pairs of runs, a hundredth; with a third argument it says each
-//! case before it is put to the library. `library dense SEED COUNT LEAST MOST` compares COUNT cases of combining dense
-//! rules, half as many of fixing them and a tenth as many pairs of runs with LEAST to MOST options alone.
+//! read, more of finding the next word and rules that are listed by it, then those of writing and of combining that are always there and random ones, a tenth of COUNT each, then
+//! those of combining dense rules with many options, a fiftieth, and pairs of runs, a hundredth; with a third argument
+//! it says each case before it is put to the library. `library dense SEED COUNT LEAST MOST` compares COUNT cases of
+//! dense rules and a tenth as many pairs of runs with LEAST to MOST options alone.
 //! `library replay LINE` compares the case of one line (see `case`). Exit status: 0 no difference; 1 a difference,
 //! printed with its case; 2 it could not be told, also if some kind of case was not met.
 
@@ -14,17 +13,12 @@ mod case;
 mod combines;
 mod compare;
 mod dense;
-mod dense_fixes;
-mod dense_streams;
 mod draw;
-mod fixed_kinds;
-mod fixes;
 mod foreign;
 mod lent;
 mod nexts;
 mod pairs;
 mod stated;
-mod stated_fixes;
 mod streams;
 mod tally;
 mod writes;
@@ -33,9 +27,7 @@ use case::Case;
 use combines::Combines;
 use compare::{compare, Outcome};
 use dense::Dense;
-use dense_fixes::DenseFixes;
 use draw::Draw;
-use fixes::Fixes;
 use pairs::{demand, Pairs};
 use stated::stated;
 use std::ops::RangeInclusive;
@@ -44,7 +36,7 @@ use std::time::Instant;
 use tally::Tally;
 use writes::Writes;
 
-/// So many cases of the calls that read for each random one of writing, of combining and of fixing.
+/// So many cases of the calls that read for each random one of writing, and of combining.
 const READS: usize = 10;
 
 /// So many cases of the calls that read for each pair of runs.
@@ -56,10 +48,7 @@ const PAIRS: usize = 200;
 /// So many cases of the calls that read for each one of dense rules.
 const READS_OF_DENSE: usize = 50;
 
-/// So many cases of combining dense rules for each one of fixing them.
-const DENSE_OF_FIX: usize = 2;
-
-/// So many cases of combining dense rules for each pair of runs with such.
+/// So many cases of dense rules for each pair of runs with such.
 const DENSE_OF_PAIR: usize = 10;
 
 fn main() -> ExitCode {
@@ -112,7 +101,7 @@ fn run(seed: u64, count: usize, say: bool) -> ExitCode {
             run_dense(
                 seed,
                 count / READS_OF_DENSE,
-                dense_streams::OPTIONS,
+                dense::OPTIONS,
                 &mut tally,
                 say,
             )
@@ -177,16 +166,11 @@ fn run_cases(seed: u64, most: usize, tally: &mut Tally, say: bool) -> Result<(),
     let mut draw = Draw::new(seed, most);
     let mut writes = Writes::new(seed, most / READS, draw.writes());
     let mut combines = Combines::new(seed, most / READS, draw.combines());
-    let mut fixes = Fixes::new(seed, most / READS, draw.fixes());
     let mut total = 0;
     loop {
         let case = if total < most || !draw.is_random() {
             draw.case()
-        } else if let Some(case) = writes
-            .case()
-            .or_else(|| combines.case())
-            .or_else(|| fixes.case())
-        {
+        } else if let Some(case) = writes.case().or_else(|| combines.case()) {
             case
         } else {
             return Ok(());
@@ -217,36 +201,21 @@ fn run_dense(
     tally: &mut Tally,
     say: bool,
 ) -> Result<(), ExitCode> {
-    let (mut cases, mut fixes) = (
-        Dense::new(seed, most, options.clone()),
-        DenseFixes::new(seed, most / DENSE_OF_FIX, options.clone()),
-    );
-    run_dense_cases(0, || cases.case(), tally, say)?;
-    run_dense_cases(1, || fixes.case(), tally, say)?;
+    let start = Instant::now();
+    let mut cases = Dense::new(seed, most, options.clone());
+    while let Some(case) = cases.case() {
+        if say {
+            println!("{}", case.line());
+        }
+        let outcome = count(&case, tally)?;
+        tally.dense.count(&case, &outcome);
+    }
+    tally.dense.seconds[0] = start.elapsed().as_secs_f64();
     run_pairs(
         Pairs::dense(seed, most / DENSE_OF_PAIR, options),
         tally,
         say,
     )
-}
-
-/// Cases of dense rules, combined or fixed: `place` is that in the tally.
-fn run_dense_cases(
-    place: usize,
-    mut next: impl FnMut() -> Option<Case>,
-    tally: &mut Tally,
-    say: bool,
-) -> Result<(), ExitCode> {
-    let start = Instant::now();
-    while let Some(case) = next() {
-        if say {
-            println!("{}", case.line());
-        }
-        let outcome = count(&case, tally)?;
-        tally.dense[place].count(&case, &outcome);
-    }
-    tally.dense[place].seconds[0] = start.elapsed().as_secs_f64();
-    Ok(())
 }
 
 /// Dense rules of these option counts and nothing else.

@@ -1,12 +1,11 @@
 //! Cases of combining whose answer is stated here: the examples of document 01 and its "Plausible but false", the
-//! settled readings of document 02, R-3, and such with more words than can be walked. `stated_fixes` has those of fixing.
+//! settled readings of document 02, R-3, and such with more words than can be walked.
 
 use crate::case::{Call, Case};
 use crate::combines::{combine, MOST};
-use crate::compare::{combined, fixed, same, same_bytes, same_tables};
+use crate::compare::{combined, same, same_bytes, same_tables};
 use crate::foreign::Written;
 use crate::lent::Memory;
-use crate::stated_fixes::stated_fixes;
 use walk::generate::{shown, staircase};
 
 pub struct Stated {
@@ -19,17 +18,15 @@ pub struct Stated {
 impl Stated {
     /// The answer, all of the output and the work tables are as they are stated.
     pub fn holds(&self) -> Result<(), String> {
-        let mut memory = Memory::new(&self.case);
-        let given = match &self.case.call {
-            Call::Combine(of) => combined(&self.case, of, &mut memory),
-            Call::Fix(of) => fixed(&self.case, of, &mut memory),
-            _ => return Err("this is no case of combining or fixing".to_string()),
+        let Call::Combine(of) = &self.case.call else {
+            return Err("this is no case of combining".to_string());
         };
-        same(self.answer, given)?;
+        let mut memory = Memory::new(&self.case);
+        same(self.answer, combined(&self.case, of, &mut memory))?;
         let mut output = memory.output.was().to_vec();
         output[..self.text.len()].copy_from_slice(&self.text);
         same_bytes("output", &memory.output, &output)?;
-        let zero = ![1, 2, 3, 4, 14].contains(&self.answer.cause);
+        let zero = !(1..=4).contains(&self.answer.cause);
         same_tables(&memory, [zero; 3])
     }
 }
@@ -40,13 +37,12 @@ pub fn stated() -> Vec<Stated> {
     all.extend(REFUSED.into_iter().map(refused));
     all.extend(last_numbers());
     all.extend(many_options());
-    all.extend(stated_fixes());
     all
 }
 
-pub const WHOLE: u32 = 0;
+const WHOLE: u32 = 0;
 const INPUT_ENDED: u32 = 1;
-pub const OUTPUT_FULL: u32 = 2;
+const OUTPUT_FULL: u32 = 2;
 
 /// Name; n, operator, size; both streams; the text, covered words, ending. LF is shown as `/`. AND is 8, OR is 14, XOR
 /// is 6; 12 gives stream 1's decisions and 10 stream 2's.
@@ -358,15 +354,11 @@ const REFUSED: [Refused; 10] = [
 fn written((name, [n, op, size], streams, text, covered, ending): Row) -> Stated {
     let (streams, text) = (streams.map(shown), shown(text));
     let case = combine(n, op, size, streams, text.len() + 3);
-    written_as(name, case, text, covered, ending)
+    whole_answer(name, case, text, covered, ending)
 }
 
-fn refused((name, [n, op, size], streams, numbers): Refused) -> Stated {
-    refusal(name, combine(n, op, size, streams.map(shown), 9), numbers)
-}
-
-/// A case that is turned down: cause, stream, byte.
-pub fn refusal(name: &'static str, case: Case, [cause, stream, byte]: [u32; 3]) -> Stated {
+fn refused((name, [n, op, size], streams, [cause, stream, byte]): Refused) -> Stated {
+    let case = combine(n, op, size, streams.map(shown), 9);
     let byte = byte.into();
     Stated {
         name,
@@ -381,8 +373,7 @@ pub fn refusal(name: &'static str, case: Case, [cause, stream, byte]: [u32; 3]) 
     }
 }
 
-/// A case that is taken: what it writes, the covered words, the ending.
-pub fn written_as(
+fn whole_answer(
     name: &'static str,
     case: Case,
     text: Vec<u8>,
@@ -408,7 +399,7 @@ fn last_numbers() -> [Stated; 2] {
     let state = |name, op, streams: [&str; 2]| {
         let text = shown(&format!("{MOST}/((0~0):1)."));
         let case = combine(2, op, MOST, streams.map(shown), text.len() + 3);
-        written_as(name, case, text, 4, WHOLE)
+        whole_answer(name, case, text, 4, WHOLE)
     };
     [
         state("the last number of stream 1", 12, [&last, "0/0."]),
@@ -422,7 +413,7 @@ fn many_options() -> Vec<Stated> {
     let all = 1 << 32;
     let state = |name, [op, size]: [u32; 2], streams: [&[u8]; 2], text: Vec<u8>| {
         let case = combine(32, op, size, streams.map(<[u8]>::to_vec), text.len() + 3);
-        written_as(name, case, text, all, WHOLE)
+        whole_answer(name, case, text, all, WHOLE)
     };
     let odd = odd(32);
     let mut stated = vec![
@@ -446,7 +437,7 @@ fn many_options() -> Vec<Stated> {
             "all set, at size 32",
             [8, 32],
             [&yes, &staircase(3, 32)],
-            stored_staircase(32, 0),
+            stored_staircase(),
         ),
     ];
     for length in [0, 1, 2, 3, 40, 300] {
@@ -455,13 +446,13 @@ fn many_options() -> Vec<Stated> {
         odd_text(&mut text, 32, length);
         text.truncate(length);
         let name = "odd at size 0, to a short output";
-        stated.push(written_as(name, case, text, all, OUTPUT_FULL));
+        stated.push(whole_answer(name, case, text, all, OUTPUT_FULL));
     }
     stated
 }
 
 /// The stream of "an odd number of options set", every level stored.
-pub fn odd(n: usize) -> Vec<u8> {
+fn odd(n: usize) -> Vec<u8> {
     let mut text = format!("{n}\n{}0~0):1", "(".repeat(n)).into_bytes();
     for number in 1..n {
         text.extend(format!("~{number}):{}", number + 1).bytes());
@@ -486,18 +477,12 @@ fn odd_text(text: &mut Vec<u8>, options: u32, most: usize) {
     text.push(b')');
 }
 
-/// `(0(0(0~0):1):2)...` with 32 brackets, in a table of some size: yes for the last word alone. At the level of an option
-/// that does not count, if there is one, stands `(A)`.
-pub fn stored_staircase(size: u32, option: u32) -> Vec<u8> {
-    let mut node = "~0".to_string();
-    let mut number = 0;
-    for level in (1..=32).rev() {
-        if level != option {
-            number += 1;
-            node = format!("(0{node}):{number}");
-        } else if number > 0 {
-            node = format!("({node})");
-        }
+/// `(0(0(0~0):1):2)...` with 32 brackets: yes for the last word alone.
+fn stored_staircase() -> Vec<u8> {
+    let mut text = format!("32\n{}(0~0):1", "(0".repeat(31)).into_bytes();
+    for number in 2..=32 {
+        text.extend(format!("):{number}").bytes());
     }
-    format!("{size}\n{node}.").into_bytes()
+    text.push(b'.');
+    text
 }

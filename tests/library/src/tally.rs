@@ -3,7 +3,6 @@
 use crate::buckets::{given_again, Longest};
 use crate::case::{Call, Case, NAMES};
 use crate::compare::Outcome;
-use crate::fixed_kinds;
 use crate::nexts::Listed;
 use crate::pairs::Met;
 
@@ -16,39 +15,27 @@ const KINDS: [&[usize]; NAMES.len()] = [
     &[0, 1, 3, 4, 6],
     &[0, 1, 2, 3, 4, 7, 8, 9, 10, 11, 12, 13],
     &[0, 1, 4, 5, 7, 8, 9, 10, 11, 12, 13],
-    &[0, 1, 2, 3, 4, 7, 8, 9, 10, 11, 12, 13, 14, 15],
 ];
 
-/// The highest cause.
-const CAUSES: usize = 15;
-
 /// Those that write, and the endings that they must have; finding the next word, and its answers.
-const ENDINGS: [(usize, [&str; 3], &[usize]); 4] = [
+const ENDINGS: [(usize, [&str; 3], &[usize]); 3] = [
     (4, ENDING_NAMES, &[0, 2]),
     (5, ENDING_NAMES, &[0, 1, 2]),
     (6, ["none", "a word", "not known"], &[0, 1, 2]),
-    (7, ENDING_NAMES, &[0, 2]),
 ];
 
 const ENDING_NAMES: [&str; 3] = ["whole", "input ended", "output full"];
 
-/// What is done with dense rules, and how it must end.
-const DENSE_NAMES: [&str; 2] = ["combined", "fixed"];
-const DENSE_ENDINGS: [&[usize]; 2] = [&[0, 1, 2], &[0, 2]];
-
 #[derive(Default)]
 pub struct Tally {
     /// By call, and by cause, 0 for taken.
-    outcomes: [[usize; CAUSES + 1]; NAMES.len()],
+    outcomes: [[usize; 14]; NAMES.len()],
     /// By call, and by ending, or by answer.
     endings: [[usize; 3]; NAMES.len()],
     /// Refusals of combining by stream, and by cause.
-    streams: [[usize; CAUSES + 1]; 3],
-    /// Kinds of rules in which an option was fixed.
-    fixed: fixed_kinds::Met,
+    streams: [[usize; 14]; 3],
     pub stated: usize,
-    /// Dense rules that were combined, and such in which an option was fixed.
-    pub dense: [Dense; 2],
+    pub dense: Dense,
     pub pairs: Met,
     pub listed: Listed,
     pub buckets: Longest,
@@ -82,12 +69,12 @@ impl Dense {
         self.seconds[2] = self.seconds[2].max(time);
     }
 
-    fn line(&self, name: &str) -> String {
+    fn line(&self) -> String {
         let Dense { cases, refused, .. } = self;
         let ([whole, ended, full], [all, library, longest]) = (self.endings, self.seconds);
         let [read, written] = self.again;
         format!(
-            "dense rules, {name}: {cases}, refused {refused}, whole {whole}, input ended {ended}, output full {full}; \
+            "dense rules: {cases}, refused {refused}, whole {whole}, input ended {ended}, output full {full}; \
              numbers given out again {read} in streams, {written} in results; \
              {all:.1} seconds, the library {library:.1}, its longest case {longest:.4}\n"
         )
@@ -101,7 +88,6 @@ impl Tally {
         self.outcomes[call][outcome.cause] += 1;
         if outcome.cause == 0 {
             self.endings[call][outcome.ending] += 1;
-            fixed_kinds::see(&mut self.fixed, case, outcome);
         } else if matches!(case.call, Call::Combine(_)) {
             self.streams[outcome.stream][outcome.cause] += 1;
         }
@@ -112,12 +98,11 @@ impl Tally {
         self.outcomes.iter().flatten().sum()
     }
 
-    /// A table of calls by outcome: taken (for the reader: the bytes ran out), and each cause; then how the calls that
-    /// write ended and what the next word was, the kinds of rules in which an option was fixed, the listings, the cases
-    /// with dense rules, the pairs of runs and the longest buckets.
+    /// A table of calls by outcome: taken (for the reader: the bytes ran out), causes 1 to 13; then how the calls that
+    /// write ended and what the next word was, the listings, the cases with dense rules, the pairs of runs and the longest buckets.
     pub fn table(&self, seed: u64) -> String {
         let mut text = format!("{:8} {:>7}", "call", "taken");
-        for cause in 1..=CAUSES {
+        for cause in 1..=13 {
             text += &format!(" {cause:>6}");
         }
         text += "\n";
@@ -129,9 +114,8 @@ impl Tally {
             text += "\n";
         }
         text + &self.endings_line()
-            + &self.fixed_line()
             + &self.listed.line()
-            + &self.dense_lines()
+            + &self.dense.line()
             + &self.pairs_line()
             + &self.buckets.lines(seed)
     }
@@ -149,19 +133,6 @@ impl Tally {
         }
         let [_, one, two] = self.streams.map(|row| row.iter().sum::<usize>());
         text + &format!("combine: refused for stream 1 {one}, for stream 2 {two}\n")
-    }
-
-    fn fixed_line(&self) -> String {
-        let kinds = fixed_kinds::KINDS.iter().zip(self.fixed);
-        let kinds: Vec<String> = kinds
-            .map(|(name, count)| format!("{name} {count}"))
-            .collect();
-        format!("fix, of those taken: {}\n", kinds.join("; "))
-    }
-
-    fn dense_lines(&self) -> String {
-        let lines = DENSE_NAMES.iter().zip(&self.dense);
-        lines.map(|(name, dense)| dense.line(name)).collect()
     }
 
     fn pairs_line(&self) -> String {
@@ -219,19 +190,13 @@ impl Tally {
         need(cut, "cut rules, listed".to_string());
         need(self.listed.words, "words, listed".to_string());
         need(self.stated, "stated cases".to_string());
-        for (name, count) in fixed_kinds::KINDS.iter().zip(self.fixed) {
-            need(count, format!("fix, {name}"));
+        need(self.dense.refused, "dense rules, refused".to_string());
+        for (name, count) in ENDING_NAMES.iter().zip(self.dense.endings) {
+            need(count, format!("dense rules, {name}"));
         }
-        for ((name, dense), endings) in DENSE_NAMES.iter().zip(&self.dense).zip(DENSE_ENDINGS) {
-            need(dense.refused, format!("dense rules, {name}, refused"));
-            for &ending in endings {
-                let what = format!("dense rules, {name}, {}", ENDING_NAMES[ending]);
-                need(dense.endings[ending], what);
-            }
-            let again = format!("dense rules, {name}, numbers given out again");
-            need(dense.again[0], format!("{again} in streams"));
-            need(dense.again[1], format!("{again} in results"));
-        }
+        let again = "dense rules, numbers given out again";
+        need(self.dense.again[0], format!("{again} in streams"));
+        need(self.dense.again[1], format!("{again} in results"));
         need(self.pairs.refused, "pairs of runs, refused".to_string());
         need(self.pairs.more_bytes, "pairs with more bytes".to_string());
         need(self.pairs.more_words, "pairs with more words".to_string());

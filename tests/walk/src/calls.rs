@@ -3,10 +3,9 @@
 //!
 //! A lent work table is a row of records; one number stands for each record here, since the walk
 //! needs none of them. "Past cause 6 all work table records are zero on return", those beyond
-//! the least number too; before that they are left as they were, as for cause 14.
+//! the least number too; before that they are left as they were.
 
 use crate::deciding::{truth_digit, truth_table};
-use crate::fixing::fixed_text;
 use crate::limits::*;
 use crate::reading::{read, Reading};
 use crate::refusal::Refusal;
@@ -155,42 +154,6 @@ pub fn combine(
     let text = combined_text(operator, size, &first, &second, output.len());
     let covered = covered_by_run(operator, &first, &second);
     Ok(put_out(options, covered, &text, output))
-}
-
-/// Causes 1, 14, 2, 3, 4, those of the stream, then 15 (document 02, R-5).
-pub fn fix(
-    n: u64,
-    option: u64,
-    mode: u64,
-    size: u64,
-    stream: &[u8],
-    output: &mut [u8],
-    tables: [&mut WorkTable; 3],
-) -> Result<Written, Refusal> {
-    let options = options_of_stream(n)?;
-    let option = option_of_rule(options, option)?;
-    if mode > MOST_MODE {
-        return Err(Refusal::of_call(2));
-    }
-    size_to_write(size)?;
-    enough_records(&[&*tables[0], &*tables[1], &*tables[2]])?;
-    for table in tables {
-        table.fill(0);
-    }
-    let reading = read_stream(options, 1, stream)?;
-    if !reading.complete {
-        return Err(Refusal::of_cut(1, stream));
-    }
-    let text = fixed_text(option, mode, size, &reading, output.len());
-    Ok(put_out(options, 1u64 << options, &text, output))
-}
-
-/// Cause 14: "option 0 or above n".
-fn option_of_rule(options: u32, option: u64) -> Result<u32, Refusal> {
-    match u32::try_from(option) {
-        Ok(option) if (1..=options).contains(&option) => Ok(option),
-        _ => Err(Refusal::of_call(14)),
-    }
 }
 
 /// Cause 1: "n above 32".

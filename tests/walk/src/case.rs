@@ -12,12 +12,10 @@
 //! | 5 reader | stream | four numbers for each element, four at the stop |
 //! | 6 join | input | output |
 //! | 7 next | n; records; stream; word | answer, z |
-//! | 8 fix | n; option; mode; size; three records; stream; output before | answer, z, output after |
 //!
 //! A refusal answers 1, cause, stream, byte. Else check answers 0, declared size, covered count,
 //! 1 complete or 0 cut; decide 0 and 0 no, 1 yes, 2 not yet; next 0 and 0 none, 1 a word, 2 not
-//! known, and the word (0 if there is none); fill 0, covered count; write, combine and fix 0, bytes
-//! written, covered count, 0 whole or 1 input ended or 2 output full.
+//! known, and the word (0 if there is none); fill 0, covered count; write and combine 0, bytes written, covered count, 0 whole or 1 input ended or 2 output full.
 //!
 //! z is 1 if all records of the lent work tables are zero on return, 0 if they were left as they
 //! were (also if no record was lent). They are lent full of 7.
@@ -27,14 +25,14 @@
 //! "the bytes ran out" or 8 for a fault, cause, byte (both 0 if the bytes ran out), and the place
 //! where the reader stands.
 
-use crate::calls::{check, combine, decide, fill, fix, next, write, Decision, Next};
+use crate::calls::{check, combine, decide, fill, next, write, Decision, Next};
 use crate::join::join;
 use crate::reader::{Element, Reader, Step};
 use crate::refusal::Refusal;
 use crate::run::{Ending, Written};
 
-pub const NAMES: [&str; 9] = [
-    "check", "decide", "fill", "write", "combine", "reader", "join", "next", "fix",
+pub const NAMES: [&str; 8] = [
+    "check", "decide", "fill", "write", "combine", "reader", "join", "next",
 ];
 
 const GARBAGE: u64 = 7;
@@ -85,15 +83,6 @@ pub enum Case {
         stream: Vec<u8>,
         word: u64,
     },
-    Fix {
-        n: u64,
-        option: u64,
-        mode: u64,
-        size: u64,
-        records: [usize; 3],
-        stream: Vec<u8>,
-        output: Vec<u8>,
-    },
 }
 
 impl Case {
@@ -108,7 +97,6 @@ impl Case {
             Case::Reader { .. } => 5,
             Case::Join { .. } => 6,
             Case::Next { .. } => 7,
-            Case::Fix { .. } => 8,
         }
     }
 
@@ -173,23 +161,6 @@ impl Case {
             ],
             Case::Reader { stream } => vec![numbers(stream)],
             Case::Join { input } => vec![numbers(input)],
-            Case::Fix {
-                n,
-                option,
-                mode,
-                size,
-                records,
-                stream,
-                output,
-            } => vec![
-                one(*n),
-                one(*option),
-                one(*mode),
-                one(*size),
-                records.iter().map(|&count| count as u64).collect(),
-                numbers(stream),
-                numbers(output),
-            ],
         }
     }
 
@@ -278,29 +249,6 @@ impl Case {
                     Next::NotKnown => vec![2, 0],
                 });
                 together(answer, &[&table], &[])
-            }
-            Case::Fix {
-                n,
-                option,
-                mode,
-                size,
-                records,
-                stream,
-                output,
-            } => {
-                let [mut one, mut two, mut three] = records.map(|count| vec![GARBAGE; count]);
-                let mut output = output.clone();
-                let answer = fix(
-                    *n,
-                    *option,
-                    *mode,
-                    *size,
-                    stream,
-                    &mut output,
-                    [&mut one, &mut two, &mut three],
-                );
-                let tables = [&one[..], &two[..], &three[..]];
-                together(answer.map(written_numbers), &tables, &output)
             }
         }
     }

@@ -172,36 +172,6 @@ impl Diagrams {
         edge
     }
 
-    /// A function with the option of a level set to no or to yes, on which it depends no more.
-    pub fn with_option(&mut self, level: u32, yes: bool, edge: Edge) -> Edge {
-        let mut done = HashMap::default();
-        self.set_below(level, yes, edge, &mut done)
-    }
-
-    fn set_below(
-        &mut self,
-        level: u32,
-        yes: bool,
-        edge: Edge,
-        done: &mut HashMap<Edge, Edge, Quick>,
-    ) -> Edge {
-        let here = self.nodes[edge.function].level;
-        if here > level {
-            return edge;
-        }
-        let halves = self.halves(here, edge);
-        if here == level {
-            return halves[usize::from(yes)];
-        }
-        if let Some(&set) = done.get(&edge) {
-            return set;
-        }
-        let [first, second] = halves.map(|half| self.set_below(level, yes, half, done));
-        let set = self.join(here, first, second);
-        done.insert(edge, set);
-        set
-    }
-
     /// The decision of a word.
     pub fn decision(&self, options: u32, mut edge: Edge, word: u64) -> bool {
         while !edge.is_constant() {

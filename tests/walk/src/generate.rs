@@ -3,10 +3,9 @@
 
 use crate::case::Case;
 use crate::deciding::truth_table;
-use crate::fixes;
 use crate::functions::{busy_function, nine_symmetric, random_function};
 use crate::join::{parse, OPERATORS};
-use crate::limits::{LEAST_RECORDS, MOST_JOB, MOST_MODE, MOST_SIZE};
+use crate::limits::{LEAST_RECORDS, MOST_JOB, MOST_SIZE};
 use crate::random::Random;
 use crate::reading::read;
 use crate::shapes::{cut, damaged, shaped, small_size, written};
@@ -30,7 +29,6 @@ pub fn cases(seed: u64, count: usize) -> Vec<Case> {
     cases.extend(draw.every_output());
     cases.extend(draw.busy_tables());
     cases.push(draw.long_job());
-    cases.extend(fixes::cases(&mut draw.random));
     while cases.len() < count {
         let case = draw.case();
         if draw.fits(&case) {
@@ -682,7 +680,7 @@ impl Draw {
     }
 
     fn case(&mut self) -> Case {
-        match self.random.below(122) {
+        match self.random.below(112) {
             0..=21 => self.check(),
             22..=37 => self.decide(),
             38..=49 => self.fill(),
@@ -690,8 +688,7 @@ impl Draw {
             63..=82 => self.combine(),
             83..=90 => self.reader(),
             91..=99 => self.join(),
-            100..=111 => self.next(),
-            _ => self.fix(),
+            _ => self.next(),
         }
     }
 
@@ -889,7 +886,12 @@ impl Draw {
             0 => self.random.pick(&[16, 17, 255]),
             _ => self.random.below(16),
         };
-        let (size, records) = (self.size(), self.three_records());
+        let size = self.size();
+        let mut records = [LEAST_RECORDS; 3];
+        if self.random.chance(1, 8) {
+            let table = self.random.index(3);
+            records[table] = self.records();
+        }
         self.with_output(|output| Case::Combine {
             n,
             operator,
@@ -898,42 +900,6 @@ impl Draw {
             streams: streams.clone(),
             output,
         })
-    }
-
-    fn fix(&mut self) -> Case {
-        let n = self.options();
-        let stream = match self.random.below(10) {
-            0..=6 => self.valid(n),
-            _ => self.stream(n),
-        };
-        let option = match self.random.below(20) {
-            0 => self.random.pick(&[0, n + 1, 200]),
-            _ => 1 + self.random.below(n),
-        };
-        let mode = match self.random.below(20) {
-            0 => self.random.pick(&[MOST_MODE + 1, 255]),
-            _ => self.random.below(MOST_MODE + 1),
-        };
-        let (size, records) = (self.size(), self.three_records());
-        self.with_output(|output| Case::Fix {
-            n,
-            option,
-            mode,
-            size,
-            records,
-            stream: stream.clone(),
-            output,
-        })
-    }
-
-    /// Now and then one of three work tables is not just long enough.
-    fn three_records(&mut self) -> [usize; 3] {
-        let mut records = [LEAST_RECORDS; 3];
-        if self.random.chance(1, 8) {
-            let table = self.random.index(3);
-            records[table] = self.records();
-        }
-        records
     }
 
     /// Lend an output of garbage: empty, too short, just short, exact, or longer than the text.
@@ -1111,7 +1077,7 @@ impl Case {
     fn longest(&self) -> usize {
         match self {
             Case::Check { stream, .. } | Case::Decide { stream, .. } => stream.len(),
-            Case::Next { stream, .. } | Case::Fix { stream, .. } => stream.len(),
+            Case::Next { stream, .. } => stream.len(),
             Case::Fill { stream, .. } | Case::Reader { stream } => stream.len(),
             Case::Write { .. } => 0,
             Case::Combine { streams, .. } => streams[0].len().max(streams[1].len()),
@@ -1119,7 +1085,7 @@ impl Case {
         }
     }
 
-    /// The option count if the call walks all words: it fills, writes, combines or fixes and is not
+    /// The option count if the call walks all words: it fills, writes or combines and is not
     /// refused. Of the next admitted word as many options as the words to try have. Otherwise 0.
     fn walked(&self) -> u64 {
         let faulty = |n: u64, stream: &[u8]| n > 32 || read(n as u32, stream).is_err();
@@ -1143,7 +1109,6 @@ impl Case {
             Case::Combine { n, streams, .. } => {
                 walks(*n, streams.iter().all(|stream| !faulty(*n, stream)))
             }
-            Case::Fix { n, stream, .. } => walks(*n, !faulty(*n, stream)),
             Case::Join { input } => parse(input).map_or(0, |job| {
                 let faulty = job.streams.iter().any(|stream| faulty(job.n, stream));
                 walks(job.n, !faulty)

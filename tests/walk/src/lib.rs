@@ -18,12 +18,10 @@
 //! - `settled`: settled words, the covered count of a run (document 02, R-3);
 //! - `run`: released text, clipping, ending ("The written stream");
 //! - `cached`, over the functions of `diagrams`: the text of a run with no walk over all words;
-//! - `fixing`: an option fixed or forgotten (document 02, R-5);
 //! - `calls`: each call with its refusals and every lent slice ("Turned down");
 //! - `join`: the program ("Program").
 //!
-//! The rest makes test cases: `random`, `functions`, `shapes`, `dense`, `case`, `fixes`,
-//! `generate`.
+//! The rest makes test cases: `random`, `functions`, `shapes`, `dense`, `case`, `generate`.
 
 pub mod cached;
 pub mod calls;
@@ -31,8 +29,6 @@ pub mod case;
 pub mod deciding;
 pub mod dense;
 pub mod diagrams;
-pub mod fixes;
-pub mod fixing;
 pub mod functions;
 pub mod generate;
 pub mod join;

@@ -19,9 +19,6 @@ pub const MOST_TRUTH_OPTIONS: u64 = 16;
 /// "The operator is 0 to 15" (The written stream).
 pub const MOST_OPERATOR: u64 = 15;
 
-/// "Cause 2 covers a mode above 3" (document 02, R-5).
-pub const MOST_MODE: u64 = 3;
-
 /// "standard input, at most 65,536 bytes" and "The output lent is 65,536 bytes" (Program).
 pub const MOST_JOB: usize = 65_536;
 pub const JOIN_OUTPUT: usize = 65_536;

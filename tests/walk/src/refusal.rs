@@ -16,7 +16,7 @@ pub struct Refusal {
 }
 
 impl Refusal {
-    /// Causes 1 to 6 and 14 name "stream 0, byte 0".
+    /// Causes 1 to 6 name "stream 0, byte 0".
     pub fn of_call(cause: u64) -> Refusal {
         Refusal {
             cause,
@@ -31,16 +31,6 @@ impl Refusal {
             cause: fault.cause,
             stream,
             byte: fault.byte,
-        }
-    }
-
-    /// Cause 15: "a stream without faults but without its point, ... at its length" (document 02,
-    ///
-    pub fn of_cut(stream: u64, bytes: &[u8]) -> Refusal {
-        Refusal {
-            cause: 15,
-            stream,
-            byte: bytes.len(),
         }
     }
 }

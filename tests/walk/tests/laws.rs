@@ -361,12 +361,11 @@ fn the_list_of_cases() {
     assert!(list.len() >= 5000);
     assert_eq!(list, cases(1, 5000));
     assert_ne!(list, cases(2, 5000));
-    for call in 0..9 {
+    for call in 0..8 {
         assert!(list.iter().filter(|case| case.call() == call).count() >= 100);
     }
-    for cause in 7..=15 {
-        let answers = |case: &Case| !matches!(case, Case::Reader { .. } | Case::Join { .. });
-        let faulty = |case: &&Case| answers(case) && case.expected()[..2] == [1, cause];
+    for cause in 7..=13 {
+        let faulty = |case: &&Case| case.call() < 5 && case.expected()[..2] == [1, cause];
         assert!(list.iter().filter(faulty).count() >= 40, "cause {cause}");
     }
 }

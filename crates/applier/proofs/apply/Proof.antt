@@ -24,7 +24,7 @@ returns c =
     let a = c.before.before.before.before.before.args in
     constant-in c.kept.result c.before.constant.result a.progress false a.t.now a.out.now a.w.now a.c.now
     c.kept.ensures c.before.constant.ensures
-    ∙ applied-past a.op a.size a.d a.i a.m (pair a.fixed a.x a.t1.now a.y a.t2.now) a.c.now a.t.now a.out.now
+    ∙ applied-past a.op a.size a.d a.i a.m (pair a.x a.t1.now a.y a.t2.now) a.c.now a.t.now a.out.now
     a.w.now (progress_of a.progress) _ refl
     (ap (λ (b : Bool). b || ltb level_limit a.i) (lt-ltb option_limit a.d c.before.before.if1.true))
 
@@ -39,7 +39,7 @@ returns-2 c =
     let a = c.before.before.before.before.before.before.args in
     constant-in c.kept2.result c.before.constant2.result a.progress false a.t.now a.out.now a.w.now a.c.now
     c.kept2.ensures c.before.constant2.ensures
-    ∙ applied-past a.op a.size a.d a.i a.m (pair a.fixed a.x a.t1.now a.y a.t2.now) a.c.now a.t.now a.out.now
+    ∙ applied-past a.op a.size a.d a.i a.m (pair a.x a.t1.now a.y a.t2.now) a.c.now a.t.now a.out.now
     a.w.now (progress_of a.progress) _
     (ap (λ (b : Bool). b || ltb level_limit a.i) (le-ltb option_limit a.d (omega (arith, c.before.before.before.if1.false))))
     (lt-ltb level_limit a.i c.before.before.if2.true)
@@ -63,7 +63,7 @@ returns-3 : tie.Need-returns-3
 returns-3 c =
     let a = c.before.before.before.before.before.before.before.before.before.before.before.before.before.before.before.args in
     c.before.before.before.before.before.before.walk.ensures
-    ∙ applied-within a.op a.size a.d a.i a.m (pair a.fixed a.x a.t1.now a.y a.t2.now) a.c.now a.t.now a.out.now
+    ∙ applied-within a.op a.size a.d a.i a.m (pair a.x a.t1.now a.y a.t2.now) a.c.now a.t.now a.out.now
     a.w.now (progress_of a.progress)
     (omega (arith, c.before.before.before.before.before.before.before.before.before.before.before.before.if1.false))
     (omega (arith, c.before.before.before.before.before.before.before.before.before.before.before.if2.false))

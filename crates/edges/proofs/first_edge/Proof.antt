@@ -17,11 +17,11 @@ beside-requires : tie.Need-beside-requires
 beside-requires c κs = search rules
 
 returns : tie.Need-returns
-returns c = λ k v t e.
+returns c = λ t e.
     let b = c.before.before in
     let a = b.before.args in
-    ap (λ (y : TableEdge). edge_in k v y t) c.beside.ensures
-    ∙ first-child k v t a.x.size a.i (record { number = a.x.number; complement = a.x.complement }) a.r e b.bare.result
+    ap (λ (y : TableEdge). edge_in y t) c.beside.ensures
+    ∙ first-child t a.x.size a.i (record { number = a.x.number; complement = a.x.complement }) a.r e b.bare.result
     c.before.first_edge.result b.bare.ensures c.before.first_edge.ensures
 
 pub first-edge-spec : {M : Type 1} → statement M

@@ -5,7 +5,6 @@ use mathlib.Core.Path.{◌∙◌}
 use Rattle.theory_combining.specs.BlockReaders.{deep_of, source_of, ended_of, next_reader}
 use Rattle.theory_combining.specs.EdgeCorrect.{first-inside}
 use Rattle.operands.specs.Abstraction.{operand_on}
-use mathlib.Core.Bool.{false}
 use Rattle.operands.specs.OperandCorrect.{first-gone}
 use Rattle.operands.proofs.first_half.Statement.{statement}
 use Rattle.operands.proofs.first_half.Proof.Tie as tie
@@ -34,7 +33,7 @@ returns-2 : tie.Need-returns-2
 returns-2 c = λ n o s. first-gone n c.before.before.before.before.before.args.i o s c.before.before.before.before.before.args.t.now
     c.before.before.before.before.before.args.f c.at_Edge.result c.before.before.before.before.before.args.b
     c.before.first_edge.result c.before.before.before.Edge-of.result c.at_Edge.ensures c.before.before.before.before.if1.false
-    c.before.before.before.Edge-of.ensures (c.before.first_edge.ensures 0 false c.before.before.before.before.before.args.t.now
+    c.before.before.before.Edge-of.ensures (c.before.first_edge.ensures c.before.before.before.before.before.args.t.now
     c.before.before.get.ensures)
 
 pub first-half-spec : {M : Type 1} → statement M

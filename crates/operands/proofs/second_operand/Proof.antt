@@ -1,7 +1,6 @@
 -- It settles in its text, or goes on from its edge. Assumes nothing.
 mod Lts
 mod Tie
-use mathlib.Core.Bool.{false}
 use Rattle.operands.specs.OperandCorrect.{second-inside, second-gone}
 use Rattle.operands.proofs.second_operand.Statement.{statement}
 use Rattle.operands.proofs.second_operand.Proof.Tie as tie
@@ -30,7 +29,7 @@ returns-2 c = λ n o s. second-gone n c.before.before.before.before.before.args.
     c.before.before.before.before.before.args.t.now c.before.before.before.before.before.args.f c.at_Edge.result
     c.before.before.before.before.before.args.b c.before.second-edge.result c.before.before.before.Edge-of.result
     c.at_Edge.ensures c.before.before.before.before.if1.false c.before.before.before.Edge-of.ensures
-    (c.before.second-edge.ensures 0 false c.before.before.before.before.before.args.t.now c.before.before.get.ensures)
+    (c.before.second-edge.ensures c.before.before.before.before.before.args.t.now c.before.before.get.ensures)
 
 pub second-operand-spec : {M : Type 1} → statement M
 second-operand-spec = tie.close (tie.spec settle-requires returns edge-of-requires get-requires second-edge-requires at-edge-requires returns-2)

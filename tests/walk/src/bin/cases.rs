@@ -46,21 +46,15 @@ fn save(directory: &Path, cases: &[Case]) -> std::io::Result<()> {
     file.flush()
 }
 
-/// The highest cause.
-const CAUSES: usize = 15;
-
-/// Where a bad job is counted.
-const BAD_JOB: usize = CAUSES + 1;
-
-/// A table of calls by outcome: answered (for the reader: the bytes ran out), each cause, and bad
-/// jobs.
+/// A table of calls by outcome: answered (for the reader: the bytes ran out), causes 1 to 13, and
+/// bad jobs.
 fn tally(cases: &[Case]) -> String {
-    let mut counts = [[0u32; BAD_JOB + 1]; NAMES.len()];
+    let mut counts = [[0u32; 15]; NAMES.len()];
     for case in cases {
         counts[case.call()][outcome(case)] += 1;
     }
     let mut text = format!("{:8} {:>5}", "call", "taken");
-    for cause in 1..=CAUSES {
+    for cause in 1..=13 {
         text += &format!(" {cause:>4}");
     }
     text += "  bad\n";
@@ -74,7 +68,7 @@ fn tally(cases: &[Case]) -> String {
     text
 }
 
-/// 0 for an answer, the cause of a refusal, `BAD_JOB` for a bad job.
+/// 0 for an answer, the cause of a refusal, 14 for a bad job.
 fn outcome(case: &Case) -> usize {
     let expected = case.expected();
     let cause = |number: u64| usize::try_from(number).expect("a cause is small");
@@ -88,7 +82,7 @@ fn outcome(case: &Case) -> usize {
                     let number = rest.split(' ').next().and_then(|word| word.parse().ok());
                     cause(number.expect("a refusal has a cause"))
                 }
-                None if text.starts_with("bad job") => BAD_JOB,
+                None if text.starts_with("bad job") => 14,
                 None => 0,
             }
         }

@@ -134,7 +134,7 @@ module _ {M : Type 1} {𝓤 : Ura M} (𝓛 : Logic 𝓤) (mem : Memory → SProp
   Post = (walk_of 𝓛 read.ended stayed (read.clauses 𝓛 mem run)).post (((κ, tt), (q, tt), tt, (d, tt), (mach ∷ [], tt)), tt)
 
   abbrev Own : Fml
-  Own = (B (κ, tt)).own d (mach ∷ [])
+  Own = (B (κ, tt)).own_val d (mach ∷ [])
 
   -- what the callee is passed
   abbrev passed : Vals step.signature (κ, tt)
@@ -176,7 +176,7 @@ module _ {M : Type 1} {𝓤 : Ura M} (𝓛 : Logic 𝓤) (mem : Memory → SProp
       use1 𝓛 (given (stepped_val r ∷ [] ≡ stepped_val r ∷ []) (‵ (all_own (S.the_type).parts S'.the_laws (r.outcome, (r.place, tt)))))
       (own_open 𝓛 S.the_type S'.the_laws (r.outcome, (r.place, tt)) (stepped_val r)) $ learn ! (λ _.
       fsplit ! $ move ! (2 ∷ 1 ∷ []) $ fjoin ! $
-      use1 𝓛 (‵ ((B (κ, tt)).own (after r) (LL.val D L (after r) ∷ []))) (own_shut 𝓛 D L (d.bytes, (r.place, tt))) $
+      use1 𝓛 (‵ ((B (κ, tt)).own_val (after r) (LL.val D L (after r) ∷ []))) (own_shut 𝓛 D L (d.bytes, (r.place, tt))) $
       nothing ! $ move ! (1 ∷ 0 ∷ []) $ fjoin ! $ move ! (1 ∷ 0 ∷ []) $ fjoin ! $
       by ! (own_shut 𝓛 (R.the_type α) (R'.the_laws α) (r.outcome, (after r, tt)))))
 
