@@ -1,4 +1,6 @@
 // What the calls that read answer.
+#![tactic(auto)]
+
 ghost use Rattle.std.specs.Prelude.{◌≡◌};
 ghost use Rattle.theory_reading.specs.Causes.{refusal};
 ghost use Rattle.elements.specs.Abstraction.{cause_of};
@@ -7,7 +9,7 @@ ghost use Rattle.answers.specs.Answers.{refusal_of};
 use elements::Cause;
 
 // Why a call is turned down: the cause, the stream (0: none) and the byte.
-#[derive(Drop)]
+#[derive(Clone, Copy)]
 pub struct Refusal {
     pub cause: Cause,
     pub stream: u32,
@@ -15,14 +17,14 @@ pub struct Refusal {
 }
 
 // What checking answers: the declared size (0 while unfinished), the covered count, and whether the stream has its point.
-#[derive(Drop)]
+#[derive(Clone, Copy)]
 pub struct Checked {
     pub size: u32,
     pub covered: u64,
     pub complete: bool,
 }
 
-#[derive(Drop)]
+#[derive(Clone, Copy)]
 pub enum Checking {
     Refused(Refusal),
     Done(Checked),
@@ -39,35 +41,35 @@ pub fn early(c: Cause) -> Refusal
     }
 }
 
-#[derive(Drop)]
+#[derive(Clone, Copy)]
 pub enum Verdict {
     No,
     Yes,
     NotYet,
 }
 
-#[derive(Drop)]
+#[derive(Clone, Copy)]
 pub enum Deciding {
     Refused(Refusal),
     Done(Verdict),
 }
 
 // A word; none, as all words are covered; or not known.
-#[derive(Drop)]
+#[derive(Clone, Copy)]
 pub enum NextWord {
     Word(u64),
     NoWord,
     NotKnown,
 }
 
-#[derive(Drop)]
+#[derive(Clone, Copy)]
 pub enum Finding {
     Refused(Refusal),
     Done(NextWord),
 }
 
 // What filling answers: the covered count.
-#[derive(Drop)]
+#[derive(Clone, Copy)]
 pub enum Filling {
     Refused(Refusal),
     Done(u64),

@@ -1,4 +1,6 @@
 // Combining stored nodes: two inputs at edges of their own tables are walked together, with an operation cache of the parts that were walked.
+#![tactic(auto)]
+
 ghost use Rattle.std.specs.Prelude.{◌≡◌, false, not, ◌&&◌, [], ◌∷◌, ◌+◌, ◌≤◌};
 ghost use Rattle.theory_reading.specs.Limits.{option_limit, level_limit};
 ghost use Rattle.theory_writing.specs.Run.{operate};

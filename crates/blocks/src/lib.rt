@@ -1,4 +1,6 @@
 // Reading a stream block by block, or whole into its table.
+#![tactic(auto)]
+
 ghost use Rattle.std.specs.Prelude.{◌≡◌, List, ◌+◌, ◌-◌, ◌≤◌};
 ghost use Rattle.theory_reading.specs.Covered.{parity};
 ghost use Rattle.theory_reading.specs.Deciding.{ended};
@@ -72,7 +74,7 @@ pub fn below(n: u32, d: usize) -> u32
 
 // The words that one element passes: the first of them, how many nodes are open around them, and what they stand for: a number (0: the terminal),
 // turned about or not. The cursor stands behind them. Halted: reading has come to its end, and no words were passed.
-#[derive(Drop)]
+#[derive(Clone, Copy)]
 pub struct Block {
     pub cursor: Cursor,
     pub from: u64,
@@ -238,7 +240,7 @@ fn put_spine(
 // ---- A whole stream
 
 // One number that stands for all that was read, and the size of its table; not whole: there is none.
-#[derive(Drop)]
+#[derive(Clone, Copy)]
 struct Rooting {
     size: u32,
     number: u32,
@@ -393,7 +395,7 @@ fn root(t: &mut [NodeRecord], o: &[[u32; 4]; OPEN_LIMIT], r: Reached) -> Rooting
 
 // A stream that was read to its end: what checking answers, and a block. Whole: no fault was met, and in the table, of the size of the block's cursor, the
 // block's number stands for the outermost node, as far as it was read; what was not read counts as the terminal.
-#[derive(Drop)]
+#[derive(Clone, Copy)]
 pub struct Loaded {
     pub checking: Checking,
     pub block: Block,

@@ -1,4 +1,6 @@
 // What the calls of the reader answer, as C has it: numbers, as `include/rule.h` declares them.
+#![tactic(auto)]
+
 ghost use Rattle.std.specs.Prelude.{◌≡◌};
 ghost use Rattle.theory_lists.specs.Lists.{bit};
 ghost use Rattle.theory_reading.specs.Causes.{cause_row};
@@ -14,7 +16,7 @@ use answers::{Checking, Deciding, Filling, Finding, NextWord, Verdict};
 use elements::Cause;
 
 #[repr(C)]
-#[derive(Drop)]
+#[derive(Clone, Copy)]
 pub struct RuleChecked {
     pub cause: u32,
     pub stream: u32,
@@ -25,7 +27,7 @@ pub struct RuleChecked {
 }
 
 #[repr(C)]
-#[derive(Drop)]
+#[derive(Clone, Copy)]
 pub struct RuleDecided {
     pub cause: u32,
     pub stream: u32,
@@ -35,7 +37,7 @@ pub struct RuleDecided {
 }
 
 #[repr(C)]
-#[derive(Drop)]
+#[derive(Clone, Copy)]
 pub struct RuleFound {
     pub cause: u32,
     pub stream: u32,
@@ -46,7 +48,7 @@ pub struct RuleFound {
 }
 
 #[repr(C)]
-#[derive(Drop)]
+#[derive(Clone, Copy)]
 pub struct RuleFilled {
     pub cause: u32,
     pub stream: u32,

@@ -1,4 +1,6 @@
 // Checking a stream, and how a call is turned down.
+#![tactic(auto)]
+
 ghost use Rattle.std.specs.Prelude.{◌≡◌, []};
 ghost use Rattle.theory_reading.specs.Causes.{refusal};
 ghost use Rattle.theory_reading.specs.Calls.{Checks};

@@ -1,4 +1,6 @@
 // Combining two streams by an operator: the call.
+#![tactic(auto)]
+
 ghost use Rattle.std.specs.Prelude.{◌≡◌, cond, eqb, length, replicate, ◌≤◌, ◌^◌};
 ghost use Rattle.theory_reading.specs.Limits.{option_limit};
 ghost use Rattle.theory_reading.specs.Causes.{refusal, refused, done};
@@ -44,7 +46,7 @@ fn answer(n: u32, covered: u64, x: Sent) -> Written
 }
 
 // Both streams checked: the refusal, or how many words each covers
-#[derive(Drop)]
+#[derive(Clone, Copy)]
 struct Both {
     faulty: bool,
     refusal: Refusal,

@@ -1,4 +1,6 @@
 // How many words a run covers: up to the least word that is not settled.
+#![tactic(auto)]
+
 ghost use Rattle.std.specs.Prelude.{◌≡◌, ◌&&◌, min};
 ghost use Rattle.theory_combining.specs.Entering.{ignores_first, ignores_second};
 ghost use Rattle.answers.specs.Answers.{checking_of};
@@ -46,7 +48,7 @@ fn ignores_both(op: u32) -> bool
 // ---- Loading both streams
 
 // A word that was found while a stream was loaded, if one was sought.
-#[derive(Drop)]
+#[derive(Clone, Copy)]
 pub struct Found {
     pub known: bool,
     pub word: u64,
@@ -62,7 +64,7 @@ fn none_sought() -> Found
 }
 
 // What loading both streams comes to; in each, the least word past the other's end that leaves the result open, if it was sought.
-#[derive(Drop)]
+#[derive(Clone, Copy)]
 pub struct LoadedBoth {
     pub first: Loaded,
     pub second: Loaded,
@@ -71,7 +73,7 @@ pub struct LoadedBoth {
 }
 
 // What loading one of them comes to
-#[derive(Drop)]
+#[derive(Clone, Copy)]
 struct LoadedBeside {
     loaded: Loaded,
     found: Found,

@@ -1,11 +1,13 @@
 // Where the reading of a stream stands: what it has come to, and how many nodes are open.
+#![tactic(auto)]
+
 ghost use Rattle.std.specs.Prelude.{◌≡◌};
 ghost use Rattle.cursors.specs.Cursors.{is_kept_of, first_run, start_cursor};
 
 use elements::{Context, Ref};
 
 // The children of the two-child node that ended last, and whether a `~` stands between them.
-#[derive(Drop)]
+#[derive(Clone, Copy)]
 pub struct Pair {
     pub complement: bool,
     pub first: Ref,
@@ -14,7 +16,7 @@ pub struct Pair {
 
 // What reading has come to, but for the open nodes and the table: the place, the declared size, the covered count, a leading `~`,
 // and the children of the two-child node that ended last.
-#[derive(Drop)]
+#[derive(Clone, Copy)]
 pub struct Run {
     pub last: Ref,
     pub pair: Pair,
@@ -60,7 +62,7 @@ fn first_run() -> Run
 }
 
 // Where the reading of a stream stands: what it has come to, and how many nodes are open, which are lent beside it.
-#[derive(Drop)]
+#[derive(Clone, Copy)]
 pub struct Cursor {
     pub run: Run,
     pub depth: usize,

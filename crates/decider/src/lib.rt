@@ -1,4 +1,6 @@
 // Deciding a word.
+#![tactic(auto)]
+
 ghost use Rattle.std.specs.Prelude.{◌≡◌, [], ◌+◌, ◌≤◌};
 ghost use Rattle.theory_reading.specs.Limits.{option_limit, open_limit};
 ghost use Rattle.theory_reading.specs.Deciding.{decided, complemented, options};

@@ -1,4 +1,6 @@
 // Writing and combining for C, as `include/rule.h` declares it.
+#![tactic(auto)]
+
 ghost use Rattle.std.specs.Prelude.{◌≡◌};
 ghost use Rattle.meeting.specs.Abstraction.{endings_of, writing_of};
 ghost use Rattle.desk.specs.Numbers.{ending_number, written_numbers, write_given, combine_given};
@@ -7,7 +9,7 @@ use meeting::{Ending, Writing};
 use node_records::{NodeRecord, WriterRecord};
 
 #[repr(C)]
-#[derive(Drop)]
+#[derive(Clone, Copy)]
 pub struct RuleWritten {
     pub cause: u32,
     pub stream: u32,

@@ -1,4 +1,6 @@
 // Inputs at edges of their own tables: at the two halves of a part, and where terminals fix what the operator gives.
+#![tactic(auto)]
+
 ghost use Rattle.std.specs.Prelude.{◌≡◌, true, ◌&&◌, ◌||◌, List, [], ◌∷◌, eqb, ltb};
 ghost use Rattle.theory_writing.specs.Run.{operate};
 ghost use Rattle.work_table.specs.Table.{get_in};
@@ -13,7 +15,7 @@ use operators::{opens_first, opens_second};
 // ---- Edges
 
 // An input at an edge of its own table, which has so many numbers: a number (0: the terminal), turned about or not
-#[derive(Drop)]
+#[derive(Clone, Copy)]
 pub struct TableEdge {
     pub number: u32,
     pub complement: bool,

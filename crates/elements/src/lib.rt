@@ -1,3 +1,5 @@
+#![tactic(auto)]
+
 ghost use Rattle.std.specs.Prelude.{◌≡◌};
 ghost use Rattle.theory_reading.specs.Reading.{context_number, is_context};
 ghost use Rattle.elements.specs.Abstraction.{context_of};
@@ -9,7 +11,7 @@ pub const OPEN_LIMIT: usize = 32;
 // The last place among them.
 pub const LAST_OPEN: usize = OPEN_LIMIT - 1;
 
-#[derive(Drop)]
+#[derive(Clone, Copy)]
 pub enum Element {
     Opening,
     Number(u32),
@@ -21,7 +23,7 @@ pub enum Element {
 }
 
 // What stands before a place.
-#[derive(Drop)]
+#[derive(Clone, Copy)]
 pub enum Context {
     Start,
     Lead,
@@ -34,14 +36,14 @@ pub enum Context {
 
 // What a node refers to: a number with its stamp; with the number 0 the terminal, if the stamp is 0 too, else nothing that stays.
 #[repr(C)]
-#[derive(Drop)]
+#[derive(Clone, Copy)]
 pub struct Ref {
     pub number: u32,
     pub stamp: u32,
 }
 
 // The causes of document 01, 1 to 13.
-#[derive(Drop)]
+#[derive(Clone, Copy)]
 pub enum Cause {
     OptionCount,
     OperatorCode,
@@ -58,7 +60,7 @@ pub enum Cause {
     BadNumber,
 }
 
-#[derive(Drop)]
+#[derive(Clone, Copy)]
 pub enum Outcome {
     Got(Element),
     Fault(Cause, usize),
@@ -88,7 +90,7 @@ pub fn is_context(m: Context, k: Context) -> bool
 
 // An open node: whether its second child has begun; what its first child was, and whether a `~` stands after it.
 #[repr(C)]
-#[derive(Drop)]
+#[derive(Clone, Copy)]
 pub struct Open {
     pub first: Ref,
     pub second: bool,
@@ -97,7 +99,7 @@ pub struct Open {
 
 // The open nodes, the outermost first, and how many there are.
 #[repr(C)]
-#[derive(Drop)]
+#[derive(Clone, Copy)]
 pub struct Opens {
     pub nodes: [Open; OPEN_LIMIT],
     pub depth: usize,
@@ -130,7 +132,7 @@ pub fn begun(r: Ref, t: bool) -> Open
 }
 
 // Where the entry of the innermost of d open nodes stands, and the one after it.
-#[derive(Drop)]
+#[derive(Clone, Copy)]
 pub struct Spots {
     pub low: usize,
     pub high: usize,

@@ -1,4 +1,6 @@
 // Filling a truth table.
+#![tactic(auto)]
+
 ghost use Rattle.std.specs.Prelude.{◌≡◌, ◌+◌, ◌/◌, ◌^◌, ◌≤◌, ◌&&◌, length, replicate, if◌then◌else◌, nat_eq};
 ghost use Rattle.std.proofs.Math.Option.{none};
 ghost use Rattle.theory_reading.specs.Limits.{option_limit, open_limit, table_limit, truth_table_least, truth_table_most, truth_limit};

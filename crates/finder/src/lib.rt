@@ -1,4 +1,6 @@
 // Finding the next admitted word, and searching a stream or its table for a word of either value.
+#![tactic(auto)]
+
 ghost use Rattle.std.specs.Prelude.{◌≡◌, [], ◌+◌, ◌-◌, ◌<◌, ◌≤◌, ◌^◌, length, replicate};
 ghost use Rattle.theory_reading.specs.Limits.{option_limit, open_limit, table_limit, word_limit};
 ghost use Rattle.theory_reading.specs.Calls.{FindsNext};
@@ -121,7 +123,7 @@ fn word_at(
 }
 
 // What the search reaches: where reading stands, and the word that it found there, unless reading halted.
-#[derive(Drop)]
+#[derive(Clone, Copy)]
 struct Sought {
     reached: Reached,
     word: u64,
@@ -297,7 +299,7 @@ pub fn search_text(n: u32, s: &[u8], w: u64, v: bool, t: &mut [NodeRecord]) -> u
 }
 
 // A stream that was loaded, and the word that the search in it comes to.
-#[derive(Drop)]
+#[derive(Clone, Copy)]
 pub struct LoadedFrom {
     pub loaded: Loaded,
     pub word: u64,

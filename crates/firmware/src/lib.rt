@@ -1,4 +1,6 @@
 // Checking, deciding, finding the next admitted word and filling for C, as `include/rule.h` declares them.
+#![tactic(auto)]
+
 ghost use Rattle.std.specs.Prelude.{◌≡◌};
 ghost use Rattle.firmware.specs.Numbers.{check_given, decide_given, next_given, fill_given};
 

@@ -1,5 +1,7 @@
 // A rule's bytes with how far they have been read. A struct that holds a reference is proved by hand, so its functions are thin:
 // the work is done by `Place` and by `rest_of`, which take plain slices.
+#![tactic(auto)]
+
 ghost use Rattle.std.specs.Prelude.{◌≡◌};
 ghost use Rattle.held_reader.specs.Abstraction.{reader_of, read_of};
 ghost use Rattle.held_reader.specs.Held.{first_in, read_next, left_in, left_of};
@@ -8,14 +10,14 @@ use elements::Outcome;
 use places::Place;
 
 // A rule's bytes, and the place up to which they have been read.
-#[derive(Drop)]
+#[derive(Clone, Copy)]
 pub struct Reader<'a> {
     pub bytes: &'a [u8],
     pub place: Place,
 }
 
 // What one element on comes to, and the reader after it: at the old place, unless an element was given.
-#[derive(Drop)]
+#[derive(Clone, Copy)]
 pub struct Read<'a> {
     pub outcome: Outcome,
     pub reader: Reader<'a>,

@@ -1,4 +1,6 @@
 // The job of the program `join`, read from its text.
+#![tactic(auto)]
+
 ghost use Rattle.std.specs.Prelude.{◌≡◌, [], ◌∷◌, length, ◌<◌, ◌≤◌};
 ghost use Rattle.theory_reading.specs.Bytes.{is_digit, line_feed, blank};
 ghost use Rattle.theory_writing.specs.Join.{pieces, same_bytes, operator_names, operator_of, value_on, number_of, five_lines};
@@ -23,7 +25,7 @@ fn cut(s: &[u8], c: u8, i: usize) -> usize
 }
 
 // The input is five lines; where the first, the third and the fifth end
-#[derive(Drop)]
+#[derive(Clone, Copy)]
 struct Lines {
     five: bool,
     first: usize,
@@ -76,7 +78,7 @@ fn five_lines(s: &[u8]) -> Lines
 }
 
 // What a field says
-#[derive(Drop)]
+#[derive(Clone, Copy)]
 enum Field {
     Value(u32),
     Nothing,
@@ -129,7 +131,7 @@ fn number(l: &[u8]) -> Field
 }
 
 // A named operator: the first bytes of `name`, as many as `length` says, are its name.
-#[derive(Drop)]
+#[derive(Clone, Copy)]
 struct NamedOperator {
     name: [u8; 4],
     length: usize,
@@ -229,7 +231,7 @@ fn operator(l: &[u8]) -> Field
 }
 
 // The first line: option count, operator, table size
-#[derive(Drop)]
+#[derive(Clone, Copy)]
 struct Heading {
     known: bool,
     n: u32,
@@ -297,7 +299,7 @@ pub const JOB_LIMIT: usize = 65536;
 
 // Option count, operator and table size; where the first, the third and the fifth line end. Stream 1 stands between the first two
 // places, stream 2 between the last two.
-#[derive(Drop)]
+#[derive(Clone, Copy)]
 pub struct Job {
     pub n: u32,
     pub op: u32,
@@ -307,7 +309,7 @@ pub struct Job {
     pub fifth: usize,
 }
 
-#[derive(Drop)]
+#[derive(Clone, Copy)]
 pub enum Parsing {
     Good(Job),
     Bad,

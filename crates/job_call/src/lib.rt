@@ -1,4 +1,6 @@
 // The call that a job makes: combining with work tables of its own.
+#![tactic(auto)]
+
 ghost use Rattle.std.specs.Prelude.{◌≡◌};
 ghost use Rattle.meeting.specs.Abstraction.{writing_of};
 ghost use Rattle.job_call.specs.Called.{own_call};

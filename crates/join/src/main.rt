@@ -1,4 +1,6 @@
 // The program `join`: a job from standard input, its report to standard output. What fails is said on standard error.
+#![tactic(auto)]
+
 ghost use Rattle.std.specs.Prelude.{◌≡◌, length, take, ◌≤◌};
 ghost use Rattle.std.proofs.Math.Option.{some};
 ghost use Rattle.theory_writing.specs.Join.{answered, join};
@@ -47,7 +49,7 @@ fn answer(input: &[u8], w: &mut [u8; REPORT_LIMIT]) -> usize
 // ---- The program
 
 // How many bytes came in
-#[derive(Drop)]
+#[derive(Clone, Copy)]
 enum Got {
     Bytes(usize),
     Failed,

@@ -1,4 +1,6 @@
 // Two halves meet: the five rules, over records, waiting text and output; and what a call answers.
+#![tactic(auto)]
+
 ghost use Rattle.std.specs.Prelude.{◌≡◌, cond, true, false, []};
 ghost use Rattle.theory_writing.specs.Run.{whole, input_ended, output_full};
 ghost use Rattle.theory_engine.specs.Engine.{is_stale, alike_constant, alike_number, barred_half, spaced, send_node, write_temporary, give_in, known_in};
@@ -14,7 +16,7 @@ use writer_numbers::{either, one_more};
 // ---- Halves
 
 // What a part came to: the number (0: the constant, or a temporary node), its stamp, the levels skipped
-#[derive(Drop)]
+#[derive(Clone, Copy)]
 pub struct Half {
     pub number: u32,
     pub stamp: u32,
@@ -25,7 +27,7 @@ pub struct Half {
 }
 
 // How far the writer is: the numbers given out, the ends of the queue, the bytes written; more was sent than the output holds
-#[derive(Drop)]
+#[derive(Clone, Copy)]
 pub struct Progress {
     pub written: usize,
     pub given: u32,
@@ -34,7 +36,7 @@ pub struct Progress {
     pub full: bool,
 }
 
-#[derive(Drop)]
+#[derive(Clone, Copy)]
 pub struct Walked {
     pub progress: Progress,
     pub half: Half,
@@ -394,7 +396,7 @@ pub fn done(m: usize, r: Walked, out: &mut [u8], w: &mut [u8]) -> Sent
 // ---- What a call answers
 
 // How a run ends
-#[derive(Drop)]
+#[derive(Clone, Copy)]
 pub enum Ending {
     Whole,
     InputEnded,
@@ -402,14 +404,14 @@ pub enum Ending {
 }
 
 // The answer: bytes written, covered count, ending
-#[derive(Drop)]
+#[derive(Clone, Copy)]
 pub struct Written {
     pub bytes: usize,
     pub covered: u64,
     pub ending: Ending,
 }
 
-#[derive(Drop)]
+#[derive(Clone, Copy)]
 pub enum Writing {
     Refused(Refusal),
     Done(Written),

@@ -1,4 +1,6 @@
 // The records of work tables by value, the edges of a stored node, and the limits of the code.
+#![tactic(auto)]
+
 ghost use Rattle.std.specs.Prelude.{◌≡◌, cond, ◌||◌, eqb, ltb, min};
 ghost use Rattle.theory_lists.specs.Lists.{differ};
 ghost use Rattle.node_records.specs.Edges.{first_edge, second_edge};
@@ -38,7 +40,7 @@ pub fn bit(c: bool) -> u32
 // A record of a work table for reading: the level (0: none), the children, whether the edge to the second is complemented (0: it is not), how often the
 // number was given out, how many records have it as a child, and whether some word below the node is yes and whether some is no (0: none is).
 #[repr(C)]
-#[derive(Drop)]
+#[derive(Clone, Copy)]
 pub struct NodeRecord {
     pub level: u32,
     pub first: u32,
@@ -53,7 +55,7 @@ pub struct NodeRecord {
 // A record of a work table for writing: a number's node as above; the numbers after and before it in the recycling queue, and in its bucket of the unique
 // table; and the first and the last number of the bucket that has this place.
 #[repr(C)]
-#[derive(Drop)]
+#[derive(Clone, Copy)]
 pub struct WriterRecord {
     pub level: u32,
     pub first: u32,
@@ -106,7 +108,7 @@ pub fn no_writer_record() -> WriterRecord
 // ---- Edges
 
 // What a node stands for: a number (0: the terminal), turned about or not.
-#[derive(Drop)]
+#[derive(Clone, Copy)]
 pub struct Edge {
     pub number: u32,
     pub complement: bool,

@@ -1,4 +1,6 @@
 // The inputs of a run: each is inside its text, at the block that was read last, or at an edge of its own table.
+#![tactic(auto)]
+
 ghost use Rattle.std.specs.Prelude.{◌≡◌, false, cond, not, ◌&&◌, List, ℕ, ◌+◌};
 ghost use Rattle.theory_applying.specs.Operands.{settle, first_operand, second_operand};
 ghost use Rattle.theory_combining.specs.BlockReaders.{deep_of, source_of, ended_of, next_reader};
@@ -14,7 +16,7 @@ use node_records::NodeRecord;
 use work_table::get as record_at;
 
 // An input at a part: inside its text, at the block that was read last, which begins with the part and is smaller; or at an edge
-#[derive(Drop)]
+#[derive(Clone, Copy)]
 pub struct Operand {
     pub inside: bool,
     pub number: u32,
@@ -22,7 +24,7 @@ pub struct Operand {
 }
 
 // With the block that was read last
-#[derive(Drop)]
+#[derive(Clone, Copy)]
 pub struct Begun {
     pub operand: Operand,
     pub block: Block,

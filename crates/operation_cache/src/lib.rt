@@ -1,4 +1,6 @@
 // The operation cache: what parts of the walk over stored nodes came to.
+#![tactic(auto)]
+
 ghost use Rattle.std.specs.Prelude.{◌≡◌, false, true, ◌||◌, [], ◌∷◌, get_or, set, ◌-◌};
 ghost use Rattle.theory_lists.specs.Lists.{bit};
 ghost use Rattle.theory_applying.specs.Memo.{slot_of};
@@ -23,7 +25,7 @@ const EDGE_SPAN: u64 = 2 * NUMBER_SPAN;
 // number, stamp and 1 for turned about of each input's edge
 
 // What a part is remembered by
-#[derive(Drop)]
+#[derive(Clone, Copy)]
 pub struct Key {
     pub number1: u32,
     pub stamp1: u32,
@@ -83,7 +85,7 @@ fn is_held(r: [u32; 9], k: Key) -> bool
 }
 
 // What is known of a part, if anything
-#[derive(Drop)]
+#[derive(Clone, Copy)]
 pub struct Told {
     pub known: bool,
     pub half: Half,

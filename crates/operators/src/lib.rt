@@ -1,4 +1,6 @@
 // The operators: what each gives for two decisions, by its truth table, and whether a decision counts for it.
+#![tactic(auto)]
+
 ghost use Rattle.std.specs.Prelude.{◌≡◌, cond, [], ◌∷◌};
 ghost use Rattle.theory_writing.specs.Run.{operate};
 ghost use Rattle.operators.specs.Operators.{opens_first, opens_second};

@@ -1,4 +1,6 @@
 // The text that waits, and the output.
+#![tactic(auto)]
+
 ghost use Rattle.std.specs.Prelude.{◌≡◌, cond, [], ◌∷◌, replicate, ◌-◌};
 ghost use Rattle.theory_reading.specs.Bytes.{blank};
 ghost use Rattle.theory_writing.specs.Texts.{decimal, tilde_if, storing};
@@ -98,7 +100,7 @@ fn less(a: usize, b: usize) -> usize
 }
 
 // The bytes written; more was sent than the output holds
-#[derive(Drop)]
+#[derive(Clone, Copy)]
 pub struct Sent {
     pub written: usize,
     pub full: bool,

@@ -1,3 +1,5 @@
+#![tactic(auto)]
+
 ghost use Rattle.std.specs.Prelude.{◌≡◌};
 ghost use Rattle.theory_reading.specs.Element.{begin, step};
 ghost use Rattle.scanner.specs.Capped.{cap_step};
@@ -9,7 +11,7 @@ use kinds::kinds;
 use scanner::{NextToken, Token, next_token};
 
 // A place in a stream: the bytes before it, what stands there, the open nodes, what ended last.
-#[derive(Drop)]
+#[derive(Clone, Copy)]
 pub struct Place {
     pub at: usize,
     pub context: Context,
@@ -18,7 +20,7 @@ pub struct Place {
 }
 
 // What a step comes to, and the place after it: the old one, unless an element was given.
-#[derive(Drop)]
+#[derive(Clone, Copy)]
 pub struct Stepped {
     pub outcome: Outcome,
     pub place: Place,

@@ -1,3 +1,5 @@
+#![tactic(auto)]
+
 ghost use Rattle.std.specs.Prelude.{◌≡◌, ◌+◌, ◌-◌, ◌<◌, ◌≤◌, ◌^◌};
 ghost use Rattle.theory_reading.specs.Limits.{option_limit, open_limit, word_limit};
 ghost use Rattle.theory_reading.specs.StepLaws.{digit_place};
@@ -23,7 +25,7 @@ use work_table::{get, store};
 // ---- One element more
 
 // An element taken: what reading has come to; the fault, if there is one; whether its number is the size, or is stored.
-#[derive(Drop)]
+#[derive(Clone, Copy)]
 struct Taken {
     run: Run,
     byte: usize,
@@ -366,7 +368,7 @@ fn update_table(t: &mut [NodeRecord], r: Run, d: u32, k: u32, x: NodeRecord, y: 
 
 // An iteration of the loop: what reading has come to, how many nodes are open, the entry of the innermost before it, whether it went on, and the fault if
 // there is one.
-#[derive(Drop)]
+#[derive(Clone, Copy)]
 struct Iteration {
     run: Run,
     depth: usize,
@@ -509,7 +511,7 @@ fn iterate(
 
 // What the loop has reached: what reading has come to, and how many nodes are open; the covered count and the open nodes before the last element;
 // whether it halted, and the fault if there is one.
-#[derive(Drop)]
+#[derive(Clone, Copy)]
 pub struct Reached {
     pub run: Run,
     pub depth: usize,
@@ -557,7 +559,7 @@ fn put_open(o: &mut [[u32; 4]; OPEN_LIMIT], d: usize, e: Open)
 
 // The loop reads on while no more than `stop` words are covered. If it seeks words, odd: whether an odd number of open nodes turns about; noes: it seeks
 // words that are no, not words that are yes
-#[derive(Drop)]
+#[derive(Clone, Copy)]
 struct Goal {
     stop: u64,
     odd: bool,

@@ -1,4 +1,6 @@
 // Lent rows of the records of work tables: reading, writing and clearing them.
+#![tactic(auto)]
+
 ghost use Rattle.std.specs.Prelude.{◌≡◌, length};
 ghost use Rattle.node_records.specs.Records.{no_record, no_writer_record};
 ghost use Rattle.record_tables.specs.Entries.{entry_at, put_entry, clear_to};

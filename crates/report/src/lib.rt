@@ -1,4 +1,6 @@
 // The report of the program `join`: into a lent buffer, as far as it has room.
+#![tactic(auto)]
+
 ghost use Rattle.std.specs.Prelude.{◌≡◌, [], ◌∷◌, length, min, ◌+◌, ◌^◌, ◌≤◌};
 ghost use Rattle.theory_reading.specs.Limits.{option_limit};
 ghost use Rattle.theory_reading.specs.Bytes.{text};
@@ -19,7 +21,7 @@ pub const LINE_LIMIT: usize = 80;
 
 // ---- The last line, made apart: its first bytes count
 
-#[derive(Drop)]
+#[derive(Clone, Copy)]
 struct Line {
     bytes: [u8; LINE_LIMIT],
     count: usize,

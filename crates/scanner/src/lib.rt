@@ -1,3 +1,5 @@
+#![tactic(auto)]
+
 ghost use Rattle.std.specs.Prelude.{◌≡◌, cond, ◌+◌, ◌*◌, ◌-◌, ◌<◌, ◌≤◌, length, get_or};
 ghost use Rattle.std.proofs.Math.ListN.{get_elem?};
 ghost use Rattle.theory_reading.specs.Bytes.{digit_zero};
@@ -29,7 +31,7 @@ const DIGIT_ZERO: u8 = b'0';
 // ---- Tokens
 
 // The innermost open node: none is open; its first child is not done; it is.
-#[derive(Drop)]
+#[derive(Clone, Copy)]
 enum Top {
     Empty,
     Inner,
@@ -37,7 +39,7 @@ enum Top {
 }
 
 // Where a place stands: at the size, where a node begins, where one has ended, past the point.
-#[derive(Drop)]
+#[derive(Clone, Copy)]
 enum Stage {
     First,
     Node,
@@ -46,7 +48,7 @@ enum Stage {
 }
 
 // What a step comes to, without its numbers: one of the elements, a fault, or that the bytes ran out.
-#[derive(Drop)]
+#[derive(Clone, Copy)]
 pub enum Token {
     Opening,
     Number,
@@ -61,7 +63,7 @@ pub enum Token {
 
 // A step by little: what it comes to, with the element's number or the fault, and the place after it: how many nodes are open then, whether the second child of the
 // innermost begins, and after a `~`.
-#[derive(Drop)]
+#[derive(Clone, Copy)]
 struct ScannedToken {
     byte: usize,
     at: usize,
@@ -77,7 +79,7 @@ struct ScannedToken {
 // ---- Numbers
 
 // The number whose first digit stands at a place: its value and the place after it, if it is read.
-#[derive(Drop)]
+#[derive(Clone, Copy)]
 struct Num {
     value: u32,
     next: usize,
@@ -529,7 +531,7 @@ fn deep(d: usize) -> usize
 
 // What a scan of the bytes comes to: the outcome with its number, the place after it, how many nodes are open then, and the entry of the innermost
 // before it.
-#[derive(Drop)]
+#[derive(Clone, Copy)]
 pub struct NextToken {
     pub byte: usize,
     pub at: usize,

@@ -1,4 +1,6 @@
 // The reader that steps, for C, as `include/rule.h` declares it.
+#![tactic(auto)]
+
 ghost use Rattle.std.specs.Prelude.{◌≡◌};
 ghost use Rattle.theory_reading.specs.Element.{begin, step};
 ghost use Rattle.scanner.specs.Capped.{cap_step};
@@ -11,7 +13,7 @@ use elements::{Context, Element, Opens, Outcome, Ref, context_number};
 use places::Place;
 
 #[repr(C)]
-#[derive(Drop)]
+#[derive(Clone, Copy)]
 pub struct RulePlace {
     pub at: usize,
     pub context: u32,
@@ -20,7 +22,7 @@ pub struct RulePlace {
 }
 
 #[repr(C)]
-#[derive(Drop)]
+#[derive(Clone, Copy)]
 pub struct RuleStepped {
     pub outcome: u32,
     pub element: u32,

@@ -1,4 +1,6 @@
 // Combining texts: two streams are read on together, block by block, and walked over their stored nodes from there.
+#![tactic(auto)]
+
 ghost use Rattle.std.specs.Prelude.{◌≡◌, true, false, not, ◌||◌, [], ◌∷◌, eqb, ltb, ◌+◌, ◌-◌, ◌<◌, ◌≤◌, ◌^◌};
 ghost use Rattle.theory_reading.specs.Limits.{option_limit, level_limit, word_limit};
 ghost use Rattle.theory_writing.specs.Run.{head, operate};
@@ -21,7 +23,7 @@ use pending_text::{Sent, push, push_number, push_tilde, send, wait};
 // ---- The walk
 
 // What is combined: the option count, the operator, the size to write, how many words are covered
-#[derive(Drop)]
+#[derive(Clone, Copy)]
 pub struct Task {
     pub n: u32,
     pub op: u32,
@@ -50,7 +52,7 @@ fn at_edges(k: Task, d: u32, at: u64, f: Operand, g: Operand) -> bool
 }
 
 // What a part came to, with the block of each input that was read last; the first word that is not covered was met
-#[derive(Drop)]
+#[derive(Clone, Copy)]
 struct Applied {
     ended: bool,
     walked: Walked,
@@ -133,7 +135,7 @@ fn second_on(
 }
 
 // Between the halves: the first half, the progress after it, the `~` of the second, and how many bytes wait
-#[derive(Drop)]
+#[derive(Clone, Copy)]
 struct Gap {
     half: Half,
     progress: Progress,

@@ -1,4 +1,6 @@
 // The unique table and its recycling queue in lent records.
+#![tactic(auto)]
+
 ghost use Rattle.std.specs.Prelude.{◌≡◌};
 ghost use Rattle.theory_engine.specs.Cells.{cell};
 ghost use Rattle.writer_records.specs.Fields.{level_field, stamp_field, queue_field, bucket_field};
@@ -16,7 +18,7 @@ use writer_records::{
 // ---- Numbers linked both ways
 
 // The first and the last of those that are linked; 0: none
-#[derive(Drop)]
+#[derive(Clone, Copy)]
 pub struct Ends {
     pub first: u32,
     pub last: u32,

@@ -1,4 +1,6 @@
 // The reader's work table: a lent row of records, one for each number.
+#![tactic(auto)]
+
 ghost use Rattle.std.specs.Prelude.{◌≡◌};
 ghost use Rattle.work_table.specs.Table.{get_in, counted_to, counted_record, count_at, store_at};
 

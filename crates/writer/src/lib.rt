@@ -1,4 +1,6 @@
 // Writing the stream of a truth table.
+#![tactic(auto)]
+
 ghost use Rattle.std.specs.Prelude.{◌≡◌, cond, eqb, get_or, ◌+◌, ◌≤◌, ◌^◌};
 ghost use Rattle.theory_reading.specs.Limits.{option_limit, truth_table_most, level_limit, truth_limit};
 ghost use Rattle.theory_writing.specs.Run.{whole, input_ended, output_full};

@@ -1,4 +1,6 @@
 // Numbers of the unique table: one of two, one more and one less, whether one is free; and how a node's bucket is mixed.
+#![tactic(auto)]
+
 ghost use Rattle.std.specs.Prelude.{◌≡◌, cond, not, ◌||◌, eqb, ◌-◌};
 ghost use Rattle.writer_numbers.specs.Hashing.{stir, bucket_of};
 ghost use Rattle.writer_numbers.specs.Numbers.{one_more};

@@ -1,4 +1,6 @@
 // Records of the unique table by value: what is read of a record, and what it becomes.
+#![tactic(auto)]
+
 ghost use Rattle.std.specs.Prelude.{◌≡◌, get_or, ◌+◌};
 ghost use Rattle.writer_records.specs.Fields.{fields_of, with_field, parents_field, head_field, tail_field};
 ghost use Rattle.writer_records.specs.Records.{lane_field, with_node, is_node};
