@@ -10,13 +10,13 @@ use Rattle.theory_reading.specs.Nodes.{Node, node}
 use Rattle.theory_reading.specs.Reading.{State, Reading, goes, level, is_start, advance, reading}
 use Rattle.theory_reading.specs.Deciding.{Decision, undecided, decided, complemented, options, Trace, trace_on, trace, decision_of, decision}
 use Rattle.theory_reading.specs.Calls.{Verdict, not_yet, is_no, is_yes, verdict_of, verdict}
-use Rattle.theory_reading.specs.Covered.{grown-on, grown-count, trace-covered}
-use Rattle.theory_reading.specs.TableWalk.{table_walk, tied_on}
-use Rattle.theory_reading.specs.Passing.{start_trace}
-use Rattle.theory_reading.specs.Settled.{never-some, trace-onward}
-use Rattle.theory_reading.specs.Reaching.{At, at_next, at-fault, at-end, at-grows, at-passes}
-use Rattle.theory_reading.specs.Aligned.{Multiple, at_nested, at_aligned}
-use Rattle.theory_reading.specs.Lasting.{Lasts, Ordered, lasts-refl, lasts-trans, at-ordered, at-lasts, at-sits}
+use Rattle.theory_reading.proofs.Covered.{grown-on, grown-count, trace-covered}
+use Rattle.theory_reading.proofs.TableWalk.{table_walk, tied_on}
+use Rattle.theory_reading.proofs.Passing.{start_trace}
+use Rattle.theory_reading.proofs.Settled.{never-some, trace-onward}
+use Rattle.theory_reading.proofs.Reaching.{At, at_next, at-fault, at-end, at-grows, at-passes}
+use Rattle.theory_reading.proofs.Aligned.{Multiple, at_nested, at_aligned}
+use Rattle.theory_reading.proofs.Lasting.{Lasts, Ordered, lasts-refl, lasts-trans, at-ordered, at-lasts, at-sits}
 use Rattle.elements.specs.Abstraction.{context_of, cause_of}
 use Rattle.reader.specs.Simulation.{child-of}
 use Rattle.work_table.specs.TableLaws.{table_of}

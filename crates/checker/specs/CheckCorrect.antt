@@ -9,9 +9,9 @@ use Rattle.theory_reading.specs.Limits.{option_limit, table_limit, word_limit}
 use Rattle.theory_reading.specs.Causes as C
 use Rattle.theory_reading.specs.Reading.{Fault, Reading, reading}
 use Rattle.theory_reading.specs.Calls as R
-use Rattle.theory_reading.specs.Settled.{fault-leaves}
-use Rattle.theory_reading.specs.CallLaws.{zeroes-table, zeroes-done}
-use Rattle.theory_reading.specs.Reaching.{At, at-fault, at-end, at-covered}
+use Rattle.theory_reading.proofs.Settled.{fault-leaves}
+use Rattle.theory_reading.proofs.CallLaws.{zeroes-table, zeroes-done}
+use Rattle.theory_reading.proofs.Reaching.{At, at-fault, at-end, at-covered}
 use Rattle.node_records.specs.Records.{no_record}
 use Rattle.record_tables.specs.Entries.{clear_to}
 use Rattle.elements.specs.Abstraction.{context_of, cause_of}

@@ -5,11 +5,4 @@ pub mod Agree
 pub mod ReadBack
 pub mod WrittenBytes
 pub mod Terms
-pub mod Refused
-pub mod LentMemory
-pub mod Runs
-pub mod NextWords
-pub mod SettledWords
 pub mod Claims
-pub mod Further
-pub mod Examples

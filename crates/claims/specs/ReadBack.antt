@@ -16,10 +16,10 @@ use Rattle.theory_reading.specs.Element.{Open, in_first, in_second, Context, sta
 use Rattle.theory_reading.specs.Reading.{State, state, Reading, fresh, is_bad, reading}
 use Rattle.theory_reading.specs.Deciding.{decided, complemented, Diagram, missing, branch, top, below, walk, options, around, Drawing, drawing, Trace}
 use Rattle.theory_reading.specs.Deciding.{trace, trace_on, decision_of, decision}
-use Rattle.theory_reading.specs.Prefix.{trace-reading}
-use Rattle.theory_reading.specs.Settled.{trace-settled, trace-ended}
-use Rattle.theory_reading.specs.Covered.{covered, complete-covers}
-use Rattle.theory_reading.specs.TableWalk.{RowTied, tied_on, TiedTrace}
+use Rattle.theory_reading.proofs.Prefix.{trace-reading}
+use Rattle.theory_reading.proofs.Settled.{trace-settled, trace-ended}
+use Rattle.theory_reading.proofs.Covered.{covered, complete-covers}
+use Rattle.theory_reading.proofs.TableWalk.{RowTied, tied_on, TiedTrace}
 use Rattle.theory_writing.specs.UniqueTable as U
 use Rattle.theory_writing.specs.Rules.{Text, number, one, two, part}
 use Rattle.theory_writing.specs.Texts.{decimal, bytes, between, storing, ends_in_digit, begins_with_digit, tilde_if}
@@ -54,11 +54,19 @@ ends-starts : (m : Context) (o : List Open) → Ends m → Starts m (in_first �
 ends-starts after_digit o end_digit = on_digit
 ends-starts after_two o end_two = on_two
 ends-starts after_one o end_one = on_one
+ends-starts start o x' = elim x' [ ]
+ends-starts lead o x'' = elim x'' [ ]
+ends-starts begins o x3 = elim x3 [ ]
+ends-starts over o x4 = elim x4 [ ]
 
 ends-around : (m : Context) (r : Ref) (o : List Open) → Ends m → around_of m r (in_first ∷ o) ≡ in_second r false ∷ o
 ends-around after_digit r o end_digit = refl
 ends-around after_two r o end_two = refl
 ends-around after_one r o end_one = refl
+ends-around start r o x' = elim x' [ ]
+ends-around lead r o x'' = elim x'' [ ]
+ends-around begins r o x3 = elim x3 [ ]
+ends-around over r o x4 = elim x4 [ ]
 
 -- a space before a number that follows a digit
 abbrev gap : Context → Text → List ℕ

@@ -17,7 +17,7 @@ use Rattle.theory_reading.specs.Reading.{children, State, state, Reading, goes, 
 use Rattle.theory_reading.specs.Reading.{first_digit, after, advance, next}
 use Rattle.theory_reading.specs.Deciding.{Diagram, missing, leaf, branch, top, below, Drawing, drawing, draw, draw_unless, Trace, traced, next_trace}
 use Rattle.theory_reading.specs.Deciding.{trace_on}
-use Rattle.theory_reading.specs.Prefix.{trace_on-add}
+use Rattle.theory_reading.proofs.Prefix.{trace_on-add}
 use Rattle.theory_writing.specs.Texts.{decimal}
 use Rattle.claims.specs.Numerals.{digit_not, Stops, drop-one, drop-byte, drop-lookup, Scanned, scanned}
 
@@ -92,6 +92,14 @@ starts-length begins u r at_begins = refl
 starts-length after_digit (in_first ∷ o) r on_digit = refl
 starts-length after_two (in_first ∷ o) r on_two = refl
 starts-length after_one (in_first ∷ o) r on_one = refl
+starts-length start u r x' = elim x' [ ]
+starts-length after_digit [] r x3 = elim x3 [ ]
+starts-length after_digit (in_second _ _ ∷ o) r x8 = elim x8 [ ]
+starts-length after_two [] r x4 = elim x4 [ ]
+starts-length after_two (in_second _ _ ∷ o) r x9 = elim x9 [ ]
+starts-length after_one [] r x5 = elim x5 [ ]
+starts-length after_one (in_second _ _ ∷ o) r x10 = elim x10 [ ]
+starts-length over u r x5 = elim x5 [ ]
 
 -- ---- One step --------------------------------------------------------------------------------
 
@@ -134,6 +142,14 @@ module _ (n a : ℕ) (z : State) (d : Drawing) (bytes : List ℕ) where
   open_step after_one (in_first ∷ o) bs on_one h l e = next-at n bytes (here a after_one (in_first ∷ o) z) d opener bs e refl
       ∙ open-node (here a after_one (in_first ∷ o) z) (second z.place.last (in_first ∷ o))
       (lt-ltb (suc (length o)) open_limit (omega (arith, open-options))) (le-ltb n (suc (length o) + 1) (omega arith))
+  open_step start u bs x4 h l e = elim x4 [ ]
+  open_step after_digit [] bs x9 h l e = elim x9 [ ]
+  open_step after_digit (in_second _ _ ∷ o) bs x17 h l e = elim x17 [ ]
+  open_step after_two [] bs x10 h l e = elim x10 [ ]
+  open_step after_two (in_second _ _ ∷ o) bs x18 h l e = elim x18 [ ]
+  open_step after_one [] bs x11 h l e = elim x11 [ ]
+  open_step after_one (in_second _ _ ∷ o) bs x19 h l e = elim x19 [ ]
+  open_step over u bs x8 h l e = elim x8 [ ]
 
   -- `~`
   pub turn_step : (m : Context) (o : List Open) (bs : List ℕ) → Ends m → drop a bytes ≡ tilde ∷ bs
@@ -142,6 +158,10 @@ module _ (n a : ℕ) (z : State) (d : Drawing) (bytes : List ℕ) where
   turn_step after_digit o bs end_digit e = next-at n bytes (here a after_digit (in_first ∷ o) z) d tilde bs e refl
   turn_step after_two o bs end_two e = next-at n bytes (here a after_two (in_first ∷ o) z) d tilde bs e refl
   turn_step after_one o bs end_one e = next-at n bytes (here a after_one (in_first ∷ o) z) d tilde bs e refl
+  turn_step start o bs x'' e = elim x'' [ ]
+  turn_step lead o bs x3 e = elim x3 [ ]
+  turn_step begins o bs x4 e = elim x4 [ ]
+  turn_step over o bs x5 e = elim x5 [ ]
 
   pub lead-step : (bs : List ℕ) → drop a bytes ≡ tilde ∷ bs → next_trace n bytes (standing a lead [] z d)
       ≡ standing (a + 1) begins [] (complementing z) d
@@ -163,6 +183,10 @@ module _ (n a : ℕ) (z : State) (d : Drawing) (bytes : List ℕ) where
   one-step after_digit o bs end_digit k e = next-at n bytes (here a after_digit (in_first ∷ o) z) d closer bs e refl ∙ one_kept after_digit o k
   one-step after_two o bs end_two k e = next-at n bytes (here a after_two (in_first ∷ o) z) d closer bs e refl ∙ one_kept after_two o k
   one-step after_one o bs end_one k e = next-at n bytes (here a after_one (in_first ∷ o) z) d closer bs e refl ∙ one_kept after_one o k
+  one-step start o bs x3 k e = elim x3 [ ]
+  one-step lead o bs x4 k e = elim x4 [ ]
+  one-step begins o bs x5 k e = elim x5 [ ]
+  one-step over o bs x6 k e = elim x6 [ ]
 
   pub two-step : (m : Context) (r : Ref) (t : Bool) (o : List Open) (bs : List ℕ) → Ends m → drop a bytes ≡ closer ∷ bs
       → next_trace n bytes (standing a m (in_second r t ∷ o) z d)
@@ -172,6 +196,10 @@ module _ (n a : ℕ) (z : State) (d : Drawing) (bytes : List ℕ) where
   two-step after_digit r t o bs end_digit e = next-at n bytes (here a after_digit (in_second r t ∷ o) z) d closer bs e refl
   two-step after_two r t o bs end_two e = next-at n bytes (here a after_two (in_second r t ∷ o) z) d closer bs e refl
   two-step after_one r t o bs end_one e = next-at n bytes (here a after_one (in_second r t ∷ o) z) d closer bs e refl
+  two-step start r t o bs x'' e = elim x'' [ ]
+  two-step lead r t o bs x3 e = elim x3 [ ]
+  two-step begins r t o bs x4 e = elim x4 [ ]
+  two-step over r t o bs x5 e = elim x5 [ ]
 
   -- `.`
   pub end_step : (m : Context) (bs : List ℕ) → Ends m → drop a bytes ≡ dot ∷ bs → next_trace n bytes (standing a m [] z d)
@@ -180,6 +208,10 @@ module _ (n a : ℕ) (z : State) (d : Drawing) (bytes : List ℕ) where
   end_step after_digit bs end_digit e = next-at n bytes (here a after_digit [] z) d dot bs e refl
   end_step after_two bs end_two e = next-at n bytes (here a after_two [] z) d dot bs e refl
   end_step after_one bs end_one e = next-at n bytes (here a after_one [] z) d dot bs e refl
+  end_step start bs x'' e = elim x'' [ ]
+  end_step lead bs x3 e = elim x3 [ ]
+  end_step begins bs x4 e = elim x4 [ ]
+  end_step over bs x5 e = elim x5 [ ]
 
 -- ---- Numbers ---------------------------------------------------------------------------------
 
@@ -292,6 +324,14 @@ module _ (n a : ℕ) (z : State) (d : Drawing) (bytes : List ℕ) (k : ℕ) (pos
         next-at n bytes (here a after_one (in_first ∷ o) z) d c.d (c.ds ++ post) c.place refl
             ∙ rw (p, q) (begin-number c (here a after_one (in_first ∷ o) z) (second z.place.last (in_first ∷ o)) refl refl h),
       )
+  number_step st start u x3 h e = elim x3 [ ]
+  number_step st after_digit [] x7 h e = elim x7 [ ]
+  number_step st after_digit (in_second _ _ ∷ o) x14 h e = elim x14 [ ]
+  number_step st after_two [] x8 h e = elim x8 [ ]
+  number_step st after_two (in_second _ _ ∷ o) x15 h e = elim x15 [ ]
+  number_step st after_one [] x9 h e = elim x9 [ ]
+  number_step st after_one (in_second _ _ ∷ o) x16 h e = elim x16 [ ]
+  number_step st over u x7 h e = elim x7 [ ]
 
   -- `:` and a number
   abbrev pub stored_row : List Open → Node

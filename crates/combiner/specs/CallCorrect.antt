@@ -5,13 +5,13 @@ use Rattle.std.proofs.Math.Path.{subst⁻¹}
 use Rattle.std.proofs.lemmas.List.{length-replicate}
 use Rattle.theory_reading.specs.Limits.{option_limit, open_limit, table_limit}
 use Rattle.theory_reading.specs.Nodes.{Node, node}
-use Rattle.theory_reading.specs.Lasting.{Ordered}
+use Rattle.theory_reading.proofs.Lasting.{Ordered}
 use Rattle.theory_reading.specs.Causes.{Result, refused, done, cleared}
 use Rattle.theory_reading.specs.Calls.{Checked}
-use Rattle.theory_reading.specs.Covered.{covered}
+use Rattle.theory_reading.proofs.Covered.{covered}
 use Rattle.theory_reading.specs.Deciding.{decision}
 use Rattle.theory_writing.specs.Run.{operate, whole, input_ended, output_full, Answer}
-use Rattle.theory_writing.specs.Inputs.{run_covered-most}
+use Rattle.theory_writing.proofs.Inputs.{run_covered-most}
 use Rattle.theory_writing.specs.Calls.{combine}
 use Rattle.theory_engine.specs.Pending.{waiting_limit}
 use Rattle.theory_engine.specs.Engine.{Sent}

@@ -7,10 +7,10 @@ use Rattle.theory_lists.specs.Lists.{differ, and_l, and_r, decide-le}
 use Rattle.theory_reading.specs.Limits.{option_limit, table_limit}
 use Rattle.theory_reading.specs.Causes.{cleared}
 use Rattle.theory_reading.specs.Deciding.{Decision, decided, decision}
-use Rattle.theory_reading.specs.Covered.{covered, covered-most, covered-decided, uncovered-undecided}
+use Rattle.theory_reading.proofs.Covered.{covered, covered-most, covered-decided, uncovered-undecided}
 use Rattle.theory_writing.specs.Run.{operate, run_covered}
-use Rattle.theory_writing.specs.Inputs.{decided-one}
-use Rattle.theory_writing.specs.TwoInputs.{opens, Ends, Reaches, Asks, covered-first, covered-second, covered-all}
+use Rattle.theory_writing.proofs.Inputs.{decided-one}
+use Rattle.theory_writing.proofs.TwoInputs.{opens, Ends, Reaches, Asks, covered-first, covered-second, covered-all}
 use Rattle.theory_combining.specs.Entering.{ignores_first, ignores_second, first_alike, second_alike}
 use Rattle.blocks.specs.Load.{LoadTo, load}
 use Rattle.blocks.specs.LoadLaws.{load-length}

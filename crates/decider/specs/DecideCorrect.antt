@@ -11,8 +11,8 @@ use Rattle.theory_reading.specs.Causes as C
 use Rattle.theory_reading.specs.Reading.{Reading}
 use Rattle.theory_reading.specs.Deciding.{trace}
 use Rattle.theory_reading.specs.Calls as R
-use Rattle.theory_reading.specs.Prefix.{trace-reading}
-use Rattle.theory_reading.specs.Reaching.{decided-not}
+use Rattle.theory_reading.proofs.Prefix.{trace-reading}
+use Rattle.theory_reading.proofs.Reaching.{decided-not}
 use Rattle.node_records.specs.Records.{no_record}
 use Rattle.elements.specs.Abstraction.{cause_of}
 use Rattle.reader.specs.Advance.{state_at}

@@ -13,11 +13,11 @@ use Rattle.theory_reading.specs.Deciding.{Trace, trace_on, trace}
 use Rattle.theory_reading.specs.Causes as C
 use Rattle.theory_reading.specs.Calls as R
 use Rattle.theory_reading.specs.Calls.{bytes_from}
-use Rattle.theory_reading.specs.Covered.{parity}
-use Rattle.theory_reading.specs.Settled.{never-some}
-use Rattle.theory_reading.specs.Passing.{start_trace}
-use Rattle.theory_reading.specs.Filling.{put_node}
-use Rattle.theory_reading.specs.Reaching.{At, at-fault, at-end, at-end-trace, at-within, at_most, filled-first, filled-alike, filled_on}
+use Rattle.theory_reading.proofs.Covered.{parity}
+use Rattle.theory_reading.proofs.Settled.{never-some}
+use Rattle.theory_reading.proofs.Passing.{start_trace}
+use Rattle.theory_reading.proofs.Filling.{put_node}
+use Rattle.theory_reading.proofs.Reaching.{At, at-fault, at-end, at-end-trace, at-within, at_most, filled-first, filled-alike, filled_on}
 use Rattle.elements.specs.Abstraction.{ref_of, cause_of, open_list}
 use Rattle.node_records.specs.Records.{no_record}
 use Rattle.work_table.specs.TableLaws.{table_of}

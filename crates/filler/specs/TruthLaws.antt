@@ -9,7 +9,7 @@ use Rattle.theory_reading.specs.Limits.{truth_table_most}
 use Rattle.theory_reading.specs.Nodes.{Node, node}
 use Rattle.theory_reading.specs.Deciding.{Trace}
 use Rattle.theory_reading.specs.Calls.{Verdict, is_no, is_yes, not_yet, digit_of, verdict, words_from, bytes_from}
-use Rattle.theory_reading.specs.Filling.{with_word, put_node}
+use Rattle.theory_reading.proofs.Filling.{with_word, put_node}
 use Rattle.node_records.specs.declared.Edge.{Edge}
 use Rattle.node_records.specs.declared.NodeRecord.{NodeRecord}
 use Rattle.work_table.specs.Table.{get_in}

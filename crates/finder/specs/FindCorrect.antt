@@ -12,8 +12,8 @@ use Rattle.theory_reading.specs.Reading.{Reading, reading}
 use Rattle.theory_reading.specs.Deciding.{Decision, undecided, decided, decision_of, decision, trace}
 use Rattle.theory_reading.specs.Calls as R
 use Rattle.theory_reading.specs.NextWord.{next_word_lem, next-none}
-use Rattle.theory_reading.specs.Prefix.{trace-reading}
-use Rattle.theory_reading.specs.Covered.{trace-covered}
+use Rattle.theory_reading.proofs.Prefix.{trace-reading}
+use Rattle.theory_reading.proofs.Covered.{trace-covered}
 use Rattle.elements.specs.Abstraction.{cause_of}
 use Rattle.node_records.specs.Records.{no_record}
 use Rattle.record_tables.specs.Entries.{clear_to}

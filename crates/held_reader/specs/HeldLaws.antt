@@ -3,7 +3,7 @@ use Rattle.std.specs.Prelude.{◌≡◌, refl, List, ℕ, drop}
 use Rattle.std.proofs.Common.{ap}
 use Prim.{Unit}
 use Rattle.theory_reading.specs.Element.{Place, Outcome, got, fault, ran_out, step}
-use Rattle.theory_reading.specs.StepRest.{Fits, takes, wrong, deep, stops, rests, step_fits}
+use Rattle.theory_reading.proofs.StepRest.{Fits, takes, wrong, deep, stops, rests, step_fits}
 use Rattle.scanner.specs.Capped.{cap_outcome}
 use Rattle.held_reader.specs.Held.{ReaderView, reader_at, read_next}
 

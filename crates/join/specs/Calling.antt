@@ -12,7 +12,7 @@ use Rattle.theory_writing.specs.Run.{Answer, output_after}
 use Rattle.theory_writing.specs.Output.{output-length}
 use Rattle.theory_writing.specs.Calls.{Combine, combine, combine_answer, combine_text}
 use Rattle.theory_writing.specs.Join.{Job, job_limit, report, called, answered}
-use Rattle.claims.specs.Runs.{ran}
+use Rattle.claims.proofs.Runs.{ran}
 use Rattle.theory_engine.specs.Pending.{waiting}
 use Rattle.report.specs.Printing.{line_limit, report_text, report_in, text-there}
 use Rattle.node_records.specs.Records.{no_record, no_writer_record}

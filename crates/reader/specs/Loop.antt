@@ -4,7 +4,7 @@ use Rattle.std.proofs.Common.{ap, ◌∙◌, inr, ⊎_elim, arith}
 use Rattle.std.proofs.lemmas.List.{length-replicate}
 use Rattle.theory_reading.specs.Limits.{option_limit, open_limit, table_limit, word_limit}
 use Rattle.theory_reading.specs.Reading.{State, is_start}
-use Rattle.theory_reading.specs.Reaching.{At, at-start, at_next, at-covered, at-grows, at-stamp}
+use Rattle.theory_reading.proofs.Reaching.{At, at-start, at_next, at-covered, at-grows, at-stamp}
 use Rattle.elements.specs.Abstraction.{context_of, inside_open, opens_of}
 use Rattle.elements.specs.declared.Cause.TheVariants.{WrongByte}
 use Rattle.elements.specs.declared.Open.{Open}

@@ -11,7 +11,7 @@ use native.Mathlib.Omega.{arith}
 use Rattle.std.proofs.lemmas.Bool.{eqb-false}
 use Rattle.theory_lists.specs.Lists.{bit, and_l, and_r, and-true, decide-le}
 use Rattle.theory_reading.specs.Nodes.{Node, node, stamp}
-use Rattle.theory_reading.specs.Lasting.{Lasts, Ordered}
+use Rattle.theory_reading.proofs.Lasting.{Lasts, Ordered}
 use Rattle.theory_writing.specs.UniqueTable.{State}
 use Rattle.theory_writing.specs.Steps.{Step}
 use Rattle.theory_writing.specs.Meaning.{Is, is_carried}

@@ -9,7 +9,7 @@ use Rattle.theory_lists.specs.Prefixes.{Begins, begins-left}
 use Rattle.theory_reading.specs.Bytes.{opener}
 use Rattle.theory_reading.specs.Nodes.{node}
 use Rattle.theory_reading.specs.Deciding.{options, decided}
-use Rattle.theory_reading.specs.Lasting.{Lasts, Ordered}
+use Rattle.theory_reading.proofs.Lasting.{Lasts, Ordered}
 use Rattle.theory_writing.specs.UniqueTable.{State}
 use Rattle.theory_writing.specs.Texts.{tilde_if}
 use Rattle.theory_writing.specs.Run.{output_after}
@@ -124,7 +124,7 @@ pub record Wholly {BlockReader : Type 0} (deep_of : BlockReader → ℕ) (source
     (next : BlockReader → BlockReader) (n : ℕ)
     (Reads Ends : BlockReader → ℕ → (ℕ → Bool) → Type 0) (size i m e : ℕ)
     (o T p w : List ℕ) (fs : List (Operand BlockReader)) (xs : List (ℕ → Bool)) (r : Applied BlockReader) (x : Went) : Type 0 where
-  pub goes_on_lem : r.ended ≡ false
+  pub goes_on : r.ended ≡ false
   pub leads : Leads n size i m o T p w r.walked x
   pub passed : r.walked.progress.full ≡ false → AllPassed deep_of source_of ended_of next n Reads Ends e fs xs r.readers
 

@@ -1,11 +1,11 @@
 -- Inputs of the walk over texts and the memo: where an input is at an edge it sits there, and the tables of the block readers last while their
 -- texts are read on. Assumes nothing.
-use Rattle.std.specs.Prelude.{◌≡◌, refl, ◌⊎◌, Bool, true, false, cond, List, [], ◌∷◌, ℕ, suc, ◌+◌, ◌-◌, ◌*◌, ◌<◌, ◌^◌, eqb}
+use Rattle.std.specs.Prelude.{◌≡◌, refl, Bool, true, false, cond, List, [], ◌∷◌, ℕ, suc, ◌+◌, ◌*◌, ◌<◌, ◌^◌, eqb}
 use Rattle.std.proofs.Common.{ap, ap₂, subst, inl, ⊎_elim, arith, eqb-true}
 use Rattle.std.proofs.Math.Path.{subst⁻¹}
 use Rattle.theory_lists.specs.Lists.{or_l, or_r}
 use Rattle.theory_reading.specs.Nodes.{Node}
-use Rattle.theory_reading.specs.Lasting.{Lasts, Ordered, lasts-refl}
+use Rattle.theory_reading.proofs.Lasting.{Lasts, Ordered, lasts-refl}
 use Rattle.theory_applying.specs.Applying.{Source, first_source}
 use Rattle.theory_applying.specs.Operands.{Operand, on_reader, at_edge, at_terminal, any_text, readers_of, resume, edge_of, edges_of, settle, first_operand}
 use Rattle.theory_applying.specs.Operands.{second_operand, first_operands, second_operands}

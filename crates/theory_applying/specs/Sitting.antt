@@ -6,7 +6,7 @@ use Rattle.std.proofs.lemmas.Bool.{eqb-false}
 use Rattle.theory_lists.specs.Lists.{differ, or_l, or_r, and-true}
 use Rattle.theory_reading.specs.Nodes.{Node, node, stamp}
 use Rattle.theory_reading.specs.Deciding.{options, complemented}
-use Rattle.theory_reading.specs.Lasting.{Lasts, Ordered, is-first, is-second, table_walk-lasts}
+use Rattle.theory_reading.proofs.Lasting.{Lasts, Ordered, is-first, is-second, table_walk-lasts}
 use Rattle.theory_applying.specs.Applying.{Source, passes, first_source, second_source, first_sources, second_sources, all_pass}
 use Rattle.theory_applying.specs.ApplyLaws.{Shows}
 

@@ -9,11 +9,11 @@ use Rattle.theory_lists.specs.Lists.{not-differ-true, and_l, and_r}
 use Rattle.theory_reading.specs.Limits.{option_limit, table_limit}
 use Rattle.theory_reading.specs.Reading.{reading}
 use Rattle.theory_reading.specs.Deciding.{complemented, options, decision}
-use Rattle.theory_reading.specs.Lasting.{Ordered}
-use Rattle.theory_reading.specs.TableWalk.{table_walk-zero}
+use Rattle.theory_reading.proofs.Lasting.{Ordered}
+use Rattle.theory_reading.proofs.TableWalk.{table_walk-zero}
 use Rattle.theory_writing.specs.Run.{operate, run_text}
 use Rattle.theory_writing.specs.Grows.{run-stable}
-use Rattle.theory_writing.specs.Inputs.{May}
+use Rattle.theory_writing.proofs.Inputs.{May}
 use Rattle.theory_engine.specs.Pending.{waiting_limit}
 use Rattle.theory_engine.specs.Cells.{zero-cell}
 use Rattle.theory_engine.specs.Engine.{Sent}

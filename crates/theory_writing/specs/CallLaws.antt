@@ -2,7 +2,7 @@
 use Rattle.std.specs.Prelude.{◌≡◌, List, [], ◌∷◌, ℕ}
 use Rattle.std.proofs.Math.ListN.{length}
 use Rattle.theory_reading.specs.Causes.{keeps_all, keeps_output, cause_row, Refusal, refused, done, cleared}
-use Rattle.theory_reading.specs.CallLaws.{keeps_output_lem, keeps-table, zeroes-table, zeroes-done}
+use Rattle.theory_reading.proofs.CallLaws.{keeps_output_lem, keeps-table, zeroes-table, zeroes-done}
 use Rattle.theory_writing.specs.Run.{Answer}
 use Rattle.theory_writing.specs.Calls.{write_answer, write, combine_answer, combine}
 

@@ -20,8 +20,6 @@ pub mod Release
 pub mod Stable
 pub mod Grows
 pub mod Output
-pub mod Inputs
-pub mod TwoInputs
 pub mod Decimal
 -- What a text means
 pub mod Meaning

@@ -1,0 +1,17 @@
+pub mod StepLaws
+pub mod Prefix
+pub mod Settled
+pub mod FaultRank
+pub mod Moves
+pub mod Covered
+pub mod TableWalk
+pub mod StepRest
+pub mod CauseSeven
+pub mod CallLaws
+pub mod Passing
+pub mod StampBound
+pub mod Filling
+pub mod Reaching
+pub mod Aligned
+pub mod Lasting
+pub mod Spine
