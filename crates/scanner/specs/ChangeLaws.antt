@@ -88,14 +88,17 @@ module _ (ns : List Open) (long : length ns ≡ open_limit) (r : Ref) where
       let e : suc d + 1 ≡ suc (suc d) = omega arith in
       let hi : high_at (suc d) ≡ suc d = rw (lt-ltb (suc d) open_limit h) refl in
       let lo : low_at (suc d) ≡ d = low-suc d (omega arith) in
-      rw (e, hi, lo) (ap₂ (λ (y : Open) (l : List T.Open). open_of y ∷ l)
+      ap₂ (λ (i j : ℕ). opens_of (set (set ns i inside_open) j x) (suc d + 1)) hi lo
+      ∙ ap (λ (n : ℕ). opens_of (set (set ns (suc d) inside_open) d x) n) e
+      ∙ ap₂ (λ (y : Open) (l : List T.Open). open_of y ∷ l)
       (get_or-set_other (set ns (suc d) inside_open) d (suc d) x inside_open (λ q. omega arith)
       ∙ get_or-set_same ns (suc d) inside_open inside_open (omega (arith, long)))
       (ap₂ (λ (y : Open) (l : List T.Open). open_of y ∷ l)
       (get_or-set_same (set ns (suc d) inside_open) d x inside_open (omega (arith, long, length-set ns (suc d) inside_open))
       ∙ sym (get_or-set_same ns d x inside_open (omega (arith, long))))
       (opens-set (set ns (suc d) inside_open) d d x (omega arith) ∙ opens-set ns (suc d) d inside_open (omega arith)
-      ∙ sym (opens-set ns d d x (omega arith)))))
+      ∙ sym (opens-set ns d d x (omega arith))))
+      ∙ ap (λ (j : ℕ). T.in_first ∷ opens_of (set ns j x) (suc d)) (sym lo)
 
   -- the innermost entry becomes that of a node in its second child
   seconds : (d : ℕ) (t : Bool) → d ≤ open_limit → opens_of (set ns (low_at d) (begun_open r t)) d ≡ changed (second t) (ref_of r) (opens_of ns d)

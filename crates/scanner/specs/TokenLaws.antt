@@ -1,5 +1,5 @@
 -- The next token: how deep it goes, and that the code's scan comes to it. Assumes nothing.
-use Rattle.std.specs.Prelude.{◌≡◌, cond, List, ℕ, ◌-◌, ◌<◌, ◌≤◌}
+use Rattle.std.specs.Prelude.{◌≡◌, cond, List, ℕ, ◌<◌, ◌≤◌}
 use Rattle.std.proofs.Common.{ap, ◌∙◌, arith}
 use Prim.{tt}
 use Rattle.theory_reading.specs.Limits.{open_limit}

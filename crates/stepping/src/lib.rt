@@ -1,4 +1,4 @@
-// The reader that steps, for C, as `include/rule.h` declares it.
+// The reader that steps, with its numbers as C has them: `stepping_c` exports it, as `include/rule.h` declares it.
 #![tactic(auto)]
 
 ghost use Rattle.std.specs.Prelude.{◌≡◌};
@@ -71,8 +71,7 @@ fn place_numbers(p: Place) -> RulePlace
 }
 
 // Before the first byte of a stream.
-#[unsafe(no_mangle)]
-pub extern "C" fn rule_begin() -> RulePlace
+pub fn rule_begin() -> RulePlace
     ensures { place_from result ≡ begin }
 {
     place_numbers(Place::begin())
@@ -131,8 +130,7 @@ fn element_numbers(e: Element, p: RulePlace) -> RuleStepped
 }
 
 // One element on.
-#[unsafe(no_mangle)]
-pub extern "C" fn rule_step(place: RulePlace, stream: &[u8]) -> RuleStepped
+pub fn rule_step(place: RulePlace, stream: &[u8]) -> RuleStepped
     ensures { step_given result ≡ step_numbers (cap_step (step (place_from place) stream.now)) }
 {
     let m = context_from(place.context);

@@ -39,7 +39,7 @@ pub record Stands (n size : ℕ) (o T : List ℕ) (t : List WriterRecord) (out :
   pub most : progress.given ≤ size
   pub written : progress.written ≡ length T
   pub holds : length T ≤ length o
-  pub goes_on_lem : progress.full ≡ false
+  pub goes_on : progress.full ≡ false
   pub output : out ≡ output_after T o
 
 -- where the writer is after a part of level i, p being the m bytes that waited before it, unless more was sent than the output holds

@@ -1,0 +1,8 @@
+-- One record, by value.
+use Rattle.theory_engine.specs.RecordLaws.{put-node}
+use Rattle.unique_table.proofs.note.Goals as goal
+
+pub returns : goal.returns
+returns c =
+    let a = c.args in
+    put-node a.t.now a.k a.i a.a a.b a.c c.get_writer_record.ensures c.with_node.ensures c.put_writer_record.ensures
