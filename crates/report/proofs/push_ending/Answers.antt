@@ -1,0 +1,15 @@
+-- Each ending has its text.
+use Rattle.theory_reading.specs.Bytes.{text}
+use Rattle.report.proofs.push_ending.Goals as goal
+
+pub returns-in-Whole : goal.returns-in-Whole
+unfolding text
+returns-in-Whole c = rw c.in-Whole.is c.push_text.ensures
+
+pub returns-in-InputEnded : goal.returns-in-InputEnded
+unfolding text
+returns-in-InputEnded c = rw c.in-InputEnded.is c.push_text-in-InputEnded.ensures
+
+pub returns-in-OutputFull : goal.returns-in-OutputFull
+unfolding text
+returns-in-OutputFull c = rw c.in-OutputFull.is c.push_text-in-OutputFull.ensures
