@@ -113,10 +113,8 @@ fn single_theorems((number, rows): (usize, &[Row])) -> Module {
 
 fn heading(used: &str) -> String {
     format!(
-        "use mathlib.Core.Path.{{_≡_, refl}}\n\
-         use mathlib.Core.List.{{List, [], _∷_}}\n\
-         use Prim.Native.Nat.{{ℕ}}\n\
-         use Rattle·encode.specs.Encode.{{Case, case, run, {used}}}\n"
+        "use Rattle.std.specs.Prelude.{{◌≡◌, refl, List, [], ◌∷◌, ℕ}}\n\
+         use Rattle.encode.specs.Encode.{{Case, case, run, {used}}}\n"
     )
 }
 

@@ -1,0 +1,5 @@
+-- Each half has an option less.
+use Rattle.writer.proofs.+walk.Given as goal
+
+abbrev pub decreases-walk : goal.decreases-walk
+decreases-walk l = l.d
