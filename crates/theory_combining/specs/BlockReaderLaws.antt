@@ -33,7 +33,7 @@ pub record ReadsOf (n : ℕ) (bytes : List ℕ) (τ : BlockReader) (at : ℕ) : 
   pub lent : List NodeRecord
   pub stands : StandsAt n bytes cursor lent
   pub called : record { block = τ.block; table = τ.table } ≡ next_block n bytes cursor lent
-  pub goes_on_lem : τ.block.halted ≡ false
+  pub goes_on : τ.block.halted ≡ false
   pub begins : cursor.run.covered ≡ at
   pub stream : τ.stream ≡ bytes
 
@@ -170,7 +170,7 @@ reader-comes n few bytes clean x e c t h at i = go y.block.halted refl
       bytes = bytes;
       input = e;
       clean = clean;
-      here = record { cursor = c; lent = t; stands = h; called = refl; goes_on_lem = k; begins = i; stream = refl };
+      here = record { cursor = c; lent = t; stands = h; called = refl; goes_on = k; begins = i; stream = refl };
     })
 
 -- ---- What the walk over texts asks -----------------------------------------------------------
