@@ -8,7 +8,7 @@ use Rattle.std.proofs.Math.Option.{none, some}
 use borrow.Author.Tests.{lt-ltb, le-ltb, lt-leb, le-leb}
 use Rattle.theory_reading.specs.Limits.{option_limit, table_limit, word_limit}
 use Rattle.theory_reading.specs.Causes as C
-use Rattle.theory_reading.specs.Reading.{Reading, reading}
+use Rattle.theory_reading.specs.Reading.{Reading}
 use Rattle.theory_reading.specs.Deciding.{Decision, undecided, decided, decision_of, decision, trace}
 use Rattle.theory_reading.specs.Calls as R
 use Rattle.theory_reading.specs.NextWord.{next_word_lem, next-none}

@@ -1,0 +1,30 @@
+-- Past the limits the word is w; else the search comes to the word, or to the end of what is covered (`text-correct`), and every record is cleared.
+use Rattle.std.proofs.Common.{◌≤◌, arith}
+use Rattle.theory_lists.specs.Powers.{shifted}
+use Rattle.theory_reading.specs.Limits.{option_limit}
+use Rattle.finder.specs.TextSearch.{text-options, text-table, text-word, text-correct}
+use Rattle.finder.proofs.search_text.Goals as goal
+
+pub returns-then-n-gt-OPTION_LIMIT : goal.returns-then-n-gt-OPTION_LIMIT
+returns-then-n-gt-OPTION_LIMIT c =
+    let a = c.args in
+    text-options a.n a.s.now a.w a.v a.t.now c.if-n-gt-OPTION_LIMIT.true
+
+pub returns-then-t-lt-TABLE_LIMIT : goal.returns-then-t-lt-TABLE_LIMIT
+returns-then-t-lt-TABLE_LIMIT c =
+    let a = c.args in
+    text-table a.n a.s.now a.w a.v a.t.now (omega (arith, c.if-n-gt-OPTION_LIMIT.false)) c.if-t-lt-TABLE_LIMIT.true
+
+pub returns-then-n-w : goal.returns-then-n-w
+returns-then-n-w c =
+    let a = c.args in
+    let few : a.n ≤ option_limit = omega (arith, c.if-n-gt-OPTION_LIMIT.false) in
+    text-word a.n a.s.now a.w a.v a.t.now few (omega (arith, c.if-t-lt-TABLE_LIMIT.false))
+    (omega (arith, c.if-n-w.true, shifted a.n (omega (arith, few))))
+
+pub returns : goal.returns
+returns c =
+    let a = c.args in
+    let few : a.n ≤ option_limit = omega (arith, c.if-n-gt-OPTION_LIMIT.false) in
+    text-correct a.n a.s.now a.w a.v a.t.now few (omega (arith, c.if-t-lt-TABLE_LIMIT.false))
+    (omega (arith, c.if-n-w.false, shifted a.n (omega (arith, few)))) _ _ _ c.seek-x.ensures _ c.word_of.ensures _ c.clear_records.ensures
