@@ -1,5 +1,5 @@
-// A rule's bytes with how far they have been read. A struct that holds a reference is proved by hand, so its functions are thin:
-// the work is done by `Place` and by `rest_of`, which take plain slices.
+// A rule's bytes with how far they have been read: a struct that holds a reference. Its functions are thin: the work is done by `Place` and by
+// `rest_of`, which take plain slices.
 #![tactic(auto)]
 
 ghost use Rattle.std.specs.Prelude.{◌≡◌};
