@@ -1,4 +1,4 @@
-// Checking, deciding, finding the next admitted word and filling for C, as `include/rule.h` declares them.
+// Checking, deciding, finding the next admitted word and filling for C, as `include/rule.h` declares them and `firmware_c` exports them.
 #![tactic(auto)]
 
 ghost use Rattle.std.specs.Prelude.{◌≡◌};
@@ -11,42 +11,28 @@ use c_answers::{
 use node_records::NodeRecord;
 
 // CHECKING a stream
-#[unsafe(no_mangle)]
-pub extern "C" fn rule_check(n: u32, stream: &[u8], table: &mut [NodeRecord]) -> RuleChecked
+pub fn rule_check(n: u32, stream: &[u8], table: &mut [NodeRecord]) -> RuleChecked
     ensures { record { answer = result; table = table.new } ≡ check_given n stream.now table.old }
 {
     checked_numbers(checker::check(n, stream, table))
 }
 
 // DECIDING a word
-#[unsafe(no_mangle)]
-pub extern "C" fn rule_decide(
-    n: u32,
-    stream: &[u8],
-    word: u64,
-    table: &mut [NodeRecord],
-) -> RuleDecided
+pub fn rule_decide(n: u32, stream: &[u8], word: u64, table: &mut [NodeRecord]) -> RuleDecided
     ensures { record { answer = result; table = table.new } ≡ decide_given n stream.now word table.old }
 {
     decided_numbers(decider::decide(n, stream, word, table))
 }
 
 // FINDING THE NEXT ADMITTED WORD
-#[unsafe(no_mangle)]
-pub extern "C" fn rule_next(n: u32, stream: &[u8], word: u64, table: &mut [NodeRecord]) -> RuleFound
+pub fn rule_next(n: u32, stream: &[u8], word: u64, table: &mut [NodeRecord]) -> RuleFound
     ensures { record { answer = result; table = table.new } ≡ next_given n stream.now word table.old }
 {
     found_numbers(finder::find_next(n, stream, word, table))
 }
 
 // FILLING a truth table
-#[unsafe(no_mangle)]
-pub extern "C" fn rule_fill(
-    n: u32,
-    stream: &[u8],
-    truths: &mut [u8],
-    table: &mut [NodeRecord],
-) -> RuleFilled
+pub fn rule_fill(n: u32, stream: &[u8], truths: &mut [u8], table: &mut [NodeRecord]) -> RuleFilled
     ensures { record { answer = result; table = table.new; truths = truths.new }
         ≡ fill_given n stream.now truths.old table.old }
 {
