@@ -1,15 +1,18 @@
 // The program `join`: a job from standard input, its report to standard output. What fails is said on standard error.
 #![tactic(auto)]
 
-ghost use Rattle.std.specs.Prelude.{◌≡◌, length, take, ◌≤◌};
+ghost use Rattle.std.specs.Prelude.{◌≡◌, length, take, ◌<◌, ◌≤◌, IfOk};
 ghost use Rattle.std.proofs.Math.Option.{some};
+ghost use Rattle.std.specs.Io.{ReadsAtMost};
+ghost use Rattle.std.specs.Io.KnownBytes.{Consumes, IsAtEnd};
 ghost use Rattle.theory_writing.specs.Join.{answered, join};
 ghost use Rattle.join.specs.Joining.{report_limit};
 ghost use Rattle.join.specs.Got.{Within};
 
 use job::{JOB_LIMIT, Parsing};
-use libc::{STDIN_FILENO, STDOUT_FILENO};
 use report::LINE_LIMIT;
+use std::io;
+use std::io::{Cursor, Read, Write};
 
 // A job has at most JOB_LIMIT bytes; one more shows that the input has more.
 const INPUT_LIMIT: usize = JOB_LIMIT + 1;
@@ -55,41 +58,72 @@ enum Got {
     Failed,
 }
 
-// Reads until the input ends or there is no more room.
-fn read_all(buf: &mut [u8]) -> Got
-    ensures { Within result (length buf.new) }
+// Fills buf from its beginning, until the input ends or there is no more room: with what the input gives, in its order, and no byte is lost.
+fn fill<R: Read>(from: &mut R, buf: &mut [u8]) -> io::Result<usize>
+    ensures in_bounds { ReadsAtMost result buf.new }
+    ensures bytes { IfOk result (λ n. Consumes (R.remaining from.old) (R.remaining from.new) (take n buf.new)) }
+    ensures end { IfOk result (λ n. n < length buf.new → IsAtEnd (R.remaining from.new)) }
 {
     let mut at = 0;
     while at < buf.len() {
-        let got = libc::read(STDIN_FILENO, &mut buf[at..]);
-        if got < 0 {
-            return Got::Failed;
-        }
-        let n = io::count(got, &buf[at..]);
+        let n = from.read(&mut buf[at..])?;
         if n == 0 {
-            return Got::Bytes(at);
+            return Ok(at);
         }
         at += n;
     }
-    Got::Bytes(at)
+    Ok(at)
 }
 
-// Writes the report on an input. The input is there for the contract: no other text goes to standard output.
-fn write_report(input: &[u8], text: &[u8]) -> bool
+// A cause is said in no more bytes.
+const CAUSE_LIMIT: usize = 256;
+
+// A line to standard error: what failed, a colon and the system's name for the cause, without its number. Nobody is told that this fails.
+fn fail(rt: &impl Eprint, what: &str, e: io::Error) {
+    let mut said = Cursor::new([0u8; CAUSE_LIMIT]);
+    let _ = write!(said, "{e}");
+    let n = (said.position() as usize).min(CAUSE_LIMIT);
+    let bytes = said.get_ref();
+    let text = str::from_utf8(&bytes[..n]).unwrap_or("");
+    let cause = match text.split_once(" (os error ") {
+        Some((name, _)) => name,
+        None => text,
+    };
+    let _ = eprintln!(rt; "{what}: {cause}");
+}
+
+// Reads until the input ends or there is no more room. Says so if that fails.
+fn read_all(rt: &(impl Input + Eprint), buf: &mut [u8]) -> Got
+    ensures { Within result (length buf.new) }
+{
+    match fill(&mut rt.reader(), buf) {
+        Ok(n) => Got::Bytes(n),
+        Err(e) => {
+            fail(rt, "read", e);
+            Got::Failed
+        }
+    }
+}
+
+// Writes the report on an input. The input is there for the contract: no other text goes to standard output. Says so if that fails.
+fn write_report(rt: &(impl Print + Eprint), input: &[u8], text: &[u8]) -> bool
     requires { text.now ≡ join input.now }
 {
-    io::write_all(STDOUT_FILENO, text)
+    match rt.write_all(text) {
+        Ok(()) => true,
+        Err(e) => {
+            fail(rt, "write", e);
+            false
+        }
+    }
 }
 
-fn main() {
+fn main(rt: HostRuntime) {
     let mut input = [0u8; INPUT_LIMIT];
-    let Got::Bytes(n) = read_all(&mut input) else {
-        os::fail(b"read");
+    let Got::Bytes(n) = read_all(&rt, &mut input) else {
         return;
     };
     let mut report = [0u8; REPORT_LIMIT];
     let m = answer(&input[..n], &mut report);
-    if !write_report(&input[..n], &report[..m]) {
-        os::fail(b"write");
-    }
+    write_report(&rt, &input[..n], &report[..m]);
 }

@@ -1,0 +1,14 @@
+-- The call answers as the job's does, since the tables are as long; so its report is the job's, and there is room for it.
+use Rattle.std.proofs.Common.{refl}
+use Rattle.join.specs.Calling.{own-printed}
+use Rattle.join.proofs.run.Goals as goal
+
+pub returns-clause-w_after : goal.returns-clause-w_after
+returns-clause-w_after c =
+    (own-printed c.args.n c.args.op c.args.size c.args.x.now c.args.y.now _ _ _ c.call-a.ensures refl c.args.w.now c.requires
+    c.print.ensures.result_after c.print.ensures.out_in_bounds).0
+
+pub returns-clause-upper_bound : goal.returns-clause-upper_bound
+returns-clause-upper_bound c =
+    (own-printed c.args.n c.args.op c.args.size c.args.x.now c.args.y.now _ _ _ c.call-a.ensures refl c.args.w.now c.requires
+    c.print.ensures.result_after c.print.ensures.out_in_bounds).1
