@@ -1,4 +1,4 @@
-// Writing and combining for C, as `include/rule.h` declares it.
+// Writing and combining for C, as `include/rule.h` declares it and `desk_c` exports it.
 #![tactic(auto)]
 
 ghost use Rattle.std.specs.Prelude.{◌≡◌};
@@ -62,8 +62,7 @@ fn written_numbers(a: Writing) -> RuleWritten
 }
 
 // WRITING the stream of a truth table
-#[unsafe(no_mangle)]
-pub extern "C" fn rule_write(
+pub fn rule_write(
     n: u32,
     size: u32,
     truths: &[u8],
@@ -77,8 +76,7 @@ pub extern "C" fn rule_write(
 }
 
 // COMBINING two streams by an operator
-#[unsafe(no_mangle)]
-pub extern "C" fn rule_combine(
+pub fn rule_combine(
     n: u32,
     op: u32,
     size: u32,
