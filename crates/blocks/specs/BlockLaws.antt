@@ -11,7 +11,8 @@ use Rattle.theory_reading.specs.Reading.{State, Reading, goes, level, is_start, 
 use Rattle.theory_reading.specs.Deciding.{Decision, undecided, decided, complemented, options, Trace, trace_on, trace, decision_of, decision}
 use Rattle.theory_reading.specs.Calls.{Verdict, not_yet, is_no, is_yes, verdict_of, verdict}
 use Rattle.theory_reading.proofs.Covered.{grown-on, grown-count, trace-covered}
-use Rattle.theory_reading.proofs.TableWalk.{table_walk, tied_on}
+use Rattle.theory_reading.specs.TableWalk.{table_walk}
+use Rattle.theory_reading.proofs.TableWalk.{tied_on}
 use Rattle.theory_reading.proofs.Passing.{start_trace}
 use Rattle.theory_reading.proofs.Settled.{never-some, trace-onward}
 use Rattle.theory_reading.proofs.Reaching.{At, at_next, at-fault, at-end, at-grows, at-passes}

@@ -7,8 +7,8 @@ use Rattle.theory_reading.specs.Nodes.{Node, child}
 use Rattle.theory_reading.specs.Element as T
 use Rattle.theory_reading.specs.Deciding.{complemented, options, trace}
 use Rattle.theory_reading.specs.Calls as R
-use Rattle.theory_reading.proofs.Covered.{parity}
-use Rattle.theory_reading.proofs.TableWalk.{table_walk}
+use Rattle.theory_reading.specs.Covered.{parity}
+use Rattle.theory_reading.specs.TableWalk.{table_walk}
 use Rattle.theory_reading.proofs.Reaching.{At, decided-passed}
 use Rattle.work_table.specs.TableLaws.{table_of}
 use Rattle.node_records.specs.declared.Edge.{Edge}

@@ -13,7 +13,7 @@ use Rattle.theory_reading.specs.Calls as R
 use Rattle.theory_reading.specs.Element as T
 use Rattle.theory_reading.specs.Reading.{is_two}
 use Rattle.theory_reading.specs.Deciding.{ended}
-use Rattle.theory_reading.proofs.Spine.{firsts_stay, spine_number}
+use Rattle.theory_reading.specs.Spine.{firsts_stay, spine_number}
 use Rattle.elements.specs.Abstraction.{ref_of, context_of, opens_of, deep_of, open_list}
 use Rattle.elements.specs.OpenLaws.{deep-most, open-length}
 use Rattle.work_table.specs.TableLaws.{table_of}

@@ -12,9 +12,10 @@ use Rattle.theory_reading.specs.Element as T
 use Rattle.theory_reading.specs.Reading.{State, Reading, is_start, is_two, reading}
 use Rattle.theory_reading.specs.Deciding.{decided, complemented, options, ended, decision}
 use Rattle.theory_reading.specs.Calls as R
-use Rattle.theory_reading.proofs.TableWalk.{table_walk}
+use Rattle.theory_reading.specs.TableWalk.{table_walk}
 use Rattle.theory_reading.proofs.Lasting.{Ordered}
-use Rattle.theory_reading.proofs.Spine.{firsts_stay, spine_number, SpineIn, Shows, Extends, FirstsDeep, Stays, begun_number}
+use Rattle.theory_reading.specs.Spine.{firsts_stay, spine_number}
+use Rattle.theory_reading.proofs.Spine.{SpineIn, Shows, Extends, FirstsDeep, Stays, begun_number}
 use Rattle.theory_reading.proofs.Spine.{spine_opens, spine_last, spine-decides, begun-deep, reading-firsts}
 use Rattle.elements.specs.Abstraction.{context_of, ref_of, deep_of, open_list}
 use Rattle.elements.specs.OpenLaws.{open-length}

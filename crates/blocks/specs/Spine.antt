@@ -4,7 +4,7 @@ use Rattle.std.proofs.Common.{sym, ap₂, ◌∙◌, arith, eq-eqb, ne_eqb}
 use Rattle.std.proofs.Math.Path.{ap}
 use Rattle.theory_reading.specs.Nodes.{Node, child}
 use Rattle.theory_reading.specs.Element as T
-use Rattle.theory_reading.proofs.Spine.{first_stays, firsts_stay, spine_number}
+use Rattle.theory_reading.specs.Spine.{first_stays, firsts_stay, spine_number}
 use Rattle.node_records.specs.Records.{no_record}
 use Rattle.record_tables.specs.Entries.{entry_at, put_entry}
 use Rattle.work_table.specs.Table.{get_in, worded_in}

@@ -9,7 +9,8 @@ use Rattle.theory_reading.specs.Limits.{table_limit}
 use Rattle.theory_reading.specs.Nodes.{child, Node, node, is_child}
 use Rattle.theory_reading.specs.Element as T
 use Rattle.theory_reading.proofs.Lasting.{Ordered, child-of, is-first, is-second}
-use Rattle.theory_reading.proofs.Spine.{spine_node, SpineIn, spine_number, Extends, FirstsDeep}
+use Rattle.theory_reading.specs.Spine.{spine_number}
+use Rattle.theory_reading.proofs.Spine.{spine_node, SpineIn, Extends, FirstsDeep}
 use Rattle.node_records.specs.Records.{no_record}
 use Rattle.record_tables.specs.Entries.{entry_at}
 use Rattle.work_table.specs.Table.{get_in, worded_in, get-above, get-entry}

@@ -2,10 +2,10 @@
 #![tactic(auto)]
 
 ghost use Rattle.std.specs.Prelude.{◌≡◌, List, ◌+◌, ◌-◌, ◌≤◌};
-ghost use Rattle.theory_reading.proofs.Covered.{parity};
+ghost use Rattle.theory_reading.specs.Covered.{parity};
 ghost use Rattle.theory_reading.specs.Deciding.{ended};
 ghost use Rattle.theory_reading.specs.Limits.{open_limit, table_limit};
-ghost use Rattle.theory_reading.proofs.Spine.{first_stays, firsts_stay, spine_number};
+ghost use Rattle.theory_reading.specs.Spine.{first_stays, firsts_stay, spine_number};
 ghost use Rattle.elements.specs.Abstraction.{open_of, opens_of, deep_of, open_list, context_of, cause_of};
 ghost use Rattle.node_records.specs.declared.NodeRecord.{NodeRecord};
 ghost use Rattle.work_table.specs.TableLaws.{table_of};

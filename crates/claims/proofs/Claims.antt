@@ -9,7 +9,7 @@ use Rattle.theory_reading.specs.Deciding.{decided, decision}
 use Rattle.theory_reading.specs.Calls.{Checked, Read, check, Verdict, verdict_of, decide, Decides, digit_of, Fill, fill}
 use Rattle.theory_reading.specs.Calls.{NextWord, find_next}
 use Rattle.theory_reading.proofs.Covered as C
-use Rattle.theory_reading.proofs.Covered.{covered}
+use Rattle.theory_reading.specs.Covered.{covered}
 use Rattle.theory_reading.proofs.Settled as F
 use Rattle.theory_reading.proofs.FaultRank.{fault-counts}
 use Rattle.theory_reading.proofs.CallLaws as L

@@ -9,7 +9,7 @@ use Rattle.theory_reading.specs.Causes.{option_count, operator_code, size_to_wri
 use Rattle.theory_reading.specs.Reading.{reading}
 use Rattle.theory_reading.specs.Deciding.{decided, decision}
 use Rattle.theory_reading.specs.Calls.{complete, cut, check, is_no, is_yes, decide, NextWord, word, not_known, find_next, fill}
-use Rattle.theory_reading.proofs.Covered.{covered}
+use Rattle.theory_reading.specs.Covered.{covered}
 use Rattle.theory_writing.specs.Run.{whole, input_ended, output_full}
 use Rattle.theory_writing.specs.Calls.{write, Combine, combine}
 use Rattle.claims.specs.Terms.{First, AllUnmet, combine_lines, Operated, Covers, ReadAs, Complete, NextIs, Answers, Lists, RisingWords}

@@ -14,7 +14,7 @@ use Rattle.theory_reading.specs.Reading.{Fault, Reading, reading}
 use Rattle.theory_reading.specs.Deciding.{decided, decision}
 use Rattle.theory_reading.specs.Calls.{NextWord}
 use Rattle.theory_reading.proofs.Covered as C
-use Rattle.theory_reading.proofs.Covered.{covered}
+use Rattle.theory_reading.specs.Covered.{covered}
 use Rattle.theory_reading.proofs.Prefix as P
 use Rattle.theory_reading.proofs.CauseSeven as G
 use Rattle.theory_writing.specs.UniqueTable.{start}

@@ -11,7 +11,7 @@ use Rattle.theory_reading.specs.Causes.{Result, refused, done, table_after, unle
 use Rattle.theory_reading.specs.Deciding.{decision, trace}
 use Rattle.theory_reading.specs.Calls.{check, check_answer, decide, decide_answer, find_next, find_answer, digit_of, verdict_of, bytes_from, fill, fill_answer}
 use Rattle.theory_reading.proofs.CallLaws.{keeps_output_lem, keeps-table, zeroes-table, zeroes-done, filled-word, filled-length, filled-bytes}
-use Rattle.theory_reading.proofs.Covered.{covered}
+use Rattle.theory_reading.specs.Covered.{covered}
 use Rattle.theory_writing.specs.Run.{operate, run_covered, Answer, answer_of, output_after}
 use Rattle.theory_writing.specs.Output.{output-beyond, output-length}
 use Rattle.theory_writing.specs.Calls.{write_text, write_answer, write, combine_text, combine_answer, Combine, combine}

@@ -13,7 +13,8 @@ use Rattle.theory_reading.specs.Causes.{done}
 use Rattle.theory_reading.specs.Reading.{reading}
 use Rattle.theory_reading.specs.Deciding.{Decision, undecided, decided, decision, trace}
 use Rattle.theory_reading.specs.Calls.{is_yes, verdict_of, verdict, is_admitted, Read, NextWord, word, no_word, not_known, next_word, find_next}
-use Rattle.theory_reading.proofs.Covered.{covered, trace-covered, covered-decided, covered-most, covered-grows, decision-stands}
+use Rattle.theory_reading.specs.Covered.{covered}
+use Rattle.theory_reading.proofs.Covered.{trace-covered, covered-decided, covered-most, covered-grows, decision-stands}
 use Rattle.theory_reading.proofs.CallLaws.{verdict-decision}
 use Rattle.theory_reading.specs.NextWord.{NoneAdmitted, NextSays, next-says}
 use Rattle.claims.specs.Terms.{DecidedNo, NextIs, Answers, Lists, RisingWords}

@@ -14,11 +14,13 @@ use Rattle.theory_reading.specs.Reading.{reading}
 use Rattle.theory_reading.specs.Deciding.{Decision, undecided, decided, decision}
 use Rattle.theory_reading.specs.Calls.{verdict_of, decide}
 use Rattle.theory_reading.proofs.CallLaws.{decide-decision}
-use Rattle.theory_reading.proofs.Covered.{covered, covered-most, decision-stands}
+use Rattle.theory_reading.specs.Covered.{covered}
+use Rattle.theory_reading.proofs.Covered.{covered-most, decision-stands}
 use Rattle.theory_writing.specs.Run.{operate, decisions, joint, run_covered, or_no, run_text, run_of, written_bytes, output_after, whole, input_ended, output_full}
 use Rattle.theory_writing.specs.Run.{Answer, answer_of}
 use Rattle.theory_writing.specs.Grows.{run-stable}
-use Rattle.theory_writing.proofs.Inputs.{May, AllMay, never-decided, decided-one, outcome-any, outcome-all, run_covered-most, covered-settled, covered-open}
+use Rattle.theory_writing.specs.Inputs.{May, AllMay}
+use Rattle.theory_writing.proofs.Inputs.{never-decided, decided-one, outcome-any, outcome-all, run_covered-most, covered-settled, covered-open}
 use Rattle.theory_writing.proofs.Inputs.{run_covered-is, Extend, run_covered-grows, run_of-written}
 use Rattle.theory_writing.specs.Output.{written-length, output-written, written_all}
 use Rattle.theory_writing.specs.Calls.{combine_text, combine_answer, combine, write_text, truth_at, write_answer, write}

@@ -4,7 +4,8 @@ use Rattle.std.proofs.Common.{sym, ap, ap₂, ◌∙◌, ⊎_elim, arith}
 use Rattle.std.proofs.lemmas.Bool.{false≢true}
 use Rattle.theory_lists.specs.Lists.{decide-le}
 use Rattle.theory_reading.specs.Deciding.{Decision, undecided, decided, decision}
-use Rattle.theory_reading.proofs.Covered.{covered, covered-decided, covered-most, uncovered-undecided}
+use Rattle.theory_reading.specs.Covered.{covered}
+use Rattle.theory_reading.proofs.Covered.{covered-decided, covered-most, uncovered-undecided}
 use Rattle.theory_writing.specs.Run.{operate}
 use Rattle.theory_writing.proofs.Inputs.{never-decided}
 use Rattle.claims.specs.Terms.{Value, Operated, Covers}

@@ -8,7 +8,8 @@ use Rattle.theory_lists.specs.Maps.{get_or-replicate-same}
 use Rattle.theory_reading.specs.Nodes.{Node, no_node, node, is_child, has_parent}
 use Rattle.theory_reading.specs.Deciding.{Decision, decided, complemented, Diagram, leaf, branch, walk, options}
 use Rattle.theory_reading.specs.Words.{options-low, options-high, complemented-twice}
-use Rattle.theory_reading.proofs.TableWalk.{table_walk, table_walk-zero, table_walk-skip, table_walk-go, RowTied}
+use Rattle.theory_reading.specs.TableWalk.{table_walk}
+use Rattle.theory_reading.proofs.TableWalk.{table_walk-zero, table_walk-skip, table_walk-go, RowTied}
 use Rattle.theory_writing.specs.UniqueTable.{start, placed}
 use Rattle.theory_writing.specs.Storing.{Parentless, placed_same, placed-other}
 use Rattle.theory_writing.specs.Queue.{has_parent-all}

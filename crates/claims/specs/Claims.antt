@@ -1,8 +1,9 @@
 -- WHAT IS CLAIMED of each call. A statement's premise is the contract of the call, as the code's `ensures` has it: `Checks`, `Decides`, `FindsNext` and
 -- `Fills` of reading's Calls, `Writes` and `Combines` of writing's: c, the answer with all lent memory, is what the definition after documents 01 and 02
 -- gives. Three records have the three demands of document 01, with the call of R-1 among the others and the covered count of R-3, and one each has what
--- R-1 and R-3 ask beside them; each statement stands under a line of plain words; proofs/Claims has their values, which prove them by citation. Terms has the terms, proofs/Examples a run of each, proofs/Further
--- what else is proved. R: a record of a work table to read with, S: one of a table to write with; z, o: those that are zero.
+-- R-1 and R-3 ask beside them; each statement stands under a line of plain words; proofs/Claims has their values, which prove them by citation. Terms has
+-- the terms, proofs/Examples a run of each, proofs/Further what else is proved. R: a record of a work table to read with, S: one of a table to write
+-- with; z, o: those that are zero.
 -- x, y: input streams; t, u, v: work tables; out: what the output held. Assumes nothing.
 use Rattle.std.specs.Prelude.{◌≡◌, ◌⊎◌, ◌↔◌, Bool, true, false, List, [], ◌∷◌, ◌++◌, ℕ, ◌/◌, ◌%◌, ◌≤◌, ◌<◌, ◌^◌, min, length, take, get_or}
 use Rattle.std.proofs.Math.Option.{none, some}
@@ -15,10 +16,10 @@ use Rattle.theory_reading.specs.Reading.{Fault, reading}
 use Rattle.theory_reading.specs.Deciding.{Decision, decided, undecided, decision}
 use Rattle.theory_reading.specs.Calls.{Checked, extent, Read, Checks, Verdict, verdict_of, Decides, digit_of, Fill, Fills}
 use Rattle.theory_reading.specs.Calls.{NextWord, not_known, FindsNext}
-use Rattle.theory_reading.proofs.Covered.{covered}
-use Rattle.theory_reading.proofs.FaultRank.{Counts}
+use Rattle.theory_reading.specs.Covered.{covered}
+use Rattle.theory_reading.specs.FaultRank.{Counts}
 use Rattle.theory_writing.specs.Run.{outcome, run_text, whole, Answer}
-use Rattle.theory_writing.proofs.Inputs.{AllMay}
+use Rattle.theory_writing.specs.Inputs.{AllMay}
 use Rattle.theory_writing.specs.Calls.{truth_at, Write, Writes, Combine, Combines}
 use Rattle.claims.specs.Terms.{TurnedDown, check_lines, decide_lines, find_lines, fill_lines, write_lines, combine_lines}
 use Rattle.claims.specs.Terms.{TableLeft, OutputLeft, Gets, Operated, Covers, ReadAs, Complete, NextIs, Lists, RisingWords}

@@ -18,7 +18,8 @@ use Rattle.theory_reading.specs.Deciding.{decided, complemented, Diagram, missin
 use Rattle.theory_reading.specs.Deciding.{trace, trace_on, decision_of, decision}
 use Rattle.theory_reading.proofs.Prefix.{trace-reading}
 use Rattle.theory_reading.proofs.Settled.{trace-settled, trace-ended}
-use Rattle.theory_reading.proofs.Covered.{covered, complete-covers}
+use Rattle.theory_reading.specs.Covered.{covered}
+use Rattle.theory_reading.proofs.Covered.{complete-covers}
 use Rattle.theory_reading.proofs.TableWalk.{RowTied, tied_on, TiedTrace}
 use Rattle.theory_writing.specs.UniqueTable as U
 use Rattle.theory_writing.specs.Rules.{Text, number, one, two, part}

@@ -10,7 +10,7 @@ use Rattle.theory_reading.specs.Element.{over}
 use Rattle.theory_reading.specs.Reading.{reading}
 use Rattle.theory_reading.specs.Deciding.{decided, decision}
 use Rattle.theory_reading.specs.Calls.{Read, NextWord, word, no_word, not_known, FindsNext}
-use Rattle.theory_reading.proofs.Covered.{covered}
+use Rattle.theory_reading.specs.Covered.{covered}
 use Rattle.theory_writing.specs.Run.{operate, Answer, ending_of}
 
 -- ---- Turned down -----------------------------------------------------------------------------

@@ -11,7 +11,8 @@ use Rattle.theory_reading.specs.Limits.{option_limit, table_limit}
 use Rattle.theory_reading.specs.Reading.{reading}
 use Rattle.theory_reading.specs.Deciding.{Decision, decided, decision}
 use Rattle.theory_reading.proofs.Prefix.{accepted-before}
-use Rattle.theory_reading.proofs.Covered.{covered, covered-decided, covered-most, decision-stands}
+use Rattle.theory_reading.specs.Covered.{covered}
+use Rattle.theory_reading.proofs.Covered.{covered-decided, covered-most, decision-stands}
 use Rattle.theory_writing.specs.Run.{run_text, written_bytes}
 use Rattle.theory_writing.specs.Grows.{run-stable, run-grows}
 use Rattle.theory_writing.specs.Output.{written-begins}

@@ -8,7 +8,7 @@ use Rattle.theory_reading.specs.Nodes.{Node, node}
 use Rattle.theory_reading.proofs.Lasting.{Ordered}
 use Rattle.theory_reading.specs.Causes.{Result, refused, done, cleared}
 use Rattle.theory_reading.specs.Calls.{Checked}
-use Rattle.theory_reading.proofs.Covered.{covered}
+use Rattle.theory_reading.specs.Covered.{covered}
 use Rattle.theory_reading.specs.Deciding.{decision}
 use Rattle.theory_writing.specs.Run.{operate, whole, input_ended, output_full, Answer}
 use Rattle.theory_writing.proofs.Inputs.{run_covered-most}

@@ -7,7 +7,8 @@ use Rattle.theory_lists.specs.Lists.{differ, and_l, and_r, decide-le}
 use Rattle.theory_reading.specs.Limits.{option_limit, table_limit}
 use Rattle.theory_reading.specs.Causes.{cleared}
 use Rattle.theory_reading.specs.Deciding.{Decision, decided, decision}
-use Rattle.theory_reading.proofs.Covered.{covered, covered-most, covered-decided, uncovered-undecided}
+use Rattle.theory_reading.specs.Covered.{covered}
+use Rattle.theory_reading.proofs.Covered.{covered-most, covered-decided, uncovered-undecided}
 use Rattle.theory_writing.specs.Run.{operate, run_covered}
 use Rattle.theory_writing.proofs.Inputs.{decided-one}
 use Rattle.theory_writing.proofs.TwoInputs.{opens, Ends, Reaches, Asks, covered-first, covered-second, covered-all}

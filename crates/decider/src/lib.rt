@@ -5,7 +5,7 @@ ghost use Rattle.std.specs.Prelude.{◌≡◌, [], ◌+◌, ◌≤◌};
 ghost use Rattle.theory_reading.specs.Limits.{option_limit, open_limit};
 ghost use Rattle.theory_reading.specs.Deciding.{decided, complemented, options};
 ghost use Rattle.theory_reading.specs.Calls.{verdict_of, Decides};
-ghost use Rattle.theory_reading.proofs.TableWalk.{table_walk};
+ghost use Rattle.theory_reading.specs.TableWalk.{table_walk};
 ghost use Rattle.node_records.specs.Records.{no_record};
 ghost use Rattle.work_table.specs.TableLaws.{table_of};
 ghost use Rattle.reader.specs.OpenCells.{reached_in};

@@ -13,7 +13,7 @@ use Rattle.theory_reading.specs.Deciding.{Trace, trace_on, trace}
 use Rattle.theory_reading.specs.Causes as C
 use Rattle.theory_reading.specs.Calls as R
 use Rattle.theory_reading.specs.Calls.{bytes_from}
-use Rattle.theory_reading.proofs.Covered.{parity}
+use Rattle.theory_reading.specs.Covered.{parity}
 use Rattle.theory_reading.proofs.Settled.{never-some}
 use Rattle.theory_reading.proofs.Passing.{start_trace}
 use Rattle.theory_reading.proofs.Filling.{put_node}

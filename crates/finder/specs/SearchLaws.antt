@@ -12,7 +12,7 @@ use Rattle.theory_reading.specs.Deciding.{options, Decision, undecided, decided,
 use Rattle.theory_reading.specs.Calls.{verdict_of, is_admitted}
 use Rattle.theory_reading.specs.Words.{options-low, options-high}
 use Rattle.theory_reading.proofs.Lasting.{Ordered}
-use Rattle.theory_reading.proofs.TableWalk.{table_walk}
+use Rattle.theory_reading.specs.TableWalk.{table_walk}
 use Rattle.node_records.specs.Edges.{first_edge, second_edge}
 use Rattle.node_records.specs.Words.{some_yes, first_child, second_child, some_below}
 use Rattle.node_records.specs.declared.Edge.{Edge}

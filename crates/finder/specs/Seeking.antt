@@ -6,7 +6,8 @@ use Rattle.theory_lists.specs.Lists.{differ, differ-assoc, decide-le}
 use Rattle.theory_reading.specs.Limits.{option_limit, open_limit, table_limit, word_limit}
 use Rattle.theory_reading.specs.Nodes.{Node}
 use Rattle.theory_reading.specs.Deciding.{options, decided, decision}
-use Rattle.theory_reading.proofs.Covered.{parity, covered-decided}
+use Rattle.theory_reading.specs.Covered.{parity}
+use Rattle.theory_reading.proofs.Covered.{covered-decided}
 use Rattle.theory_reading.proofs.Reaching.{at-within}
 use Rattle.elements.specs.Abstraction.{open_list}
 use Rattle.node_records.specs.Words.{some_yes}

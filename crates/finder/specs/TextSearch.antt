@@ -9,7 +9,8 @@ use Rattle.theory_reading.specs.Nodes.{Node}
 use Rattle.theory_reading.specs.Causes as C
 use Rattle.theory_reading.specs.Reading.{Reading, reading}
 use Rattle.theory_reading.specs.Deciding.{decided, decision}
-use Rattle.theory_reading.proofs.Covered.{covered, covered-decided, covered-most}
+use Rattle.theory_reading.specs.Covered.{covered}
+use Rattle.theory_reading.proofs.Covered.{covered-decided, covered-most}
 use Rattle.theory_reading.proofs.Lasting.{Ordered}
 use Rattle.node_records.specs.Records.{no_record}
 use Rattle.node_records.specs.declared.Edge.{Edge}

@@ -15,9 +15,11 @@ use Rattle.kinds.specs.Kinds.{kind_table}
 use Rattle.scanner.specs.ScannedToken as G
 use Rattle.theory_reading.specs.Reading.{State, Reading, goes, fails, is_start, is_two, barred_colon, first_digit, with_element, after, advance}
 use Rattle.theory_reading.specs.Deciding.{drawing, Trace}
-use Rattle.theory_reading.proofs.Prefix.{chosen, byte_at, advance-chosen, trace-past}
+use Rattle.theory_reading.specs.Prefix.{byte_at}
+use Rattle.theory_reading.proofs.Prefix.{chosen, advance-chosen, trace-past}
 use Rattle.theory_lists.specs.Lookups.{lookup-inside}
-use Rattle.theory_reading.proofs.StepLaws.{AheadBy, digit_place, step-ahead}
+use Rattle.theory_reading.specs.StepLaws.{digit_place}
+use Rattle.theory_reading.proofs.StepLaws.{AheadBy, step-ahead}
 use Rattle.theory_reading.specs.ParentCounts.{parents}
 use Rattle.scanner.specs.Capped.{cap_outcome, cap_step}
 use Rattle.elements.specs.Abstraction.{context_of, ref_of, element_of, cause_of, outcome_of, open_of, inside_open, opens_of, deep_of}

@@ -12,7 +12,8 @@ use Rattle.theory_reading.specs.Nodes.{no_node, node}
 use Rattle.theory_reading.specs.Causes.{declared_size, not_in_table, bad_number}
 use Rattle.theory_reading.specs.Element.{Element, opening, number, constant, turn, closing, storing, end, Place, Outcome, got, fault, ran_out, step}
 use Rattle.theory_reading.specs.Reading.{State, Reading, goes, fails, is_start, sized, found, is_bad, stored, with_element, barred_colon, after, advance}
-use Rattle.theory_reading.proofs.Prefix.{chosen, byte_at, advance-chosen}
+use Rattle.theory_reading.specs.Prefix.{byte_at}
+use Rattle.theory_reading.proofs.Prefix.{chosen, advance-chosen}
 use Rattle.scanner.specs.Capped.{number_most, cap, cap_element, cap_outcome}
 
 -- a number that code holds is as it was

@@ -12,7 +12,7 @@ use Rattle.theory_lists.specs.Lookups.{lookup-past}
 use Rattle.theory_reading.specs.Limits.{open_limit}
 use Rattle.theory_reading.specs.Causes as C
 use Rattle.theory_reading.specs.Element as T
-use Rattle.theory_reading.proofs.StepLaws.{digit_place}
+use Rattle.theory_reading.specs.StepLaws.{digit_place}
 use Rattle.kinds.specs.Kinds.{kind_table}
 use Rattle.scanner.specs.ScannedToken as G
 use Rattle.scanner.specs.Capped.{cap_outcome}

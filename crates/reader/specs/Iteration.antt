@@ -3,7 +3,7 @@ use Rattle.std.specs.Prelude.{◌≡◌, refl, Bool, true, false, not, ◌&&◌,
 use Rattle.std.proofs.Common.{ap, ap₂, ◌∙◌, eq-eqb, ne_eqb}
 use Rattle.theory_reading.specs.Bytes.{colon}
 use Rattle.theory_reading.specs.Reading.{is_two}
-use Rattle.theory_reading.proofs.StepLaws.{digit_place}
+use Rattle.theory_reading.specs.StepLaws.{digit_place}
 use Rattle.kinds.specs.Kinds.{kind_table}
 use Rattle.elements.specs.Abstraction.{context_of}
 use Rattle.scanner.specs.TokenView.{next_token, next_token_view}

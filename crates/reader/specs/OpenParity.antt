@@ -5,7 +5,7 @@ use Rattle.std.proofs.lemmas.Bool.{false≢true}
 use Rattle.theory_lists.specs.Lists.{differ, differ-twice, decide-le}
 use Rattle.theory_reading.specs.Limits.{open_limit}
 use Rattle.theory_reading.specs.Element as T
-use Rattle.theory_reading.proofs.Covered.{parity}
+use Rattle.theory_reading.specs.Covered.{parity}
 use Rattle.kinds.specs.Kinds.{kind_table}
 use Rattle.elements.specs.Abstraction.{ref_of, open_of, context_of, inside_open, opens_of, deep_of, open_list, last_open, low_at, high_at}
 use Rattle.elements.specs.OpenLaws.{opens-set, low-suc, deep-self}

@@ -4,7 +4,7 @@ use Rattle.std.specs.Prelude.{◌≡◌, refl, Bool, true, false, List, ℕ, zer
 use Rattle.std.proofs.Common.{sym, ap, ◌∙◌, subst, inl, ⊎_elim, true≢false, arith}
 use Rattle.theory_lists.specs.Lists.{differ, decide-le}
 use Rattle.theory_reading.specs.Limits.{option_limit, word_limit}
-use Rattle.theory_reading.proofs.Covered.{parity}
+use Rattle.theory_reading.specs.Covered.{parity}
 use Rattle.elements.specs.Abstraction.{open_list}
 use Rattle.elements.specs.declared.Opens.{Opens}
 use Rattle.cursors.specs.declared.Run.{Run}

@@ -2,7 +2,7 @@
 
 ghost use Rattle.std.specs.Prelude.{◌≡◌, ◌+◌, ◌-◌, ◌<◌, ◌≤◌, ◌^◌};
 ghost use Rattle.theory_reading.specs.Limits.{option_limit, open_limit, word_limit};
-ghost use Rattle.theory_reading.proofs.StepLaws.{digit_place};
+ghost use Rattle.theory_reading.specs.StepLaws.{digit_place};
 ghost use Rattle.kinds.specs.Kinds.{kind_table};
 ghost use Rattle.reader.specs.Taking.{goes_of, fails_of, moved_to, passed_to, turned_to, sized_to, found_to, closed_two, closed_to, is_bad_of};
 ghost use Rattle.reader.specs.Taking.{next_stamp, stored_to, taken_of};

@@ -6,7 +6,8 @@ use Rattle.theory_lists.specs.Lists.{differ, and_l, and_r, or_l, or_r, pow_pos}
 use Rattle.theory_reading.specs.Nodes.{node}
 use Rattle.theory_reading.specs.Deciding.{options, Decision, undecided, decided, complemented}
 use Rattle.theory_reading.specs.Words.{options-low, options-high, complemented-twice}
-use Rattle.theory_reading.proofs.TableWalk.{table_walk, table_walk-zero, table_walk-skip, table_walk-go}
+use Rattle.theory_reading.specs.TableWalk.{table_walk}
+use Rattle.theory_reading.proofs.TableWalk.{table_walk-zero, table_walk-skip, table_walk-go}
 use Rattle.theory_applying.specs.Applying.{Source, passes, first_source, second_source, first_sources, second_sources, first_values, all_pass, fixed}
 
 -- ---- What an input shows ---------------------------------------------------------------------

@@ -8,10 +8,11 @@ use Rattle.theory_lists.specs.Lists.{decide-le}
 use Rattle.theory_reading.specs.Limits.{option_limit, table_limit}
 use Rattle.theory_reading.specs.Reading.{is_start, reading}
 use Rattle.theory_reading.specs.Deciding.{Decision, decided, options, decision}
-use Rattle.theory_reading.proofs.Covered.{covered, covered-decided, uncovered-undecided, covered-most}
+use Rattle.theory_reading.specs.Covered.{covered}
+use Rattle.theory_reading.proofs.Covered.{covered-decided, uncovered-undecided, covered-most}
 use Rattle.theory_reading.proofs.Lasting.{Lasts, Ordered}
 use Rattle.theory_writing.specs.Run.{or_no}
-use Rattle.theory_writing.proofs.Inputs.{May}
+use Rattle.theory_writing.specs.Inputs.{May}
 use Rattle.theory_applying.specs.ApplyLaws.{Shows, source_walk}
 use Rattle.theory_applying.specs.Sitting.{Sits}
 use Rattle.theory_applying.specs.OperandLaws.{ReaderLaws, Comes}

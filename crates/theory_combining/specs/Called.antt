@@ -8,7 +8,7 @@ use Rattle.theory_reading.specs.Causes.{Refusal, Result, refused, done}
 use Rattle.theory_reading.specs.Reading.{reading}
 use Rattle.theory_reading.specs.Deciding.{decision}
 use Rattle.theory_reading.specs.Calls.{Checked, check}
-use Rattle.theory_reading.proofs.Covered.{covered}
+use Rattle.theory_reading.specs.Covered.{covered}
 use Rattle.theory_writing.specs.Run.{operate, joint, or_no, run_covered, run_text, whole, input_ended, output_full, Answer}
 use Rattle.theory_writing.proofs.Inputs.{covered-settled, outcome-any}
 use Rattle.theory_writing.specs.Calls.{combine_text, combine}

@@ -14,7 +14,7 @@ use Rattle.theory_reading.specs.Reading.{Fault, reading}
 use Rattle.theory_reading.specs.Calls.{Checked, checked_of, unless_fault, check_answer, Read, check}
 use Rattle.theory_reading.specs.Deciding.{decision}
 use Rattle.theory_reading.proofs.Settled.{fault-leaves}
-use Rattle.theory_reading.proofs.Covered.{covered}
+use Rattle.theory_reading.specs.Covered.{covered}
 use Rattle.theory_reading.proofs.CallLaws.{zeroes-table, zeroes-done}
 use Rattle.theory_writing.specs.Run.{operate, run_covered, whole, input_ended, output_full, output_after, Answer, answer_of}
 use Rattle.theory_writing.specs.Calls.{unless_faults, combine_text, combine_answer, Combine, combine}

@@ -13,7 +13,7 @@ use Rattle.theory_reading.proofs.Lasting.{Ordered}
 use Rattle.theory_reading.proofs.TableWalk.{table_walk-zero}
 use Rattle.theory_writing.specs.Run.{operate, run_text}
 use Rattle.theory_writing.specs.Grows.{run-stable}
-use Rattle.theory_writing.proofs.Inputs.{May}
+use Rattle.theory_writing.specs.Inputs.{May}
 use Rattle.theory_engine.specs.Pending.{waiting_limit}
 use Rattle.theory_engine.specs.Cells.{zero-cell}
 use Rattle.theory_engine.specs.Engine.{Sent}

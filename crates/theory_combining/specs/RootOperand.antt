@@ -5,7 +5,7 @@ use Rattle.std.proofs.Common.{sym, ap, ◌∙◌, arith}
 use Rattle.std.proofs.Math.Path.{subst⁻¹}
 use Rattle.theory_reading.specs.Deciding.{Decision, undecided, decided, options, decision}
 use Rattle.theory_writing.specs.Run.{or_no}
-use Rattle.theory_writing.proofs.Inputs.{May}
+use Rattle.theory_writing.specs.Inputs.{May}
 use Rattle.theory_applying.specs.Applying.{Source}
 use Rattle.theory_applying.specs.ApplyLaws.{Shows, source_walk}
 use Rattle.theory_applying.specs.Sitting.{Sits}

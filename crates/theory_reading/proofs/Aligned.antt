@@ -8,7 +8,8 @@ use Rattle.theory_reading.specs.Element.{Open, in_first, in_second}
 use Rattle.theory_reading.specs.Reading.{State, Reading}
 use Rattle.theory_reading.specs.Deciding.{Diagram, top, below, Drawing, trace_on, ended}
 use Rattle.theory_reading.specs.Words.{Full, bits, length-bits}
-use Rattle.theory_reading.proofs.Covered.{parity, before, passed_by, Nest, under, Good}
+use Rattle.theory_reading.specs.Covered.{parity}
+use Rattle.theory_reading.proofs.Covered.{before, passed_by, Nest, under, Good}
 use Rattle.theory_reading.proofs.TableWalk.{tied_on}
 use Rattle.theory_reading.proofs.Passing.{start_trace}
 use Rattle.theory_reading.proofs.Reaching.{At}

@@ -16,7 +16,7 @@ use Rattle.theory_reading.specs.Deciding.{Trace, decision_of, decision, trace}
 use Rattle.theory_reading.specs.Calls.{Verdict, is_no, is_yes, not_yet, verdict_of, verdict, decide_answer, decide, digit_of, words_from, bytes_from}
 use Rattle.theory_reading.specs.Calls.{fill_answer, fill}
 use Rattle.theory_reading.proofs.Prefix.{trace-reading}
-use Rattle.theory_reading.proofs.Covered.{covered, trace-covered, uncovered-undecided}
+use Rattle.theory_reading.proofs.Covered.{trace-covered, uncovered-undecided}
 
 -- the test against the covered count says nothing more than the decision
 pub verdict-decision : (n : ℕ) (bytes : List ℕ) (w : ℕ) → w < 2 ^ n → verdict n (trace n bytes) w ≡ verdict_of (decision n bytes w)

@@ -11,7 +11,7 @@ use Rattle.theory_reading.specs.Limits.{table_limit}
 use Rattle.theory_reading.specs.Nodes.{is_kept, node}
 use Rattle.theory_reading.specs.Causes.{Cause, wrong_byte, declared_size, too_deep, not_in_table, other_level, not_storable, bad_number, cause_row}
 use Rattle.theory_reading.specs.Element.{Element, opening, number, constant, turn, closing, storing, end, Open, in_first, in_second, Context}
-use Rattle.theory_reading.specs.Element.{over, Place, place, begin, Outcome, got, fault, ran_out, Step, fails as faults, waits, step}
+use Rattle.theory_reading.specs.Element.{over, Place, begin, Outcome, got, fault, ran_out, Step, fails as faults, waits, step}
 use Rattle.theory_reading.specs.Reading.{State, fresh, Fault, Reading, goes, fails, level, is_start, closed, is_bad, with_element, barred_colon}
 use Rattle.theory_reading.specs.Reading.{first_digit, after, advance, next, onward, reading}
 use Rattle.theory_reading.specs.Grammar.{IsStream, Viable}

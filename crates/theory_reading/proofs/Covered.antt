@@ -9,9 +9,9 @@ use Rattle.std.proofs.Math.ListN.{get_or-append, get_or-eq_default, get_or-map}
 use Rattle.theory_lists.specs.Lists.{differ, decide-le}
 use Rattle.theory_lists.specs.Maps.{map-append, map_same, map-map, map-replicate, get_or-pad, get_or-replicate-same}
 use Rattle.theory_reading.specs.Nodes.{Ref, Node, no_node, node}
-use Rattle.theory_reading.specs.Element.{Open, in_first, in_second, Context, start, lead, begins, after_digit, after_two, after_one, over, place}
+use Rattle.theory_reading.specs.Element.{Open, in_first, in_second, Context, start, lead, begins, after_digit, after_two, after_one, over}
 use Rattle.theory_reading.specs.Element.{moved, step}
-use Rattle.theory_reading.specs.Reading.{State, state, Fault, Reading, goes, fresh, level, passed, is_context, is_lead, next_by, next, reading}
+use Rattle.theory_reading.specs.Reading.{State, Fault, Reading, goes, fresh, level, passed, is_context, is_lead, next_by, next, reading}
 use Rattle.theory_reading.specs.Deciding.{Decision, undecided, decided, complemented, Diagram, missing, leaf, branch, top, below, Drawing}
 use Rattle.theory_reading.specs.Deciding.{drawing, draw_unless, Trace, traced, next_trace, trace_on, trace, ended, around, outermost_of, outermost}
 use Rattle.theory_reading.specs.Deciding.{decision_of, decision}
@@ -20,14 +20,9 @@ use Rattle.theory_reading.proofs.Moves.{Begins, anew, second, Move, rests, refus
 use Rattle.theory_reading.proofs.Moves.{closes_two, stores, ends, advance-move}
 use Rattle.theory_reading.specs.Words.{spread, length-spread, walk-spread, Full, bits, differ-bits, complemented-twice, differ-swap}
 use Rattle.theory_reading.specs.Words.{full-spread, length-bits}
+use Rattle.theory_reading.specs.Covered.{parity, covered}
 
 -- ---- The words passed so far -----------------------------------------------------------------
-
--- the complements on the way to the place, from the second children around it
-unfoldable pub parity : List Open → Bool
-parity [] = false
-parity (in_first ∷ o) = parity o
-parity (in_second r t ∷ o) = differ t (parity o)
 
 -- the decisions of the words before the node at the place
 unfoldable pub before : ℕ → List Open → List Diagram → List Bool
@@ -518,9 +513,6 @@ good-trace n bytes = (grown-on (suc (length bytes)) n bytes (traced (goes fresh)
 -- the decisions of a stream's covered words
 unfoldable pub decisions : ℕ → List ℕ → List Bool
 decisions n bytes = trace_words n (trace n bytes)
-
-abbrev pub covered : ℕ → List ℕ → ℕ
-covered n bytes = (reading n bytes).state.covered
 
 pub trace-covered : (n : ℕ) (bytes : List ℕ) → (trace n bytes).reading.state.covered ≡ covered n bytes
 trace-covered n bytes = ap (λ (r : Reading). r.state.covered) (trace-reading n bytes)

@@ -17,8 +17,10 @@ use Rattle.theory_reading.specs.Reading.{level}
 use Rattle.theory_reading.specs.Deciding.{options, Decision, undecided, decided, complemented, Trace, next_trace, trace_on, decision_of}
 use Rattle.theory_reading.specs.Calls.{verdict_of, verdict, digit_of, words_from, bytes_from}
 use Rattle.theory_reading.specs.Words.{options-low, options-high, complemented-twice}
-use Rattle.theory_reading.proofs.Covered.{parity, words-decide, words_count, GoodTrace, trace_words, Grown, grown-on, grown-count, good-most}
-use Rattle.theory_reading.proofs.TableWalk.{table_walk, table_walk-zero, table_walk-skip, table_walk-go, tied_on}
+use Rattle.theory_reading.specs.Covered.{parity}
+use Rattle.theory_reading.proofs.Covered.{words-decide, words_count, GoodTrace, trace_words, Grown, grown-on, grown-count, good-most}
+use Rattle.theory_reading.specs.TableWalk.{table_walk}
+use Rattle.theory_reading.proofs.TableWalk.{table_walk-zero, table_walk-skip, table_walk-go, tied_on}
 use Rattle.theory_reading.proofs.Passing.{start_trace, passed-decision, passed-size}
 
 -- ---- The words of a node ---------------------------------------------------------------------

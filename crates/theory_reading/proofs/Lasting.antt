@@ -9,14 +9,15 @@ use Rattle.theory_lists.specs.Lists.{decide_eq, decide-le}
 use Rattle.theory_lists.specs.Maps.{get_or-replicate-same}
 use Rattle.theory_reading.specs.Nodes.{Ref, terminal, entry, temporary, child, Node, new_node, no_node, node, stamp, is_child, has_parent, bars}
 use Rattle.theory_reading.specs.Element.{start}
-use Rattle.theory_reading.specs.Reading.{State, Fault, Reading, goes, level, next_by, next}
-use Rattle.theory_reading.specs.Deciding.{Decision, complemented, Diagram, top, Drawing, drawing, Trace, next_trace, trace_on}
+use Rattle.theory_reading.specs.Reading.{State, Fault, Reading, level, next_by, next}
+use Rattle.theory_reading.specs.Deciding.{Decision, complemented, Diagram, top, Drawing, Trace, next_trace, trace_on}
 use Rattle.theory_reading.proofs.Moves.{Move, rests, refuses, sizes, leads, opens, constants, numbers, turns, closes_one, closes_two, stores, ends}
 use Rattle.theory_reading.proofs.Moves.{advance-move}
 use Rattle.theory_reading.proofs.Prefix.{trace_on-add, trace_on-last}
 use Rattle.theory_reading.proofs.Passing.{start_trace, Current, CurrentTrace, current-on}
 use Rattle.theory_reading.proofs.Reaching.{At}
-use Rattle.theory_reading.proofs.TableWalk.{table_walk, table_walk-zero, table_walk-skip, table_walk-go, child-none, TiedTo, Tied, Storable}
+use Rattle.theory_reading.specs.TableWalk.{table_walk}
+use Rattle.theory_reading.proofs.TableWalk.{table_walk-zero, table_walk-skip, table_walk-go, child-none, TiedTo, Tied, Storable}
 use Rattle.theory_reading.proofs.TableWalk.{storable, TiedTrace, tied-next, tied_on}
 
 -- ---- Tables of one reading -------------------------------------------------------------------

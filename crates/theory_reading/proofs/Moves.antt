@@ -17,12 +17,13 @@ use Rattle.theory_reading.specs.Nodes.{Ref, terminal, entry, temporary, is_kept,
 use Rattle.theory_reading.specs.Causes.{Cause, wrong_byte, declared_size, too_deep, not_in_table, other_level, not_storable, bad_number}
 use Rattle.theory_reading.specs.Element.{Element, opening, number, constant, closing, storing, Open, in_first, in_second, Context, start, lead}
 use Rattle.theory_reading.specs.Element.{begins, after_digit, after_two, after_one, over, Place, place, moved, Scan, read, unread, number_at}
-use Rattle.theory_reading.specs.Element.{Outcome, got, fault, Step, gives, fails as stops, waits, size_ends, size_read, number_read, storing_read}
+use Rattle.theory_reading.specs.Element.{Outcome, got, Step, gives, fails as stops, waits, size_ends, size_read, number_read, storing_read}
 use Rattle.theory_reading.specs.Element.{node_begins, after_space, after_colon, node_ended, step_by, step}
 use Rattle.theory_reading.specs.Reading.{children, State, state, Reading, goes, fails, level, words_at, ending, passed, is_start, turned, is_bad}
 use Rattle.theory_reading.specs.Reading.{stored, with_element, is_two, barred_colon, first_digit, after, advance}
 use Rattle.theory_reading.specs.Deciding.{missing, leaf, branch, Drawing, drawing, top, below, draw, draw_unless, ended, Trace}
-use Rattle.theory_reading.proofs.Prefix.{chosen, byte_at, advance-chosen, trace-past}
+use Rattle.theory_reading.specs.Prefix.{byte_at}
+use Rattle.theory_reading.proofs.Prefix.{chosen, advance-chosen, trace-past}
 
 -- Where a node may begin, and the open nodes then: as the outermost or after a `(` or `~`; or as a second child with no `~`.
 pub data Begins (s : State) : List Open → Type 0 where

@@ -17,9 +17,11 @@ use Rattle.theory_reading.proofs.Moves.{Begins, Move, rests, refuses, sizes, lea
 use Rattle.theory_reading.proofs.Moves.{stores, ends, advance-move}
 use Rattle.theory_reading.specs.Words.{options-low, options-high, spread, walk-spread, Full, bits, differ-bits, complemented-twice, full-spread}
 use Rattle.theory_reading.specs.Words.{length-bits}
-use Rattle.theory_reading.proofs.Covered.{parity, passed_by, passed_words, Good, words-decide, words_count, begins-length, begins-before}
+use Rattle.theory_reading.specs.Covered.{parity}
+use Rattle.theory_reading.proofs.Covered.{passed_by, passed_words, Good, words-decide, words_count, begins-length, begins-before}
 use Rattle.theory_reading.proofs.Covered.{one-words, GoodTrace, trace_words, words-added, grown-on, good-most}
-use Rattle.theory_reading.proofs.TableWalk.{table_walk, storable, current, Tied, TiedTrace, tied-next, tied_on}
+use Rattle.theory_reading.specs.TableWalk.{table_walk}
+use Rattle.theory_reading.proofs.TableWalk.{storable, current, Tied, TiedTrace, tied-next, tied_on}
 
 -- ---- The node that ended last is current -----------------------------------------------------
 

@@ -1,6 +1,6 @@
 -- THE PREFIX LAWS: reading a longer stream goes on from the reading of its beginning, with its drawing; a fault stands; and a reading makes
 -- enough steps. Assumes nothing.
-use Rattle.std.specs.Prelude.{◌≡◌, refl, ◌⊎◌, Bool, true, false, ◌&&◌, eqb, get_or}
+use Rattle.std.specs.Prelude.{◌≡◌, refl, ◌⊎◌, Bool, true, false, ◌&&◌, eqb}
 use Rattle.std.proofs.Math.Path.{sym, ap}
 use Rattle.std.proofs.Common.{◌∙◌, inl, inr, ⊎_elim, arith}
 use mathlib.Core.List.{List, [], ◌++◌}
@@ -11,20 +11,18 @@ use Rattle.theory_lists.specs.Lists.{decide-le}
 use Rattle.theory_lists.specs.Lookups.{lookup-past}
 use Rattle.theory_reading.specs.Bytes.{colon}
 use Rattle.theory_reading.specs.Causes.{not_storable}
-use Rattle.theory_reading.specs.Element.{Place, Outcome, fault, ran_out, Step, waits, step}
+use Rattle.theory_reading.specs.Element.{Place, Outcome, ran_out, Step, waits, step}
 use Rattle.theory_reading.specs.Reading.{State, Fault, Reading, goes, fails, fresh, is_two, barred_colon, first_digit, after, advance, next_by}
 use Rattle.theory_reading.specs.Reading.{next, onward, reading}
 use Rattle.theory_reading.specs.Deciding.{Drawing, drawing, draw_unless, Trace, traced, next_trace, trace_on, trace}
 use Rattle.theory_reading.proofs.StepLaws.{Still, step-more, step_past}
+use Rattle.theory_reading.specs.Prefix.{byte_at}
 
 -- ---- One step --------------------------------------------------------------------------------
 
 -- a step of reading by what bars a storing, and by what the step of the place gives
 abbrev pub chosen : ℕ → State → ℕ → Bool → Outcome → Place → Reading
 chosen n s b t o q = elim t [ true ↦ fails s not_storable s.place.at | false ↦ after n s (first_digit s b) o q ]
-
-abbrev pub byte_at : List ℕ → State → ℕ
-byte_at bytes s = get_or bytes s.place.at 0
 
 pub advance-chosen : (n : ℕ) (bytes : List ℕ) (s : State) → advance n bytes s
     ≡ chosen n s (byte_at bytes s) (barred_colon s (byte_at bytes s)) (step s.place bytes).outcome (step s.place bytes).place

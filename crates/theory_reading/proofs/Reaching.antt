@@ -14,8 +14,10 @@ use Rattle.theory_reading.specs.Deciding.{options, complemented, Trace, next_tra
 use Rattle.theory_reading.specs.Calls.{not_yet, verdict_of, verdict, bytes_from}
 use Rattle.theory_reading.proofs.Prefix.{trace_on-add, trace_on-last, trace-reading}
 use Rattle.theory_reading.proofs.Settled.{trace-rests, trace-stays, trace-onward, trace-settled}
-use Rattle.theory_reading.proofs.Covered.{parity, GoodTrace, grown-on, grown-count, trace-covered}
-use Rattle.theory_reading.proofs.TableWalk.{table_walk, tied_on}
+use Rattle.theory_reading.specs.Covered.{parity}
+use Rattle.theory_reading.proofs.Covered.{GoodTrace, grown-on, grown-count, trace-covered}
+use Rattle.theory_reading.specs.TableWalk.{table_walk}
+use Rattle.theory_reading.proofs.TableWalk.{tied_on}
 use Rattle.theory_reading.proofs.Passing.{start_trace, passed-decision, passed-size}
 use Rattle.theory_reading.proofs.StampBound.{covered-within, stamp-most}
 use Rattle.theory_reading.proofs.Filling.{put_node, filled_none, filled-same, filled-passed}

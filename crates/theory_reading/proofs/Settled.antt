@@ -14,8 +14,10 @@ use Rattle.theory_reading.specs.Element.{Outcome, got, fault, ran_out, step}
 use Rattle.theory_reading.specs.Reading.{State, Fault, Reading, goes, fails, fresh, level, is_start, found, closed, is_bad, with_element}
 use Rattle.theory_reading.specs.Reading.{barred_colon, after, advance, next_by, next, onward, reading}
 use Rattle.theory_reading.specs.Deciding.{Drawing, drawing, draw_unless, Trace, traced, next_trace, trace_on, trace}
-use Rattle.theory_reading.proofs.StepLaws.{OfStream, AheadBy, digit_place, step-ahead}
-use Rattle.theory_reading.proofs.Prefix.{chosen, byte_at, advance-chosen, trace-past, trace_on-fixed, trace_on-add, fault-stands}
+use Rattle.theory_reading.specs.StepLaws.{digit_place}
+use Rattle.theory_reading.proofs.StepLaws.{OfStream, AheadBy, step-ahead}
+use Rattle.theory_reading.specs.Prefix.{byte_at}
+use Rattle.theory_reading.proofs.Prefix.{chosen, advance-chosen, trace-past, trace_on-fixed, trace_on-add, fault-stands}
 
 -- No fault is none.
 pub never-some : {A : Type 0} (g : Fault) → none ≡ some g → A

@@ -20,21 +20,13 @@ use Rattle.theory_reading.specs.Deciding.{Drawing, around, outermost_of, Trace, 
 use Rattle.theory_reading.proofs.Prefix.{trace-reading}
 use Rattle.theory_reading.specs.Words.{Full}
 use Rattle.theory_reading.proofs.Covered.{Nest, under, Good}
-use Rattle.theory_reading.proofs.TableWalk.{table_walk, table_walk-zero, table_walk-skip, table_walk-go, TiedTo, NestTied, PairTied, Tied, current, tied_on}
+use Rattle.theory_reading.specs.TableWalk.{table_walk}
+use Rattle.theory_reading.proofs.TableWalk.{table_walk-zero, table_walk-skip, table_walk-go, TiedTo, NestTied, PairTied, Tied, current, tied_on}
 use Rattle.theory_reading.proofs.Passing.{start_trace, length-options}
 use Rattle.theory_reading.proofs.Lasting.{Ordered, is-first, is-second, tied-deep, ordered-on}
+use Rattle.theory_reading.specs.Spine.{firsts_stay, spine_number}
 
 -- ---- Definitions -----------------------------------------------------------------------------
-
--- the first child of an open node, if it has ended, is the terminal or in the table
-abbrev pub first_stays : List Node → Open → Bool
-first_stays t in_first = true
-first_stays t (in_second r b) = not (bars t r)
-
--- so are those of all open nodes
-abbrev pub firsts_stay : List Node → List Open → Bool
-firsts_stay t [] = true
-firsts_stay t (x ∷ o) = first_stays t x && firsts_stay t o
 
 -- the row of an open node of level i; e: the number of its child that is being read, or is to be read
 abbrev pub spine_node : Open → ℕ → ℕ → Node
@@ -45,11 +37,6 @@ spine_node (in_second r b) i e = new_node i (child r) e b 1
 abbrev pub SpineIn : List Node → List Open → ℕ → ℕ → Type 0
 SpineIn u [] k e = Unit {0}
 SpineIn u (x ∷ o) k e = (node u k ≡ spine_node x (length o + 1) e) × SpineIn u o (k + 1) k
-
--- the number of the outermost
-abbrev pub spine_number : List Open → ℕ → ℕ → ℕ
-spine_number [] k e = e
-spine_number (x ∷ o) k e = spine_number o (k + 1) k
 
 -- b is a decision, and is that of a if a is one
 abbrev pub Shows : Decision → Decision → Type 0

@@ -12,9 +12,10 @@ use Rattle.theory_reading.specs.Bytes.{opener, closer, tilde, colon, dot, blank,
 use Rattle.theory_reading.specs.Causes.{Cause, wrong_byte, too_deep, cause_row}
 use Rattle.theory_reading.specs.Causes as C
 use Rattle.theory_reading.specs.Element.{Element, opening, number, constant, turn, closing, storing, end, Open, in_first, in_second, Context}
-use Rattle.theory_reading.specs.Element.{start, lead, begins, after_digit, after_two, after_one, over, Place, place, Scan, read, unread, digits_on}
+use Rattle.theory_reading.specs.Element.{start, lead, begins, after_digit, after_two, after_one, over, Place, Scan, read, unread, digits_on}
 use Rattle.theory_reading.specs.Element.{number_at, Outcome, got, fault, ran_out, Step, fails, waits, size_ends, size_read, number_read, storing_read}
 use Rattle.theory_reading.specs.Element.{node_begins, after_space, after_colon, node_ended, step_by, step_on, step}
+use Rattle.theory_reading.specs.StepLaws.{digit_place}
 
 -- ---- More bytes behind -----------------------------------------------------------------------
 
@@ -183,10 +184,6 @@ module _ (a d l : ℕ) (p : Place) where
   storing_read-ahead : (x : Scan) (i : ℕ) → a + 1 < i → Long i l x → Ahead a d l (storing_read p x)
   storing_read-ahead (read v e) i h g = (omega (arith, g.0), omega (arith, g.0), g.1)
   storing_read-ahead unread i h g = tt
-
--- the place of a first digit
-abbrev pub digit_place : ℕ → ℕ → ℕ
-digit_place at b = cond (eqb b blank) (at + 1) at
 
 digit_place-low : (at b : ℕ) → digit_place at b ≤ at + 1
 digit_place-low at b = go (eqb b blank)

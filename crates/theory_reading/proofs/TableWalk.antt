@@ -13,35 +13,17 @@ use Rattle.theory_lists.specs.Lists.{or_l, or_r, decide_eq}
 use Rattle.theory_lists.specs.Maps.{get_or-replicate-same}
 use Rattle.theory_reading.specs.Nodes.{Ref, terminal, entry, temporary, is_kept, child, Node, new_node, no_node, node, stamp, is_child, has_parent}
 use Rattle.theory_reading.specs.Nodes.{bars}
-use Rattle.theory_reading.specs.Element.{Open, in_first, in_second, Context, start, lead, begins, after_digit, after_two, after_one, over, place}
+use Rattle.theory_reading.specs.Element.{Open, in_first, in_second, Context, start, lead, begins, after_digit, after_two, after_one, over}
 use Rattle.theory_reading.specs.Element.{moved, step}
-use Rattle.theory_reading.specs.Reading.{State, state, Fault, Reading, goes, fresh, level, passed, is_bad, stored, is_two, next_by, next}
+use Rattle.theory_reading.specs.Reading.{State, Fault, Reading, goes, fresh, level, passed, is_bad, stored, is_two, next_by, next}
 use Rattle.theory_reading.specs.Deciding.{Decision, undecided, decided, complemented, Diagram, missing, leaf, branch, walk, top, below, Drawing}
 use Rattle.theory_reading.specs.Deciding.{drawing, draw_unless, Trace, traced, next_trace, trace_on, ended}
 use Rattle.theory_reading.proofs.Moves.{Begins, anew, second, Move, rests, refuses, sizes, leads, opens, constants, numbers, turns, closes_one}
 use Rattle.theory_reading.proofs.Moves.{closes_two, stores, ends, advance-move}
 use Rattle.theory_reading.proofs.Covered.{Good, Nest, is_outside, under, good-move, good-fresh, GoodTrace}
+use Rattle.theory_reading.specs.TableWalk.{table_walk}
 
 -- ---- The walk --------------------------------------------------------------------------------
-
--- The node of level i that stands for the number c, under the options from level i on. A number of a deeper level stands inside brackets
--- `(A)`, whose children are alike: the option is passed over.
-unfoldable pub table_walk : List Node → ℕ → ℕ → List Bool → Decision
-table_walk t i c [] = cond (eqb c 0) (decided false) undecided
-table_walk t i c (o ∷ os) =
-    elim (eqb c 0) [
-      | true ↦ decided false
-      | false ↦
-          elim (ltb i (node t c).level) [
-            | true ↦ table_walk t (i + 1) c os
-            | false ↦
-                elim o [
-                  | false ↦ table_walk t (i + 1) (node t c).first os
-                  | true ↦ complemented (node t c).complement
-                      (table_walk t (i + 1) (node t c).second os)
-                ]
-          ]
-    ]
 
 pub table_walk-zero : (t : List Node) (i : ℕ) (os : List Bool) → table_walk t i 0 os ≡ decided false
 unfolding table_walk

@@ -13,3 +13,9 @@ pub mod Words
 pub mod Residual
 pub mod ParentCounts
 pub mod NextWord
+pub mod StepLaws
+pub mod Prefix
+pub mod FaultRank
+pub mod Covered
+pub mod TableWalk
+pub mod Spine

@@ -8,20 +8,9 @@ use Rattle.theory_lists.specs.Prefixes.{Begins}
 use Rattle.theory_reading.specs.Deciding.{Decision, undecided, decided}
 use Rattle.theory_writing.specs.Run.{Input, decisions, agreed, outcome, joint, least_open, run_covered, or_no, run_of, written_bytes}
 use Rattle.theory_writing.specs.Output.{runs-written}
+use Rattle.theory_writing.specs.Inputs.{May, AllMay}
 
 -- ---- Settled words ---------------------------------------------------------------------------
-
--- v: a value that an input may have which decides so: what it decides, or any
-abbrev pub May : Decision → Bool → Type 0
-May undecided v = Unit {0}
-May (decided d) v = v ≡ d
-
--- of all inputs
-abbrev pub AllMay : List Decision → List Bool → Type 0
-AllMay [] [] = Unit {0}
-AllMay [] (v ∷ vs) = ⊥
-AllMay (d ∷ ds) [] = ⊥
-AllMay (d ∷ ds) (v ∷ vs) = May d v × AllMay ds vs
 
 pub never-decided : {A : Type 0} (d : Bool) → undecided ≡ decided d → A
 never-decided d e = let z : ◌≡◌ {A = ℕ} 0 1 = cc in absurd (omega arith)

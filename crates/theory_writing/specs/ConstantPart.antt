@@ -3,7 +3,6 @@
 use Rattle.std.specs.Prelude.{◌≡◌, refl, Bool, true, false, ℕ, zero, suc, ◌+◌, ◌≤◌, ◌<◌, ◌^◌}
 use Rattle.std.proofs.Common.{ap, ◌∙◌, arith}
 use Rattle.theory_lists.specs.Lists.{pow_pos}
-use Rattle.theory_reading.specs.Bytes.{text}
 use Rattle.theory_reading.specs.Nodes.{terminal}
 use Rattle.theory_writing.specs.UniqueTable.{State}
 use Rattle.theory_writing.specs.Rules.{number, Part, Done, both_terminal, same_entry, half_barred, found, new_number, by_rule, meet, part}

@@ -33,3 +33,4 @@ pub mod OnlineRuns
 pub mod CallLaws
 -- The queue as code holds it
 pub mod Links
+pub mod Inputs

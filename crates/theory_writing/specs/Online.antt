@@ -8,7 +8,7 @@ use mathlib.Core.List.{List, [], ◌∷◌, ◌++◌}
 use Prim.Native.Nat.{ℕ, zero, suc, ◌+◌, ◌-◌, ◌<◌, ◌^◌}
 use Rattle.std.proofs.Math.Dec.{eqb-suc-zero}
 use Rattle.theory_lists.specs.Lists.{differ, not-twice}
-use Rattle.theory_reading.specs.Bytes.{opener, closer, tilde, blank, text}
+use Rattle.theory_reading.specs.Bytes.{opener, closer, tilde, blank}
 use Rattle.theory_reading.specs.Nodes.{Ref, terminal, entry, temporary, node}
 use Rattle.theory_writing.specs.UniqueTable.{State}
 use Rattle.theory_writing.specs.Rules.{Text, number, one, two, Part, Done, edge, both_terminal, same_entry, half_barred, found, new_number, by_rule}
@@ -20,7 +20,7 @@ use Rattle.theory_writing.specs.Steps.{plain, Told, first_half, second_half, par
 use Rattle.theory_writing.specs.Normal.{Normal, part-deep}
 use Rattle.theory_writing.specs.Rewalk.{wraps}
 use Rattle.theory_writing.specs.Shape.{Core, Shape, part-shape}
-use Rattle.theory_writing.specs.Flow.{flow, tail, flow-two, sent, flow-tilde, waits, plain-wraps, tail-waits}
+use Rattle.theory_writing.specs.Flow.{flow, tail, flow-two, flow-tilde, waits, plain-wraps, tail-waits}
 
 -- ---- The walk --------------------------------------------------------------------------------
 

@@ -4,7 +4,6 @@ use Rattle.std.specs.Prelude.{◌≡◌, refl, Bool, true, false, not, List, ℕ
 use Rattle.std.proofs.Common.{sym, ap, ◌∙◌, subst, inl, inr, arith, eqb-true, eq-eqb}
 use Rattle.std.proofs.lemmas.Bool.{false≢true}
 use Rattle.theory_lists.specs.Lists.{differ, and_l, and_r, or-false, not-and, is_false, eq-not-differ, differ-twice, differ-assoc}
-use Rattle.theory_reading.specs.Bytes.{text}
 use Rattle.theory_reading.specs.Nodes.{Ref, terminal, entry, child, Node, node, stamp, bars}
 use Rattle.theory_writing.specs.UniqueTable.{State}
 use Rattle.theory_writing.specs.Rules.{Text, number, one, Part, Done, is_terminal, same_number, both_terminal, same_entry, half_barred, found}

@@ -6,7 +6,8 @@ use Rattle.theory_reading.specs.Limits.{option_limit}
 use Rattle.theory_reading.specs.Nodes.{Node, node}
 use Rattle.theory_reading.specs.Deciding.{options, Decision, undecided, decided, complemented}
 use Rattle.theory_reading.specs.Words.{options-low, options-high, complemented-twice}
-use Rattle.theory_reading.proofs.TableWalk.{table_walk, table_walk-zero, table_walk-skip, table_walk-go}
+use Rattle.theory_reading.specs.TableWalk.{table_walk}
+use Rattle.theory_reading.proofs.TableWalk.{table_walk-zero, table_walk-skip, table_walk-go}
 use Rattle.work_table.specs.Table.{get_in}
 use Rattle.work_table.specs.TableLaws.{record_node, table_of, table-node}
 use Rattle.theory_lists.specs.Powers.{few_words}

@@ -1,7 +1,7 @@
 -- One open node more counts if the place is in its second child.
 use Rattle.std.proofs.Common.{◌≡◌, sym, ap, ◌∙◌, Bool, true, false, cond, not, ◌+◌, get_or, arith, eq-eqb, ne_eqb}
 use Rattle.theory_lists.specs.Lists.{differ}
-use Rattle.theory_reading.proofs.Covered.{parity}
+use Rattle.theory_reading.specs.Covered.{parity}
 use Rattle.elements.specs.Abstraction.{inside_open, opens_of}
 use Rattle.elements.specs.declared.Open.{Open}
 use Rattle.reader.specs.OpenCells.{nodes_in, node_at}

@@ -1,6 +1,6 @@
 -- After i iterations p is the parity of the first i open nodes.
 use Rattle.std.proofs.Common.{◌-◌, ◌≡◌, ◌≤◌}
-use Rattle.theory_reading.proofs.Covered.{parity}
+use Rattle.theory_reading.specs.Covered.{parity}
 use Rattle.theory_reading.specs.Limits.{open_limit}
 use Rattle.elements.specs.Abstraction.{opens_of}
 use Rattle.reader.specs.OpenCells.{nodes_in}
