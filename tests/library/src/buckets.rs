@@ -23,7 +23,7 @@ pub struct Node {
     pub turn: u64,
 }
 
-/// The bucket of a node, from 1 on: the library's `bucketOf`.
+/// The bucket of a node, from 1 on: the library's `bucket_of`.
 pub fn bucket(node: Node) -> usize {
     let x = ((node.first * 2048 + node.second) * 64 + node.level) * 2 + node.turn;
     let y = stir(2_246_822_519, stir(2_654_435_769, x)) % (1 << 32);
