@@ -1,4 +1,4 @@
-// What the calls that read answer.
+// What the calls that read answer: `Result<Checked, Refusal>`, `Result<Verdict, Refusal>`, `Result<NextWord, Refusal>`, and filling the covered count.
 #![tactic(auto)]
 
 ghost use Rattle.std.specs.Prelude.{◌≡◌};
@@ -24,18 +24,12 @@ pub struct Checked {
     pub complete: bool,
 }
 
-#[derive(Clone, Copy)]
-pub enum Checking {
-    Refused(Refusal),
-    Done(Checked),
-}
-
 // Tested before any stream is read.
-pub fn early(c: Cause) -> Refusal
-    ensures { refusal_of result ≡ refusal (cause_of c) 0 0 }
+pub fn early(cause: Cause) -> Refusal
+    ensures { refusal_of result ≡ refusal (cause_of cause) 0 0 }
 {
     Refusal {
-        cause: c,
+        cause,
         stream: 0,
         byte: 0,
     }
@@ -48,29 +42,10 @@ pub enum Verdict {
     NotYet,
 }
 
-#[derive(Clone, Copy)]
-pub enum Deciding {
-    Refused(Refusal),
-    Done(Verdict),
-}
-
 // A word; none, as all words are covered; or not known.
 #[derive(Clone, Copy)]
 pub enum NextWord {
     Word(u64),
     NoWord,
     NotKnown,
-}
-
-#[derive(Clone, Copy)]
-pub enum Finding {
-    Refused(Refusal),
-    Done(NextWord),
-}
-
-// What filling answers: the covered count.
-#[derive(Clone, Copy)]
-pub enum Filling {
-    Refused(Refusal),
-    Done(u64),
 }

@@ -1,12 +1,12 @@
 -- One law for each way through code that walks the stored nodes of two inputs with an operation cache. Assumes nothing.
-use Rattle.std.specs.Prelude.{◌≡◌, refl, Bool, true, false, not, ◌&&◌, ◌||◌, ℕ, suc, ◌+◌, ◌-◌, ◌<◌, ◌≤◌, eqb, ltb, get_or}
-use Rattle.std.proofs.Common.{sym, ap, ◌∙◌, arith, le-ltb}
+use Rattle.std.specs.Prelude.{◌≡◌, refl, Bool, true, false, not, ◌&&◌, ◌||◌, ℕ, suc, ◌+◌, ◌-◌, ◌<◌, ◌≤◌, eqb, ltb, get_or, Option, Some}
+use Rattle.std.specs.Option.{is_some}
+use Rattle.std.proofs.Common.{sym, ap, ◌∙◌, ◌⊎◌, ⊎_elim, arith, le-ltb}
 use Rattle.std.proofs.Math.Path.{ap₂}
-use Rattle.std.proofs.Math.Bool.{cond}
-use Rattle.std.proofs.lemmas.Bool.{false≢true}
+use Rattle.std.proofs.Math.Bool.{beq, cond}
 use mathlib.Core.List.{List, [], ◌∷◌}
 use Rattle.std.proofs.Math.ListN.{set}
-use Rattle.theory_lists.specs.Lists.{differ, bit}
+use Rattle.theory_lists.specs.Lists.{differ, bit, and_r}
 use Rattle.theory_reading.specs.Limits.{option_limit, level_limit}
 use Rattle.theory_reading.specs.Nodes.{Node, node, stamp}
 use Rattle.theory_reading.specs.Bytes.{opener}
@@ -23,16 +23,13 @@ use Rattle.theory_combining.specs.EdgeCorrect.{and_none}
 use Rattle.work_table.specs.Table.{get_in}
 use Rattle.work_table.specs.TableLaws.{record_node, table_of, table-node}
 use Rattle.node_records.specs.declared.NodeRecord.{NodeRecord}
-use Rattle.meeting.specs.Abstraction.{half_of, progress_of, kept-as, again-as}
+use Rattle.meeting.specs.Abstraction.{half_of}
 use Rattle.meeting.specs.declared.Half.{Half}
-use Rattle.meeting.specs.declared.Progress.{Progress}
-use Rattle.meeting.specs.declared.Walked.{Walked}
 use Rattle.edges.specs.Abstraction.{edge_in}
 use Rattle.edges.specs.declared.TableEdge.{TableEdge}
-use Rattle.operation_cache.specs.Abstraction.{key_cells, holds, tells_by, noted_by}
+use Rattle.operation_cache.specs.Abstraction.{key_cells, holds, told_or, tells_by, noted_by}
 use Rattle.operation_cache.specs.declared.Key.{Key}
-use Rattle.operation_cache.specs.declared.Told.{Told}
-use Rattle.applier.specs.Abstraction.{recalled_of, applied}
+use Rattle.applier.specs.Abstraction.{applied}
 use Rattle.node_records.specs.declared.WriterRecord.{WriterRecord}
 
 -- two inputs at their edges
@@ -42,15 +39,15 @@ pair x t y u = edge_in x t ∷ edge_in y u ∷ []
 -- ---- What code reads of an edge --------------------------------------------------------------
 
 -- its record, r
-module _ (x : TableEdge) (t : List NodeRecord) (r : NodeRecord) (read : r ≡ get_in t x.size x.number) where
-  same-node : record_node r ≡ node (table_of t x.size) x.number
-  same-node = ap record_node read ∙ sym (table-node t x.size x.number)
+module _ (x : TableEdge) (t : List NodeRecord) (r : NodeRecord) (read : r ≡ get_in t x.size x.edge.number) where
+  same-node : record_node r ≡ node (table_of t x.size) x.edge.number
+  same-node = ap record_node read ∙ sym (table-node t x.size x.edge.number)
 
-  same-stamp : r.stamp ≡ stamp (table_of t x.size) x.number
+  same-stamp : r.stamp ≡ stamp (table_of t x.size) x.edge.number
   same-stamp = ap (λ (n : Node). n.stamp) same-node
 
-  same-passes : (i : ℕ) → (eqb x.number 0 || ltb i r.level) ≡ passes i (edge_in x t)
-  same-passes i = ap (λ (n : Node). eqb x.number 0 || ltb i n.level) same-node
+  same-passes : (i : ℕ) → (eqb x.edge.number 0 || ltb i r.level) ≡ passes i (edge_in x t)
+  same-passes i = ap (λ (n : Node). eqb x.edge.number 0 || ltb i n.level) same-node
 
 -- ---- What is asked ---------------------------------------------------------------------------
 
@@ -64,26 +61,16 @@ one-asks d h = omega (arith, h)
 pub half-asks : (d i t : ℕ) → (d ≡ t) × (i + d ≤ option_limit + level_limit) → (d ≡ 0 → ⊥) → (d - 1 < t) × (i + 1 + (d - 1) ≤ option_limit + level_limit)
 half-asks d i t p h = (omega (arith, p, h), omega (arith, p, h))
 
--- ---- What is returned ------------------------------------------------------------------------
+-- the `~` between two halves, as code tests it
+pub unlike : (a b : Bool) → not (beq a b) ≡ differ a b
+unlike true true = refl
+unlike true false = refl
+unlike false true = refl
+unlike false false = refl
 
--- a part of which the progress is as it was
-pub kept_in : (r : Walked) (h : Half) (x : Progress) (t : List WriterRecord) (out w : List ℕ) (μ : List (List ℕ)) → r ≡ record { half = h; progress = x }
-    → recalled_of r t out w μ ≡ unnoted (E.kept (half_of h) t out w (progress_of x)) μ
-kept_in r h x t out w μ e = ap (λ (r : Walked). recalled_of r t out w μ) e
-
--- the constant, v
-pub constant-in : (r : Walked) (h : Half) (x : Progress) (v : Bool) (t : List WriterRecord) (out w : List ℕ) (μ : List (List ℕ))
-    → r ≡ record { half = h; progress = x }
-    → h ≡ record { number = 0; stamp = 0; skipped = 0; temporary = false; complement = v; wrote = false }
-    → recalled_of r t out w μ ≡ unnoted (E.kept (E.constant_half v) t out w (progress_of x)) μ
-constant-in r h x v t out w μ e f = ap (λ (w : E.Walked). record { walked = w; memo = μ }) (kept-as r h x v t out w e f)
-
--- what the first half came to (h), again
-pub again-in : (r : Walked) (g h : Half) (x : Progress) (v : Bool) (t : List WriterRecord) (out w : List ℕ) (μ : List (List ℕ))
-    → r ≡ record { half = g; progress = x }
-    → g ≡ record { number = h.number; stamp = h.stamp; skipped = h.skipped; temporary = false; complement = v; wrote = false }
-    → recalled_of r t out w μ ≡ unnoted (E.kept (E.number_half h.number h.stamp h.skipped v false) t out w (progress_of x)) μ
-again-in r g h x v t out w μ e f = ap (λ (w : E.Walked). record { walked = w; memo = μ }) (again-as r g h x v v t out w e f refl)
+-- two tests one after the other, as code learns that one fails
+pub not-both : (a b : Bool) → (a ≡ true) × (b ≡ false) ⊎ (a ≡ false) → (a && b) ≡ false
+not-both a b = ⊎_elim (λ h. ap₂ ◌&&◌ h.0 h.1) (λ (h : a ≡ false). ap (λ (a : Bool). a && b) h)
 
 -- ---- The ways --------------------------------------------------------------------------------
 
@@ -104,10 +91,10 @@ applied-within op size d i m xs μ t out w progress h k =
 
 -- a part of e options, d + 1 of them; r₁, r₂: the records of the inputs' numbers, k: its key, s: the place of that
 module _ (op size d i m : ℕ) (x y : TableEdge) (t₁ t₂ : List NodeRecord) (μ : List (List ℕ)) (t : List WriterRecord) (out w : List ℕ) (progress : E.Progress) (e : ℕ) (n : e ≡ suc d)
-    (open' : fixed (operate op) (pair x t₁ y t₂) ≡ false) (r₁ r₂ : NodeRecord) (read₁ : r₁ ≡ get_in t₁ x.size x.number)
-    (read₂ : r₂ ≡ get_in t₂ y.size y.number) (k : Key)
-    (keyed : key_cells k ≡ x.number ∷ r₁.stamp ∷ bit x.complement ∷ y.number ∷ r₂.stamp ∷ bit y.complement ∷ []) (s : ℕ)
-    (placed : s ≡ slot_of (key_cells k)) (g : Told) (told : tells_by g (get_or μ s []) k i t) where
+    (open' : fixed (operate op) (pair x t₁ y t₂) ≡ false) (r₁ r₂ : NodeRecord) (read₁ : r₁ ≡ get_in t₁ x.size x.edge.number)
+    (read₂ : r₂ ≡ get_in t₂ y.size y.edge.number) (k : Key)
+    (keyed : key_cells k ≡ x.edge.number ∷ r₁.stamp ∷ bit x.edge.complement ∷ y.edge.number ∷ r₂.stamp ∷ bit y.edge.complement ∷ []) (s : ℕ)
+    (placed : s ≡ slot_of (key_cells k)) (g : Option Half) (told : tells_by g (get_or μ s []) k i t) where
   abbrev xs : List Source
   xs = pair x t₁ y t₂
 
@@ -116,7 +103,7 @@ module _ (op size d i m : ℕ) (x y : TableEdge) (t₁ t₂ : List NodeRecord) (
 
   key-cells : key_cells k ≡ key_of xs
   key-cells =
-      keyed ∙ ap₂ (λ (a b : ℕ). x.number ∷ a ∷ bit x.complement ∷ y.number ∷ b ∷ bit y.complement ∷ []) (same-stamp x t₁ r₁ read₁)
+      keyed ∙ ap₂ (λ (a b : ℕ). x.edge.number ∷ a ∷ bit x.edge.complement ∷ y.edge.number ∷ b ∷ bit y.edge.complement ∷ []) (same-stamp x t₁ r₁ read₁)
       (same-stamp y t₂ r₂ read₂)
 
   place : s ≡ slot_of (key_of xs)
@@ -134,34 +121,33 @@ module _ (op size d i m : ℕ) (x y : TableEdge) (t₁ t₂ : List NodeRecord) (
       fits : (z : List ℕ) → z ≡ key_of xs
           → (eqb (get_or r 3 0) (get_or z 0 0) && (eqb (get_or r 4 0) (get_or z 1 0) && (eqb (get_or r 5 0) (get_or z 2 0)
           && (eqb (get_or r 6 0) (get_or z 3 0) && (eqb (get_or r 7 0) (get_or z 4 0) && eqb (get_or r 8 0) (get_or z 5 0))))))
-          ≡ (eqb (get_or r 3 0) x.number && (eqb (get_or r 4 0) (stamp (table_of t₁ x.size) x.number) && (eqb (get_or r 5 0) (bit x.complement)
-          && (eqb (get_or r 6 0) y.number && (eqb (get_or r 7 0) (stamp (table_of t₂ y.size) y.number) &&
-          (eqb (get_or r 8 0) (bit y.complement) && true))))))
+          ≡ (eqb (get_or r 3 0) x.edge.number && (eqb (get_or r 4 0) (stamp (table_of t₁ x.size) x.edge.number) && (eqb (get_or r 5 0) (bit x.edge.complement)
+          && (eqb (get_or r 6 0) y.edge.number && (eqb (get_or r 7 0) (stamp (table_of t₂ y.size) y.edge.number) &&
+          (eqb (get_or r 8 0) (bit y.edge.complement) && true))))))
       fits z h =
           ap (λ (z : List ℕ). eqb (get_or r 3 0) (get_or z 0 0) && (eqb (get_or r 4 0) (get_or z 1 0) && (eqb (get_or r 5 0) (get_or z 2 0)
           && (eqb (get_or r 6 0) (get_or z 3 0) && (eqb (get_or r 7 0) (get_or z 4 0) && eqb (get_or r 8 0) (get_or z 5 0)))))) h
-          ∙ ap (λ (b : Bool). eqb (get_or r 3 0) x.number && (eqb (get_or r 4 0) (stamp (table_of t₁ x.size) x.number) &&
-          (eqb (get_or r 5 0) (bit x.complement)
-          && (eqb (get_or r 6 0) y.number && (eqb (get_or r 7 0) (stamp (table_of t₂ y.size) y.number) && b)))))
-          (and_none (eqb (get_or r 8 0) (bit y.complement)))
+          ∙ ap (λ (b : Bool). eqb (get_or r 3 0) x.edge.number && (eqb (get_or r 4 0) (stamp (table_of t₁ x.size) x.edge.number) &&
+          (eqb (get_or r 5 0) (bit x.edge.complement)
+          && (eqb (get_or r 6 0) y.edge.number && (eqb (get_or r 7 0) (stamp (table_of t₂ y.size) y.edge.number) && b)))))
+          (and_none (eqb (get_or r 8 0) (bit y.edge.complement)))
 
   entry-same : get_or μ s [] ≡ entry_for slot_of μ xs
   entry-same = ap (λ (s : ℕ). get_or μ s []) place
 
-  looked_up : g.known ≡ look_up_in slot_of μ xs t
+  looked_up : is_some g ≡ look_up_in slot_of μ xs t
   looked_up = told.0 ∙ same-tells (get_or μ s []) ∙ ap (λ (r : List ℕ). tells r xs t) entry-same
 
   -- the cache tells it: h
-  pub pair-told : (h : Half) → h ≡ g.half → g.known ≡ true → unnoted (E.kept (half_of h) t out w progress) μ ≡ whole
-  pair-told h he f =
-      recall-told slot_of (operate op) size d i m xs μ t out w progress e (half_of h) n open' (sym looked_up ∙ f)
-      (ap half_of he ∙ sym (ap (λ (b : Bool). cond b (half_of g.half) (told_half (get_or μ s []) i t)) f) ∙ told.1
-      ∙ ap (λ (r : List ℕ). told_half r i t) entry-same)
+  pub pair-told : (h : Half) → g ≡ Some h → unnoted (E.kept (half_of h) t out w progress) μ ≡ whole
+  pair-told h f =
+      recall-told slot_of (operate op) size d i m xs μ t out w progress e (half_of h) n open' (sym looked_up ∙ ap is_some f)
+      (sym (ap (told_or (told_half (get_or μ s []) i t)) f) ∙ told.1 ∙ ap (λ (r : List ℕ). told_half r i t) entry-same)
 
   -- it does not; x₁, y₁: the edges at the first half, p: what waits before it, a: what it came to
-  module _ (untold : g.known ≡ false) (x₁ y₁ : TableEdge) (p : Waiting) (a : Recalled)
-      (first₁ : (t : List NodeRecord) → r₁ ≡ get_in t x.size x.number → edge_in x₁ t ≡ first_source i (edge_in x t))
-      (first₂ : (t : List NodeRecord) → r₂ ≡ get_in t y.size y.number → edge_in y₁ t ≡ first_source i (edge_in y t))
+  module _ (untold : is_some g ≡ false) (x₁ y₁ : TableEdge) (p : Waiting) (a : Recalled)
+      (first₁ : (t : List NodeRecord) → r₁ ≡ get_in t x.size x.edge.number → edge_in x₁ t ≡ first_source i (edge_in x t))
+      (first₂ : (t : List NodeRecord) → r₂ ≡ get_in t y.size y.edge.number → edge_in y₁ t ≡ first_source i (edge_in y t))
       (pushed : p ≡ push_all w m (opener ∷ []))
       (walked : a ≡ recall_in slot_of (operate op) size d (i + 1) p.count (pair x₁ t₁ y₁ t₂) μ t out p.bytes progress) where
     went : pair x₁ t₁ y₁ t₂ ≡ first_source i (edge_in x t₁) ∷ first_source i (edge_in y t₂) ∷ []
@@ -179,10 +165,10 @@ module _ (op size d i m : ℕ) (x y : TableEdge) (t₁ t₂ : List NodeRecord) (
     -- word comes to, u: the `~` between the halves; c: the second half, f: after both
     module _ (h : E.Half) (z : E.Progress) (b : Bool) (x₂ y₂ : TableEdge) (v u : Bool) (q r : Waiting) (c : Recalled) (f : E.Walked)
         (came : h ≡ a.walked.half) (left : z ≡ a.walked.progress) (goes : z.full ≡ false)
-        (pass : b ≡ ((eqb x.number 0 || ltb i r₁.level) && ((eqb y.number 0 || ltb i r₂.level) && true)))
-        (second₁ : (t : List NodeRecord) → r₁ ≡ get_in t x.size x.number → edge_in x₂ t ≡ second_source i (edge_in x t))
-        (second₂ : (t : List NodeRecord) → r₂ ≡ get_in t y.size y.number → edge_in y₂ t ≡ second_source i (edge_in y t))
-        (first : v ≡ operate op (x₂.complement ∷ y₂.complement ∷ [])) (complement : u ≡ differ h.complement v)
+        (pass : b ≡ ((eqb x.edge.number 0 || ltb i r₁.level) && ((eqb y.edge.number 0 || ltb i r₂.level) && true)))
+        (second₁ : (t : List NodeRecord) → r₁ ≡ get_in t x.size x.edge.number → edge_in x₂ t ≡ second_source i (edge_in x t))
+        (second₂ : (t : List NodeRecord) → r₂ ≡ get_in t y.size y.edge.number → edge_in y₂ t ≡ second_source i (edge_in y t))
+        (first : v ≡ operate op (x₂.edge.complement ∷ y₂.edge.complement ∷ [])) (complement : u ≡ differ h.complement v)
         (waited : q ≡ wait_in a.walked.waits p.count h.wrote h.skipped h.number)
         (ready : r ≡ push_all q.bytes q.count (tilde_if u)) (met : f ≡ E.second_in size i r.count u h c.walked) where
       gone : pair x₂ t₁ y₂ t₂ ≡ second_source i (edge_in x t₁) ∷ second_source i (edge_in y t₂) ∷ []
@@ -200,35 +186,31 @@ module _ (op size d i m : ℕ) (x y : TableEdge) (t₁ t₂ : List NodeRecord) (
           ap₂ (λ (b : Bool) (r : List (List ℕ)). cond (f.progress.full || b) c.memo (cond f.half.temporary c.memo r)) all_pass_lem
           (ap₂ (λ (s : ℕ) (z : List ℕ). set c.memo s ((bit f.half.complement + 1) ∷ f.half.number ∷ f.half.stamp ∷ z)) place key-cells)
 
-      -- the second half is walked; o: as code tests it
-      pub pair-on : (o : Bool) → o ≡ (not h.temporary && b) → o ≡ false
+      -- the second half is walked
+      pub pair-on : (not h.temporary && b) ≡ false
           → c ≡ recall_in slot_of (operate op) size d (i + 1) r.count (pair x₂ t₁ y₂ t₂) a.memo a.walked.table a.walked.output r.bytes
           z
           → (ν : List (List ℕ)) → ν ≡ noted_by c.memo s k (f.progress.full || b) f.half
           → record { walked = f; memo = ν } ≡ whole
-      pair-on o oe j l ν νe =
+      pair-on j l ν νe =
           recall-on slot_of (operate op) size d i m xs μ t out w progress e n open' not_looked_up (pair x₁ t₁ y₁ t₂) p a went pushed walked h z
           (pair x₂ t₁ y₂ t₂) v u q r c f ν came left goes gone first complement waited ready met (νe ∙ noted)
-          (sym (oe ∙ ap (λ (b : Bool). not h.temporary && b) all_pass_lem) ∙ j) l
+          (sym (ap (λ (b : Bool). not h.temporary && b) all_pass_lem) ∙ j) l
 
       -- it is like the first
-      pub pair-again : (o : Bool) → o ≡ (not h.temporary && b) → o ≡ true
+      pub pair-again : (not h.temporary && b) ≡ true
           → c ≡ unnoted (E.kept (E.number_half h.number h.stamp h.skipped v false) a.walked.table a.walked.output r.bytes z)
           a.memo
           → record { walked = f; memo = c.memo } ≡ whole
-      pair-again o oe j l =
+      pair-again j l =
           recall-again slot_of (operate op) size d i m xs μ t out w progress e n open' not_looked_up (pair x₁ t₁ y₁ t₂) p a went pushed walked h z
           (pair x₂ t₁ y₂ t₂) v u q r c f c.memo came left goes gone first complement waited ready met
           (sym (ap (λ (b : Bool). cond b c.memo (remember_in slot_of c.memo xs f.half))
-          (all_true f.progress.full (all_pass i xs) (passed (not h.temporary) (all_pass i xs) alike))))
+          (all_true f.progress.full (all_pass i xs) (and_r (not h.temporary) (all_pass i xs) alike))))
           alike l
         where
           alike : (not h.temporary && all_pass i xs) ≡ true
-          alike = sym (oe ∙ ap (λ (b : Bool). not h.temporary && b) all_pass_lem) ∙ j
-
-          passed : (a b : Bool) → (a && b) ≡ true → b ≡ true
-          passed true b e = e
-          passed false b e = absurd (false≢true e)
+          alike = sym (ap (λ (b : Bool). not h.temporary && b) all_pass_lem) ∙ j
 
           all_true : (a b : Bool) → b ≡ true → (a || b) ≡ true
           all_true true b e = refl

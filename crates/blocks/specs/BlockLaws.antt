@@ -26,7 +26,7 @@ use Rattle.reader.specs.Loop.{Stands, stands-first, stands-covered, PassedLast, 
 use Rattle.reader.specs.ReadOn.{first_cursor, ReadTo, read_all, read-reaches, read-within}
 use Rattle.elements.specs.declared.Opens.{Opens}
 use Rattle.cursors.specs.declared.Run.{Run}
-use Rattle.reader.specs.OpenCells.{ReadReached, ReadCursor}
+use Rattle.reader.specs.OpenNodes.{ReadReached, ReadCursor}
 use Rattle.blocks.specs.Blocks.{edge_at, ReadBlock, block_of, Next, next_of, next_block, word-passed}
 use Rattle.node_records.specs.declared.NodeRecord.{NodeRecord}
 

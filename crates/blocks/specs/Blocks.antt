@@ -1,10 +1,8 @@
 -- What the words passed last stand for, and the reading of one block. Assumes nothing.
-use Rattle.std.specs.Prelude.{◌≡◌, refl, Bool, true, false, cond, List, [], ◌∷◌, ℕ, suc, ◌+◌, ◌-◌, ◌<◌, ◌≤◌, length, get_or}
-use Rattle.std.proofs.Common.{sym, ap, ap₂, ◌∙◌, subst, add-one, arith, lt-ltb}
+use Rattle.std.specs.Prelude.{◌≡◌, Bool, false, cond, List, [], ℕ, ◌+◌, ◌-◌, length}
+use Rattle.std.proofs.Common.{sym, ap, ap₂, ◌∙◌, subst, arith}
 use Rattle.theory_lists.specs.Lists.{differ}
-use Rattle.theory_reading.specs.Limits.{open_limit}
 use Rattle.theory_reading.specs.Nodes.{Node, child}
-use Rattle.theory_reading.specs.Element as T
 use Rattle.theory_reading.specs.Deciding.{complemented, options, trace}
 use Rattle.theory_reading.specs.Calls as R
 use Rattle.theory_reading.specs.Covered.{parity}
@@ -12,11 +10,10 @@ use Rattle.theory_reading.specs.TableWalk.{table_walk}
 use Rattle.theory_reading.proofs.Reaching.{At, decided-passed}
 use Rattle.work_table.specs.TableLaws.{table_of}
 use Rattle.node_records.specs.declared.Edge.{Edge}
-use Rattle.elements.specs.Abstraction.{ref_of, open_of, inside_open, opens_of, deep_of, open_list}
-use Rattle.elements.specs.OpenLaws.{deep-self}
+use Rattle.elements.specs.Abstraction.{ref_of, open_list}
 use Rattle.reader.specs.Simulation.{child-of}
 use Rattle.reader.specs.Advance.{state_at}
-use Rattle.reader.specs.OpenCells.{ReadReached, ReadCursor, cursor_in}
+use Rattle.reader.specs.OpenNodes.{ReadReached, ReadCursor, cursor_in}
 use Rattle.reader.specs.Loop.{Ends, ReachedBy}
 use Rattle.reader.specs.ReadOn.{ReadTo, read_from}
 use Rattle.elements.specs.declared.Open.{Open}
@@ -43,8 +40,8 @@ pub record ReadBlock : Type 0 where
   pub complement : Bool
   pub halted : Bool
 
--- as code has it, beside the cells o
-abbrev pub block_in : Block → List (List ℕ) → ReadBlock
+-- as code has it, beside the open nodes o
+abbrev pub block_in : Block → List Open → ReadBlock
 block_in b o = record {
   cursor = cursor_in b.cursor o;
   from = b.from;
@@ -103,36 +100,3 @@ word-passed n bytes w r u h e =
     p.later
     ∙ ap₂ (λ (d i : ℕ). W (table_of u r.run.size) d (child (ref_of r.run.last)) i) p.depth p.covered
     ∙ ap (λ (a : ℕ). W (table_of u r.run.size) r.deep a r.from) (sym (child-of r.run.last))
-
--- ---- The complements around a place ----------------------------------------------------------
-
--- i is how many open nodes are read: open_limit of more, or all
-pub deep-past : (d i : ℕ) → i ≡ open_limit → i < d → i ≡ deep_of d
-deep-past d i e h = let l : open_limit < d = omega (arith, e, h) in rw (lt-ltb open_limit d l) e
-
-pub deep-all : (d i : ℕ) → i ≤ d → i ≤ open_limit → d ≤ i → i ≡ deep_of d
-deep-all d i h k l = let e : i ≡ d = omega (arith, h, l) in e ∙ sym (deep-self d (omega (arith, k, l)))
-
-pub parity-none : (ns : List Open) → false ≡ parity (opens_of ns 0)
-unfolding parity opens_of
-parity-none ns = refl
-
-parity-suc : (ns : List Open) (i : ℕ) → parity (opens_of ns (suc i)) ≡ cond (get_or ns i inside_open).second
-    (differ (get_or ns i inside_open).complement (parity (opens_of ns i))) (parity (opens_of ns i))
-unfolding parity opens_of
-parity-suc ns i = go (get_or ns i inside_open)
-  where
-    go : (o : Open) → parity (open_of o ∷ opens_of ns i) ≡ cond o.second (differ o.complement (parity (opens_of ns i))) (parity (opens_of ns i))
-    go o = by o.second
-      where
-        by : (b : Bool) → parity (cond b (T.in_second (ref_of o.first) o.complement) T.in_first ∷ opens_of ns i)
-            ≡ cond b (differ o.complement (parity (opens_of ns i))) (parity (opens_of ns i))
-        by true = refl
-        by false = refl
-
--- One open node more: the edge to its second child counts, if it is there that the place is.
-pub parity-more : (ns : List Open) (i : ℕ) (b : Bool) → (get_or ns i inside_open).second ≡ b
-    → cond b (differ (get_or ns i inside_open).complement (parity (opens_of ns i))) (parity (opens_of ns i)) ≡ parity (opens_of ns (i + 1))
-parity-more ns i b e =
-    sym (parity-suc ns i ∙ ap (λ (c : Bool). cond c (differ (get_or ns i inside_open).complement (parity (opens_of ns i))) (parity (opens_of ns i))) e)
-    ∙ ap (λ (k : ℕ). parity (opens_of ns k)) (sym (add-one i))

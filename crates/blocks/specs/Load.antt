@@ -1,8 +1,8 @@
 -- A stream read to its end into its table, as code does it: what checking answers, and the number of the outermost node, if the table has it. With a
 -- law for each way through code. Assumes nothing.
-use Rattle.std.specs.Prelude.{◌≡◌, ◌⊎◌, Bool, cond, not, ◌&&◌, ◌||◌, ℕ, ◌+◌, ◌-◌, ◌<◌, ◌≤◌, eqb, length, replicate}
+use Rattle.std.specs.Prelude.{◌≡◌, Bool, cond, not, ◌&&◌, ◌||◌, ℕ, ◌+◌, ◌-◌, ◌<◌, ◌≤◌, eqb, length, replicate, Option, Some, None, is_some, unwrap_or, max}
 use Rattle.std.proofs.Math.Path.{refl, ap, ap₂}
-use Rattle.std.proofs.Common.{sym, ◌∙◌, ⊎_elim, arith}
+use Rattle.std.proofs.Common.{sym, ◌∙◌, arith, ltb-true, ltb-false}
 use Rattle.std.proofs.Math.Bool.{true, false}
 use mathlib.Core.List.{List, ◌∷◌}
 use Rattle.std.proofs.Math.Dec.{ltb}
@@ -14,10 +14,10 @@ use Rattle.theory_reading.specs.Element as T
 use Rattle.theory_reading.specs.Reading.{is_two}
 use Rattle.theory_reading.specs.Deciding.{ended}
 use Rattle.theory_reading.specs.Spine.{firsts_stay, spine_number}
-use Rattle.elements.specs.Abstraction.{ref_of, context_of, opens_of, deep_of, open_list}
-use Rattle.elements.specs.OpenLaws.{deep-most, open-length}
+use Rattle.elements.specs.Abstraction.{ref_of, context_of, inside_open, opens_of, deep_of, open_list}
+use Rattle.elements.specs.OpenLaws.{open-length}
 use Rattle.work_table.specs.TableLaws.{table_of}
-use Rattle.reader.specs.OpenCells.{ReadReached, cursor_in}
+use Rattle.reader.specs.OpenNodes.{ReadReached, cursor_in}
 use Rattle.cursors.specs.Cursors.{first_run}
 use Rattle.reader.specs.Loop.{first_opens, stands-first}
 use Rattle.answers.specs.Answers.{checking_of}
@@ -27,7 +27,7 @@ use Rattle.reader.specs.Legs.{bare}
 use Rattle.reader.specs.ReadOn.{ReadTo, read_on, read_all, first_cursor, read_from, read-within}
 use Rattle.blocks.specs.Spine.{stays_in, highest_in, spine_record, worded_at, spine_at}
 use Rattle.blocks.specs.declared.Loaded.{Loaded}
-use Rattle.blocks.specs.declared.Rooting.{Rooting}
+use Rattle.blocks.specs.declared.Rooted.{Rooted}
 use Rattle.cursors.specs.declared.Cursor.{Cursor}
 use Rattle.cursors.specs.declared.Pair.{Pair}
 use Rattle.cursors.specs.declared.Run.{Run}
@@ -68,13 +68,14 @@ pub record RootTo : Type 0 where
   pub number : ℕ
   pub table : List NodeRecord
 
--- as code has it; u: the table after it
-abbrev pub rooting_in : Rooting → List NodeRecord → RootTo
-rooting_in x u = record { whole = x.whole; size = x.size; number = x.number; table = u }
-
 -- there is none
 abbrev pub unrooted : ℕ → List NodeRecord → RootTo
 unrooted z t = record { whole = false; size = z; number = 0; table = t }
+
+-- as code has it, where the table had z numbers before; u: the table after it
+abbrev pub rooting_in : ℕ → Option Rooted → List NodeRecord → RootTo
+rooting_in z None u = unrooted z u
+rooting_in z (Some x) u = record { whole = true; size = x.size; number = x.number; table = u }
 
 -- ---- The open nodes, with a two-child node that has just ended
 
@@ -117,6 +118,13 @@ rooted_at y t h z = record {
 -- the larger number
 abbrev pub larger : ℕ → ℕ → ℕ
 larger z m = cond (ltb z m) m z
+
+pub larger-max : (z m : ℕ) → max z m ≡ larger z m
+larger-max z m = go (ltb z m) refl
+  where
+    go : (b : Bool) → ltb z m ≡ b → max z m ≡ cond b m z
+    go true e = omega (arith, ltb-true z m e)
+    go false e = omega (arith, ltb-false z m e)
 
 -- h: no number above it has a node
 abbrev pub root_above : ReadReached → List NodeRecord → ℕ → RootTo
@@ -161,53 +169,8 @@ load n bytes t =
 
 -- ---- The ways through code -------------------------------------------------------------------
 
-pub count-two : (d : ℕ) (m : T.Context) → is_two m ≡ true → row_count d m ≡ deep_of d + 1
-count-two d m e = rw e refl
-
-pub count-one : (d : ℕ) (m : T.Context) → is_two m ≡ false → row_count d m ≡ deep_of d
-count-one d m e = rw e refl
-
-pub count_most : (d : ℕ) (m : T.Context) → row_count d m ≤ open_limit + 1
-count_most d m = go (is_two m)
-  where
-    go : (b : Bool) → cond b (deep_of d + 1) (deep_of d) ≤ open_limit + 1
-    go true = omega (arith, deep-most d)
-    go false = omega (arith, deep-most d)
-
--- what ended last stays in the table
-module _ (t : List NodeRecord) (r : Run) where
-  pub last_one : is_two (context_of r.context) ≡ false → (b : Bool) → b ≡ stays_in t r.size r.last → b ≡ last_stays t r
-  last_one e b h = rw e h
-
-  -- a, b: whether the children do
-  pub last-two : is_two (context_of r.context) ≡ true → (a b : Bool) → a ≡ stays_in t r.size r.pair.first
-      → b ≡ stays_in t r.size r.pair.second → (a && b) ≡ last_stays t r
-  last-two e a b h k = rw e (ap₂ ◌&&◌ h k)
-
 -- y: what the loop reaches
 module _ (y : ReadReached) (t : List NodeRecord) where
-  abbrev has_ended : Bool
-  has_ended = ended (context_of y.run.context)
-
-  pub can-faulty : y.faulty ≡ true → false ≡ can_root y t
-  can-faulty e = rw e refl
-
-  pub can-stale : y.faulty ≡ false → has_ended ≡ true → last_stays t y.run ≡ false → false ≡ can_root y t
-  can-stale f e s = rw (f, e, s) refl
-
-  -- b: whether all first children stay
-  pub can-rest : y.faulty ≡ false → (has_ended ≡ false) ⊎ (last_stays t y.run ≡ true) → (b : Bool)
-      → b ≡ firsts_stay (table_of t y.run.size) (open_list y.opens) → b ≡ can_root y t
-  can-rest f s b e = ⊎_elim
-      (λ (h : has_ended ≡ false). rw (f, h) e)
-      (λ (h : last_stays t y.run ≡ true). go has_ended h)
-      s
-    where
-      go : (c : Bool) → last_stays t y.run ≡ true
-          → b ≡ (not y.faulty && ((not c || last_stays t y.run) && firsts_stay (table_of t y.run.size) (open_list y.opens)))
-      go true h = rw (f, h) e
-      go false h = rw f e
-
   pub root-cannot : (x : RootTo) → false ≡ can_root y t → x ≡ unrooted y.run.size t → x ≡ root_in y t
   unfolding root_in
   root-cannot x c e = rw (sym c) e
@@ -259,11 +222,6 @@ module _ (y : ReadReached) (t : List NodeRecord) where
         → (v ≡ spine_at t z (rows_in y) k (last_in y.run)) × (m ≡ spine_number (rows_in y) k (last_in y.run))
     rows_alike l le p = (p.0 ∙ ap₂ (λ (l : List T.Open) (e : ℕ). spine_at t z l k e) le ee, p.1 ∙ ap₂ (λ (l : List T.Open) (e : ℕ). spine_number l k e) le ee)
 
-    pub rows-one : is_two (context_of y.run.context) ≡ false
-        → (v ≡ spine_at t z (opens_of y.opens.nodes d) k e) × (m ≡ spine_number (opens_of y.opens.nodes d) k e)
-        → (v ≡ spine_at t z (rows_in y) k (last_in y.run)) × (m ≡ spine_number (rows_in y) k (last_in y.run))
-    rows-one two p = rows_alike (opens_of y.opens.nodes d) (ap (opens_of y.opens.nodes) de ∙ rw two refl) p
-
     -- x, u: the record of the two-child node, and the table with it
     pub rows-two : is_two (context_of y.run.context) ≡ true → (x : NodeRecord) → x ≡ spine_record (pair_open y.run.pair) (d + 1) e
         → (u : List NodeRecord) → u ≡ worded_at t z k x
@@ -294,20 +252,23 @@ module _ (n : ℕ) (bytes : List ℕ) (t : List NodeRecord) where
 
   -- y, u: what the loop reaches, and the table after it; x: what is made of it, as code has it
   pub load-correct : n ≤ option_limit → table_limit ≤ length t → (c : Cursor) → c ≡ start_cursor → (y : ReadReached) (u : List NodeRecord)
-      → record { reached = y; table = u } ≡ read_from n bytes word_limit (cursor_in c (replicate open_limit (replicate 4 0))) t
+      → record { reached = y; table = u } ≡ read_from n bytes word_limit (cursor_in c (replicate open_limit inside_open)) t
       → (x : LoadTo) → x ≡ load_of (record { reached = y; table = u }) → x ≡ load n bytes t
   load-correct few room c ce y u k x xe =
       xe
       ∙ ap load_of (k
-      ∙ ap (λ (c : Cursor). read_from n bytes word_limit (cursor_in c (replicate open_limit (replicate 4 0))) t) ce
+      ∙ ap (λ (c : Cursor). read_from n bytes word_limit (cursor_in c (replicate open_limit inside_open)) t) ce
       ∙ read-within n bytes few word_limit (omega arith) first_cursor t (stands-first n bytes t room))
       ∙ sym (load-on few room)
 
--- y, u: what the loop reaches, and the table after it; x, v: the number that stands for it, and the table then; a, z, k, p: the answer, and what the block has
-pub load-made : (y : ReadReached) (u : List NodeRecord) (x : Rooting) (v : List NodeRecord) → rooting_in x v ≡ root_in y u → (a : C.Result R.Checked)
-    → a ≡ checked_by y → (z k : ℕ) (p : Bool) → (z ≡ x.size) × ((k ≡ x.number) × (p ≡ y.run.complement))
-    → record { answer = a; whole = x.whole; size = z; number = k; complement = p; table = v } ≡ load_of (record { reached = y; table = u })
-load-made y u x v xe a ae z k p b = rw (b.0, b.1.0, b.1.1, ae) (ap (loaded_as y) xe)
+-- y, u: what the loop reaches, and the table after it; x, v: the number that stands for it, and the table then; w: that number, or 0; a, z, k, p: the answer,
+-- and what the block has
+pub load-made : (y : ReadReached) (u : List NodeRecord) (x : Option Rooted) (v : List NodeRecord) → rooting_in y.run.size x v ≡ root_in y u
+    → (w : Rooted) → w ≡ unwrap_or x (record { size = y.run.size; number = 0 }) → (a : C.Result R.Checked) → a ≡ checked_by y
+    → (z k : ℕ) (p : Bool) → (z ≡ w.size) × ((k ≡ w.number) × (p ≡ y.run.complement))
+    → record { answer = a; whole = is_some x; size = z; number = k; complement = p; table = v } ≡ load_of (record { reached = y; table = u })
+load-made y u None v xe w we a ae z k p b = rw (b.0, b.1.0, b.1.1, we, ae) (ap (loaded_as y) xe)
+load-made y u (Some x) v xe w we a ae z k p b = rw (b.0, b.1.0, b.1.1, we, ae) (ap (loaded_as y) xe)
 
 -- What the last element passed does not count.
 pub load-bare : (z w : ReadTo) → bare z ≡ bare w → load_of z ≡ load_of w

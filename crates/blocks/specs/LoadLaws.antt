@@ -23,7 +23,7 @@ use Rattle.node_records.specs.Records.{no_record}
 use Rattle.work_table.specs.TableLaws.{table_of, Worded}
 use Rattle.reader.specs.Simulation.{child-of}
 use Rattle.reader.specs.Advance.{state_at, bars-record}
-use Rattle.reader.specs.OpenCells.{ReadReached}
+use Rattle.reader.specs.OpenNodes.{ReadReached}
 use Rattle.cursors.specs.Cursors.{first_run}
 use Rattle.reader.specs.Loop.{first_opens, Stands, stands-first, ReachedBy}
 use Rattle.checker.specs.CheckCorrect.{checked_by, Reads, all-reads, check-options, check-table, check-correct}

@@ -1,6 +1,10 @@
 -- The records of the nodes that are open at the end of a stream, as code makes them. With a law for each way through code. Assumes nothing.
-use Rattle.std.specs.Prelude.{◌≡◌, refl, Bool, true, false, cond, not, ◌&&◌, List, [], ◌∷◌, ℕ, zero, suc, ◌+◌, ◌-◌, eqb, ltb, length, get_or}
-use Rattle.std.proofs.Common.{sym, ap₂, ◌∙◌, arith, eq-eqb, ne_eqb}
+use Rattle.std.specs.Prelude.{◌≡◌, refl, Bool, true, false, cond, not, ◌&&◌, List, [], ◌∷◌, ℕ, zero, suc, ◌+◌, ◌-◌, eqb, ltb, ◌<◌, ◌≤◌, length, get_or, take}
+use Rattle.std.proofs.Common.{sym, ap₂, ◌∙◌, ⊎_elim, arith}
+use Rattle.std.proofs.lemmas.List.{get_or-take, length-take}
+use Rattle.std.specs.Bool.{MatchBool}
+use Rattle.std.specs.List.{AllWithin, HoldsAt}
+use Rattle.theory_lists.specs.Lists.{decide-le}
 use Rattle.std.proofs.Math.Path.{ap}
 use Rattle.theory_reading.specs.Nodes.{Node, child}
 use Rattle.theory_reading.specs.Element as T
@@ -9,11 +13,9 @@ use Rattle.node_records.specs.Records.{no_record}
 use Rattle.record_tables.specs.Entries.{entry_at, put_entry}
 use Rattle.work_table.specs.Table.{get_in, worded_in}
 use Rattle.work_table.specs.TableLaws.{table_of}
-use Rattle.elements.specs.Abstraction.{open_of, opens_of}
+use Rattle.elements.specs.Abstraction.{open_of, inside_open, opens_of}
 use Rattle.elements.specs.OpenLaws.{open_none, open-length}
-use Rattle.reader.specs.Simulation.{child-of}
 use Rattle.reader.specs.Advance.{bars-record}
-use Rattle.reader.specs.OpenCells.{open_in, nodes_in, node_at}
 use Rattle.elements.specs.declared.Open.{Open}
 use Rattle.elements.specs.declared.Ref.{Ref}
 use Rattle.node_records.specs.declared.NodeRecord.{NodeRecord}
@@ -53,68 +55,79 @@ not-twice : (b : Bool) → b ≡ not (not b)
 not-twice true = refl
 not-twice false = refl
 
-pub first-begins : (t : List Node) (a : List ℕ) → get_or a 2 0 ≡ 0 → true ≡ first_stays t (open_of (open_in a))
-first-begins t a e = rw (eq-eqb (get_or a 2 0) 0 e) refl
-
-pub first_ended : (t : List NodeRecord) (z : ℕ) (a : List ℕ) (b : Bool) → (get_or a 2 0 ≡ 0 → ⊥) → b ≡ stays_in t z (open_in a).first
-    → b ≡ first_stays (table_of t z) (open_of (open_in a))
-first_ended t z a b h e = rw (ne_eqb (get_or a 2 0) 0 h)
-    (e ∙ not-twice (stays_in t z (open_in a).first) ∙ ap not (sym (bars-record t z (open_in a).first)))
+pub first_ended : (t : List NodeRecord) (z : ℕ) (x : Open) (b : Bool) → x.second ≡ true → b ≡ stays_in t z x.first
+    → b ≡ first_stays (table_of t z) (open_of x)
+first_ended t z x b h e = rw h (e ∙ not-twice (stays_in t z x.first) ∙ ap not (sym (bars-record t z x.first)))
 
 -- the innermost of d open nodes
-module _ (o : List (List ℕ)) where
-  opens-suc : (d : ℕ) → opens_of (nodes_in o) (suc d) ≡ open_of (open_in (get_or o d [])) ∷ opens_of (nodes_in o) d
+module _ (o : List Open) where
+  opens-suc : (d : ℕ) → opens_of o (suc d) ≡ open_of (get_or o d inside_open) ∷ opens_of o d
   unfolding opens_of
-  opens-suc d = ap (λ (x : Open). open_of x ∷ opens_of (nodes_in o) d) (sym (node_at o d))
+  opens-suc d = refl
 
-  pub opens-inner : (d : ℕ) → (d ≡ 0 → ⊥) → opens_of (nodes_in o) d ≡ open_of (open_in (get_or o (d - 1) [])) ∷ opens_of (nodes_in o) (d - 1)
+  pub opens-inner : (d : ℕ) → (d ≡ 0 → ⊥) → opens_of o d ≡ open_of (get_or o (d - 1) inside_open) ∷ opens_of o (d - 1)
   opens-inner zero h = absurd (h refl)
   opens-inner (suc d) h =
       let e : d ≡ suc d - 1 = omega arith in
-      opens-suc d ∙ ap (λ (i : ℕ). open_of (open_in (get_or o i [])) ∷ opens_of (nodes_in o) i) e
+      opens-suc d ∙ ap (λ (i : ℕ). open_of (get_or o i inside_open) ∷ opens_of o i) e
 
-  module _ (t : List Node) (d : ℕ) where
-    pub firsts-none : d ≡ 0 → true ≡ firsts_stay t (opens_of (nodes_in o) d)
-    firsts-none e = sym (ap (firsts_stay t) (ap (opens_of (nodes_in o)) e ∙ open_none (nodes_in o)))
+  module _ (t : List Node) where
+    -- the first children of all of them stay,
+    firsts-all : (d : ℕ) → ((k : ℕ) → k < d → first_stays t (open_of (get_or o k inside_open)) ≡ true)
+        → true ≡ firsts_stay t (opens_of o d)
+    firsts-all zero h = sym (ap (firsts_stay t) (open_none o))
+    firsts-all (suc d) h =
+        ap₂ ◌&&◌ (sym (h d (omega arith))) (firsts-all d (λ k l. h k (omega (arith, l)))) ∙ ap (firsts_stay t) (sym (opens-suc d))
 
-    -- b, c: whether the first child of the innermost stays, and those of the others
-    pub firsts_more : (d ≡ 0 → ⊥) → (b c : Bool) → b ≡ first_stays t (open_of (open_in (get_or o (d - 1) []))) → c ≡ firsts_stay t (opens_of (nodes_in o) (d - 1))
-        → (b && c) ≡ firsts_stay t (opens_of (nodes_in o) d)
-    firsts_more h b c p q = ap₂ ◌&&◌ p q ∙ ap (firsts_stay t) (sym (opens-inner d h))
+    -- or that of one does not.
+    firsts-one : (d k : ℕ) → k < d → first_stays t (open_of (get_or o k inside_open)) ≡ false → false ≡ firsts_stay t (opens_of o d)
+    firsts-one zero k l h = absurd (omega (arith, l))
+    firsts-one (suc d) k l h = ⊎_elim
+        (λ (m : d ≤ k). ap (λ (b : Bool). b && firsts_stay t (opens_of o d))
+        (sym (ap (λ (i : ℕ). first_stays t (open_of (get_or o i inside_open))) (d≡k m) ∙ h)) ∙ ap (firsts_stay t) (sym (opens-suc d)))
+        (λ (m : k < d). and-false (first_stays t (open_of (get_or o d inside_open))) ∙ ap₂ ◌&&◌ refl (firsts-one d k m h)
+        ∙ ap (firsts_stay t) (sym (opens-suc d)))
+        (decide-le d k)
+      where
+        d≡k : d ≤ k → d ≡ k
+        d≡k m = omega (arith, m, l)
 
-    pub firsts-stop : (d ≡ 0 → ⊥) → false ≡ first_stays t (open_of (open_in (get_or o (d - 1) []))) → false ≡ firsts_stay t (opens_of (nodes_in o) d)
-    firsts-stop h p = firsts_more h false (firsts_stay t (opens_of (nodes_in o) (d - 1))) p refl
+        and-false : (b : Bool) → false ≡ (b && false)
+        and-false true = refl
+        and-false false = refl
+
+    -- b: whether those of the first d do
+    pub firsts_by : (d : ℕ) → d ≤ length o → (b : Bool)
+        → MatchBool b (AllWithin (λ (x : Open). first_stays t (open_of x) ≡ true) (take d o) 0 (length (take d o)))
+        ((k : ℕ) × (k < length (take d o)) × HoldsAt (λ (x : Open). first_stays t (open_of x) ≡ false) (take d o) k)
+        → b ≡ firsts_stay t (opens_of o d)
+    firsts_by d l true h = firsts-all d (λ k m.
+        ap (λ (x : Open). first_stays t (open_of x)) (sym (get_or-take d o k inside_open m))
+        ∙ h k inside_open (omega arith) (omega (arith, m, l, length-take d o)))
+    firsts_by d l false h =
+        let m : h.0 < d = omega (arith, h.1, l, length-take d o) in
+        firsts-one d h.0 m (ap (λ (x : Open). first_stays t (open_of x)) (sym (get_or-take d o h.0 inside_open m)) ∙ h.2 inside_open)
 
   -- ---- The records
 
-  module _ (t : List NodeRecord) (z d k e : ℕ) where
-    pub spine-none : d ≡ 0 → (t ≡ spine_at t z (opens_of (nodes_in o) d) k e) × (e ≡ spine_number (opens_of (nodes_in o) d) k e)
-    spine-none h =
-        let q : opens_of (nodes_in o) d ≡ [] = ap (opens_of (nodes_in o)) h ∙ open_none (nodes_in o) in
-        (sym (ap (λ (l : List T.Open). spine_at t z l k e) q), sym (ap (λ (l : List T.Open). spine_number l k e) q))
+  -- y: the record of the innermost of d; u: the table with it
+  pub spine-step : (t : List NodeRecord) (z d k e : ℕ) → (d ≡ 0 → ⊥) → (y : NodeRecord) → y ≡ spine_record (open_of (get_or o (d - 1) inside_open)) d e
+      → (u : List NodeRecord) → u ≡ worded_at t z k y
+      → (spine_at u z (opens_of o (d - 1)) (k + 1) k ≡ spine_at t z (opens_of o d) k e)
+      × (spine_number (opens_of o (d - 1)) (k + 1) k ≡ spine_number (opens_of o d) k e)
+  spine-step t z d k e h y ye u ue =
+      let l : d ≡ length (opens_of o (d - 1)) + 1 = omega (arith, h, open-length o (d - 1)) in
+      let x = open_of (get_or o (d - 1) inside_open) in
+      let q = opens-inner d h in (
+        ap (λ (u : List NodeRecord). spine_at u z (opens_of o (d - 1)) (k + 1) k)
+            (ue ∙ ap (worded_at t z k) (ye ∙ ap (λ (i : ℕ). spine_record x i e) l))
+            ∙ ap (λ (l : List T.Open). spine_at t z l k e) (sym q),
+        ap (λ (l : List T.Open). spine_number l k e) (sym q),
+      )
 
-    -- y: the record of the innermost; u: the table with it; v, m: the table with those of the others, and the number of the outermost
-    pub spine-more : (d ≡ 0 → ⊥) → (y : NodeRecord) → y ≡ spine_record (open_of (open_in (get_or o (d - 1) []))) d e
-        → (u : List NodeRecord) → u ≡ worded_at t z k y
-        → (v : List NodeRecord) (m : ℕ) → (v ≡ spine_at u z (opens_of (nodes_in o) (d - 1)) (k + 1) k) × (m ≡ spine_number (opens_of (nodes_in o) (d - 1)) (k + 1) k)
-        → (v ≡ spine_at t z (opens_of (nodes_in o) d) k e) × (m ≡ spine_number (opens_of (nodes_in o) d) k e)
-    spine-more h y ye u ue v m ve =
-        let l : d ≡ length (opens_of (nodes_in o) (d - 1)) + 1 = omega (arith, h, open-length (nodes_in o) (d - 1)) in
-        let x = open_of (open_in (get_or o (d - 1) [])) in
-        let q = opens-inner d h in (
-          ve.0
-              ∙ ap (λ (u : List NodeRecord). spine_at u z (opens_of (nodes_in o) (d - 1)) (k + 1) k)
-              (ue ∙ ap (worded_at t z k) (ye ∙ ap (λ (i : ℕ). spine_record x i e) l))
-              ∙ ap (λ (l : List T.Open). spine_at t z l k e) (sym q),
-          ve.1 ∙ ap (λ (l : List T.Open). spine_number l k e) (sym q),
-        )
-
--- the record of the cells a; x: as code makes it
-module _ (a : List ℕ) (i e : ℕ) (x : NodeRecord) where
-  pub record-first : get_or a 2 0 ≡ 0 → x ≡ record_as i e 0 0 → x ≡ spine_record (open_of (open_in a)) i e
-  record-first h xe = rw (eq-eqb (get_or a 2 0) 0 h) xe
-
-  pub record-second : (get_or a 2 0 ≡ 0 → ⊥) → (c : ℕ) → c ≡ cond (not (eqb (get_or a 3 0) 0)) 1 0 → x ≡ record_as i (get_or a 0 0) e c
-      → x ≡ spine_record (open_of (open_in a)) i e
-  record-second h c q xe = rw (ne_eqb (get_or a 2 0) 0 h)
-      (xe ∙ ap₂ (λ (f c : ℕ). record_as i f e c) (child-of (open_in a).first) q)
+  -- none is left
+  pub spine-none : (t : List NodeRecord) (z d k e : ℕ) → d ≡ 0
+      → (t ≡ spine_at t z (opens_of o d) k e) × (e ≡ spine_number (opens_of o d) k e)
+  spine-none t z d k e h =
+      let q : opens_of o d ≡ [] = ap (opens_of o) h ∙ open_none o in
+      (sym (ap (λ (l : List T.Open). spine_at t z l k e) q), sym (ap (λ (l : List T.Open). spine_number l k e) q))

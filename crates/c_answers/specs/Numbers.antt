@@ -1,6 +1,5 @@
 -- The answers of the calls as C has them: numbers, each cause with the paper's number. What does not apply is 0. Assumes nothing.
-use Rattle.std.specs.Prelude.{◌≡◌, refl, Bool, true, false, cond, ℕ}
-use Rattle.theory_lists.specs.Lists.{bit}
+use Rattle.std.specs.Prelude.{ℕ}
 use Rattle.theory_reading.specs.Causes.{Result, refused, done, cause_row}
 use Rattle.theory_reading.specs.Calls as R
 use Rattle.c_answers.specs.declared.RuleChecked.{RuleChecked}
@@ -11,11 +10,6 @@ use Rattle.c_answers.specs.declared.RuleFilled.{RuleFilled}
 abbrev pub extent_number : R.Extent → ℕ
 extent_number R.cut = 0
 extent_number R.complete = 1
-
--- a flag for the extent
-pub extent-flag : (b : Bool) → bit b ≡ extent_number (cond b R.complete R.cut)
-extent-flag true = refl
-extent-flag false = refl
 
 abbrev pub verdict_number : R.Verdict → ℕ
 verdict_number R.is_no = 0

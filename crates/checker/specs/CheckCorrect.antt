@@ -16,7 +16,7 @@ use Rattle.node_records.specs.Records.{no_record}
 use Rattle.record_tables.specs.Entries.{clear_to}
 use Rattle.elements.specs.Abstraction.{context_of, cause_of}
 use Rattle.reader.specs.Advance.{state_at, HaltsAt}
-use Rattle.reader.specs.OpenCells.{ReadReached}
+use Rattle.reader.specs.OpenNodes.{ReadReached}
 use Rattle.reader.specs.Loop.{Ends, ReachedBy}
 use Rattle.node_records.specs.declared.NodeRecord.{NodeRecord}
 

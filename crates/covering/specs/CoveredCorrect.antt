@@ -1,8 +1,8 @@
 -- The covered count that code comes to is the run's: the least word that is not settled, or 2^n. Assumes nothing.
-use Rattle.std.specs.Prelude.{◌≡◌, ◌⊎◌, Bool, true, false, cond, not, ◌&&◌, List, [], ◌∷◌, ℕ, ◌-◌, ◌<◌, ◌≤◌, ◌^◌, eqb, ltb, leb, length}
+use Rattle.std.specs.Prelude.{◌≡◌, ◌⊎◌, Bool, true, false, cond, not, ◌&&◌, List, [], ◌∷◌, ℕ, ◌-◌, ◌<◌, ◌≤◌, ◌^◌, eqb, ltb, leb, length, Option, Some, None}
 use Rattle.std.proofs.Math.Path.{refl, subst⁻¹}
 use Rattle.std.proofs.Common.{sym, ap, ap₂, ◌∙◌, inl, inr, ⊎_elim, true≢false, arith, eqb-true, le-ltb, leb-true, leb-false}
-use Rattle.std.proofs.lemmas.Bool.{false≢true, eqb-false}
+use Rattle.std.proofs.lemmas.Bool.{eqb-false}
 use Rattle.theory_lists.specs.Lists.{differ, and_l, and_r, decide-le}
 use Rattle.theory_reading.specs.Limits.{option_limit, table_limit}
 use Rattle.theory_reading.specs.Causes.{cleared}
@@ -18,9 +18,8 @@ use Rattle.blocks.specs.LoadLaws.{load-length}
 use Rattle.finder.specs.LeastDecided.{is_value, least_decided, least-below, least-hits}
 use Rattle.finder.specs.TextSearch.{SearchTo, search_text, text-within, nodes-least}
 use Rattle.operators.specs.Operators.{opens_first, opens_second}
-use Rattle.covering.specs.Covering.{none_sought, goes_later, covered_of, found_beside, BothTo, load_both}
+use Rattle.covering.specs.Covering.{goes_later, covered_of, found_beside, BothTo, load_both}
 use Rattle.covering.specs.Covering.{search_by, search_in, reach_by, reach_in, CoveredTo, covered_by, covered_in}
-use Rattle.covering.specs.declared.Found.{Found}
 use Rattle.node_records.specs.Records.{no_record}
 use Rattle.node_records.specs.declared.NodeRecord.{NodeRecord}
 
@@ -56,6 +55,16 @@ search-reaches r g short long v le at_yes at_no =
 
 -- ---- The search in a stream that was loaded --------------------------------------------------
 
+-- the word o is k, if there is one
+abbrev Says : Option ℕ → ℕ → Type 0
+Says o k = (i : ℕ) → o ≡ Some i → i ≡ k
+
+some-same : {i k : ℕ} → Some k ≡ Some i → i ≡ k
+some-same e = cc
+
+none-some : {k : ℕ} → None ≡ Some k → ⊥
+none-some e = cc
+
 -- what becomes of a table: it stays, or it is clear, if it has not the outermost node
 abbrev pub Left : LoadTo → List NodeRecord → Type 0
 Left x u = (u ≡ x.table) ⊎ ((x.whole ≡ false) × (u ≡ cleared no_record x.table))
@@ -65,37 +74,37 @@ module _ (n : ℕ) (few : n ≤ option_limit) (s : List ℕ) (t : List NodeRecor
   long-table = omega (arith, room, ap (λ (x : LoadTo). length x.table) called, load-length n s t)
 
   -- f: what was found before, if it was sought
-  module _ (f : Found) (w : ℕ) (l : w < covered n s) (v : Bool) where
+  module _ (f : Option ℕ) (w : ℕ) (l : w < covered n s) (v : Bool) where
     below : w < 2 ^ n
     below = omega (arith, l, covered-most n s)
 
-    search-word : (f.known ≡ true → f.word ≡ (search_text n s w v t).word)
+    search-word : Says f (search_text n s w v t).word
         → (search_in n s x f w (covered n s) v).word ≡ least_decided (covered n s - w) (decision n s) v w
-    search-word right = go f.known x.whole refl refl
+    search-word right = go f x.whole refl refl
       where
-        go : (a b : Bool) → f.known ≡ a → x.whole ≡ b
-            → (search_by n s x f w (covered n s) v a b).word ≡ least_decided (covered n s - w) (decision n s) v w
-        go true b h e = right h ∙ ap (λ (z : SearchTo). z.word) (text-within n s w v t few room below)
-        go false true h e = nodes-least n s t x called e few w l v
-        go false false h e = ap (λ (z : SearchTo). z.word) (text-within n s w v x.table few long-table below)
+        go : (o : Option ℕ) (b : Bool) → f ≡ o → x.whole ≡ b
+            → (search_by n s x w (covered n s) v o b).word ≡ least_decided (covered n s - w) (decision n s) v w
+        go (Some k) b h e = right k h ∙ ap (λ (z : SearchTo). z.word) (text-within n s w v t few room below)
+        go None true h e = nodes-least n s t x called e few w l v
+        go None false h e = ap (λ (z : SearchTo). z.word) (text-within n s w v x.table few long-table below)
 
     search-left : Left x (search_in n s x f w (covered n s) v).table
-    search-left = go f.known x.whole refl
+    search-left = go f x.whole refl
       where
-        go : (a b : Bool) → x.whole ≡ b → Left x (search_by n s x f w (covered n s) v a b).table
-        go true b e = inl refl
-        go false true e = inl refl
-        go false false e = inr (e, ap (λ (z : SearchTo). z.table) (text-within n s w v x.table few long-table below))
+        go : (o : Option ℕ) (b : Bool) → x.whole ≡ b → Left x (search_by n s x w (covered n s) v o b).table
+        go (Some k) b e = inl refl
+        go None true e = inl refl
+        go None false e = inr (e, ap (λ (z : SearchTo). z.table) (text-within n s w v x.table few long-table below))
 
   -- r: what the operator gives for values of the shorter input and of this one
-  module _ (r : Bool → Bool → Bool) (short : ℕ) (le : short ≤ covered n s) (f : Found)
-      (right : f.known ≡ true → f.word ≡ (search_text n s short (opens r true) t).word) where
+  module _ (r : Bool → Bool → Bool) (short : ℕ) (le : short ≤ covered n s) (f : Option ℕ)
+      (right : Says f (search_text n s short (opens r true) t).word) where
     abbrev at : Bool → Bool → Bool → SearchTo
     at = reach_by n s x f short (covered n s)
 
     -- what was sought
-    sought : (v : Bool) → opens r true ≡ v → f.known ≡ true → f.word ≡ (search_text n s short v t).word
-    sought v e h = right h ∙ ap (λ (v : Bool). (search_text n s short v t).word) e
+    sought : (v : Bool) → opens r true ≡ v → Says f (search_text n s short v t).word
+    sought v e k h = right k h ∙ ap (λ (v : Bool). (search_text n s short v t).word) e
 
     not_same : eqb short (covered n s) ≡ false → short < covered n s
     not_same e = ⊎_elim (λ (k : covered n s ≤ short). absurd (eqb-false short (covered n s) e (omega (arith, k, le)))) (λ (k : short < covered n s). k)
@@ -183,14 +192,13 @@ ignored op e a b =
 -- ---- The count -------------------------------------------------------------------------------
 
 -- what was sought beside a stream that covers w words
-beside-right : (n : ℕ) (s : List ℕ) (w c : ℕ) (noes yeses : Bool) (t : List NodeRecord) → w ≡ c → (found_beside n s w noes yeses t).known ≡ true
-    → (found_beside n s w noes yeses t).word ≡ (search_text n s c yeses t).word
+beside-right : (n : ℕ) (s : List ℕ) (w c : ℕ) (noes yeses : Bool) (t : List NodeRecord) → w ≡ c
+    → Says (found_beside n s w noes yeses t) (search_text n s c yeses t).word
 beside-right n s w c noes yeses t e = go (differ noes yeses)
   where
-    go : (b : Bool) → let f : Found = cond b (record { known = true; word = (search_text n s w yeses t).word }) none_sought in
-        f.known ≡ true → f.word ≡ (search_text n s c yeses t).word
-    go true h = ap (λ (w : ℕ). (search_text n s w yeses t).word) e
-    go false h = absurd (false≢true h)
+    go : (b : Bool) → Says (cond b (Some (search_text n s w yeses t).word) None) (search_text n s c yeses t).word
+    go true k h = some-same h ∙ ap (λ (w : ℕ). (search_text n s w yeses t).word) e
+    go false k h = absurd (none-some h)
 
 -- both streams loaded, with so many words covered
 module _ (n op : ℕ) (few : n ≤ option_limit) (x y : List ℕ) (t₁ t₂ : List NodeRecord) (room₁ : table_limit ≤ length t₁) (room₂ : table_limit ≤ length t₂)
@@ -201,21 +209,23 @@ module _ (n op : ℕ) (few : n ≤ option_limit) (x y : List ℕ) (t₁ t₂ : L
   abbrev Z : BothTo
   Z = load_both n op x y t₁ t₂
 
-  right₁ : Z.found1.known ≡ true → Z.found1.word ≡ (search_text n x (covered n y) (opens_second op true) t₁).word
+  right₁ : Says Z.found1 (search_text n x (covered n y) (opens_second op true) t₁).word
   right₁ = go (goes_later x y)
     where
-      go : (b : Bool) → let f : Found = cond b (found_beside n x (covered_of (load n y t₂).answer) (opens_second op false) (opens_second op true) t₁) none_sought in
-          f.known ≡ true → f.word ≡ (search_text n x (covered n y) (opens_second op true) t₁).word
-      go true h = beside-right n x (covered_of (load n y t₂).answer) (covered n y) (opens_second op false) (opens_second op true) t₁ c₂ h
-      go false h = absurd (false≢true h)
+      go : (b : Bool) → Says
+          (cond b (found_beside n x (covered_of (load n y t₂).answer) (opens_second op false) (opens_second op true) t₁) None)
+          (search_text n x (covered n y) (opens_second op true) t₁).word
+      go true k h = beside-right n x (covered_of (load n y t₂).answer) (covered n y) (opens_second op false) (opens_second op true) t₁ c₂ k h
+      go false k h = absurd (none-some h)
 
-  right₂ : Z.found2.known ≡ true → Z.found2.word ≡ (search_text n y (covered n x) (opens_first op true) t₂).word
+  right₂ : Says Z.found2 (search_text n y (covered n x) (opens_first op true) t₂).word
   right₂ = go (goes_later x y)
     where
-      go : (b : Bool) → let f : Found = cond b none_sought (found_beside n y (covered_of (load n x t₁).answer) (opens_first op false) (opens_first op true) t₂) in
-          f.known ≡ true → f.word ≡ (search_text n y (covered n x) (opens_first op true) t₂).word
-      go true h = absurd (false≢true h)
-      go false h = beside-right n y (covered_of (load n x t₁).answer) (covered n x) (opens_first op false) (opens_first op true) t₂ c₁ h
+      go : (b : Bool) → Says
+          (cond b None (found_beside n y (covered_of (load n x t₁).answer) (opens_first op false) (opens_first op true) t₂))
+          (search_text n y (covered n x) (opens_first op true) t₂).word
+      go true k h = absurd (none-some h)
+      go false k h = beside-right n y (covered_of (load n x t₁).answer) (covered n x) (opens_first op false) (opens_first op true) t₂ c₁ k h
 
   -- what a count says, and what is left of the tables
   pub record Counts (z : CoveredTo) : Type 0 where

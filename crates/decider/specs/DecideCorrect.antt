@@ -16,7 +16,7 @@ use Rattle.theory_reading.proofs.Reaching.{decided-not}
 use Rattle.node_records.specs.Records.{no_record}
 use Rattle.elements.specs.Abstraction.{cause_of}
 use Rattle.reader.specs.Advance.{state_at}
-use Rattle.reader.specs.OpenCells.{ReadReached}
+use Rattle.reader.specs.OpenNodes.{ReadReached}
 use Rattle.reader.specs.Loop.{Ends, ReachedBy}
 use Rattle.checker.specs.CheckCorrect.{late_of, Reads, halted-reads, table-after}
 use Rattle.node_records.specs.declared.NodeRecord.{NodeRecord}

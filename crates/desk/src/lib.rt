@@ -2,14 +2,16 @@
 #![tactic(auto)]
 
 ghost use Rattle.std.specs.Prelude.{◌≡◌};
-ghost use Rattle.meeting.specs.Abstraction.{endings_of, writing_of};
-ghost use Rattle.desk.specs.Numbers.{ending_number, written_numbers, write_given, combine_given};
+ghost use Rattle.meeting.specs.Abstraction.{writing_of};
+ghost use Rattle.desk.specs.Numbers.{written_numbers, write_given, combine_given};
 
-use meeting::{Ending, Writing};
+use answers::Refusal;
+use meeting::Written;
 use node_records::{NodeRecord, WriterRecord};
 
+// What does not apply is 0.
 #[repr(C)]
-#[derive(Clone, Copy)]
+#[derive(Clone, Copy, Default)]
 pub struct RuleWritten {
     pub cause: u32,
     pub stream: u32,
@@ -20,43 +22,23 @@ pub struct RuleWritten {
     pub spare: u32,
 }
 
-fn ending_number(e: Ending) -> u32
-    ensures { result ≡ ending_number (endings_of e) }
-{
-    match e {
-        Ending::Whole => 0,
-        Ending::InputEnded => 1,
-        Ending::OutputFull => 2,
-    }
-}
+impl From<Result<Written, Refusal>> for RuleWritten {
+    ghost from_gives = { λ a r. r ≡ written_numbers (writing_of a) };
 
-fn written_numbers(a: Writing) -> RuleWritten
-    ensures { result ≡ written_numbers (writing_of a) }
-{
-    match a {
-        Writing::Refused(f) => {
-            let c = f.cause;
-            RuleWritten {
-                cause: c_answers::cause_number(c),
+    fn from(answer: Result<Written, Refusal>) -> RuleWritten {
+        match answer {
+            Err(f) => RuleWritten {
+                cause: u32::from(f.cause),
                 stream: f.stream,
                 byte: f.byte as u64,
-                written: 0,
-                covered: 0,
-                ending: 0,
-                spare: 0,
-            }
-        }
-        Writing::Done(x) => {
-            let e = x.ending;
-            RuleWritten {
-                cause: 0,
-                stream: 0,
-                byte: 0,
+                ..RuleWritten::default()
+            },
+            Ok(x) => RuleWritten {
                 written: x.bytes as u64,
                 covered: x.covered,
-                ending: ending_number(e),
-                spare: 0,
-            }
+                ending: x.ending as u32,
+                ..RuleWritten::default()
+            },
         }
     }
 }
@@ -72,7 +54,7 @@ pub fn rule_write(
     ensures { record { answer = result; table = table.new; output = output.new }
         ≡ write_given n size truths.now output.old table.old }
 {
-    written_numbers(writer::write(n, size, truths, output, table))
+    RuleWritten::from(writer::write(n, size, truths, output, table))
 }
 
 // COMBINING two streams by an operator
@@ -96,7 +78,7 @@ pub fn rule_combine(
     } ≡ combine_given n op size stream1.now stream2.now output.old table1.old
         table2.old table3.old }
 {
-    written_numbers(combiner::combine(
+    RuleWritten::from(combiner::combine(
         n, op, size, stream1, stream2, output, table1, table2, table3,
     ))
 }

@@ -7,4 +7,4 @@ use Rattle.node_records.specs.declared.NodeRecord.{NodeRecord}
 
 -- an edge in the lent table of its input
 abbrev pub edge_in : TableEdge → List NodeRecord → Source
-edge_in e t = record { table = table_of t e.size; number = e.number; complement = e.complement }
+edge_in e t = record { table = table_of t e.size; number = e.edge.number; complement = e.edge.complement }

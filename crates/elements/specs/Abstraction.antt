@@ -66,7 +66,7 @@ cause_of BadNumber = C.bad_number
 
 abbrev pub outcome_of : Outcome → T.Outcome
 outcome_of (Got e) = T.got (element_of e)
-outcome_of (Fault c b) = T.fault (cause_of c) b
+outcome_of (Fault f) = T.fault (cause_of f.cause) f.byte
 outcome_of RanOut = T.ran_out
 
 -- ---- Open nodes ------------------------------------------------------------------------------

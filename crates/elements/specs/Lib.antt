@@ -1,2 +1,3 @@
 pub mod Abstraction
+pub mod Contexts
 pub mod OpenLaws

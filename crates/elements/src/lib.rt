@@ -1,9 +1,7 @@
 #![tactic(auto)]
 
 ghost use Rattle.std.specs.Prelude.{◌≡◌};
-ghost use Rattle.theory_reading.specs.Reading.{context_number, is_context};
-ghost use Rattle.elements.specs.Abstraction.{context_of};
-ghost use Rattle.elements.specs.Abstraction.{inside_open, begun_open, spots_of};
+ghost use Rattle.elements.specs.Abstraction.{begun_open, spots_of};
 
 // At most so many nodes are open at one time.
 pub const OPEN_LIMIT: usize = 32;
@@ -11,7 +9,7 @@ pub const OPEN_LIMIT: usize = 32;
 // The last place among them.
 pub const LAST_OPEN: usize = OPEN_LIMIT - 1;
 
-#[derive(Clone, Copy)]
+#[derive(Clone, Copy, PartialEq, Eq)]
 pub enum Element {
     Opening,
     Number(u32),
@@ -23,7 +21,7 @@ pub enum Element {
 }
 
 // What stands before a place.
-#[derive(Clone, Copy)]
+#[derive(Clone, Copy, PartialEq, Eq)]
 pub enum Context {
     Start,
     Lead,
@@ -34,58 +32,79 @@ pub enum Context {
     Over,
 }
 
-// What a node refers to: a number with its stamp; with the number 0 the terminal, if the stamp is 0 too, else nothing that stays.
+impl From<Context> for u32 {
+    ghost use Rattle.theory_reading.specs.Reading.{context_number};
+    ghost use Rattle.elements.specs.Abstraction.{context_of};
+
+    ghost from_gives = { λ m k. k ≡ context_number (context_of m) };
+
+    fn from(m: Context) -> u32 {
+        m as u32
+    }
+}
+
+// What a node refers to: a number with its stamp; with the number 0 the terminal, if the stamp is 0 too, else nothing that stays. It is two numbers, as C has it.
 #[repr(C)]
-#[derive(Clone, Copy)]
+#[derive(Clone, Copy, PartialEq, Eq)]
 pub struct Ref {
     pub number: u32,
     pub stamp: u32,
 }
 
-// The causes of document 01, 1 to 13.
-#[derive(Clone, Copy)]
+impl Ref {
+    pub const TERMINAL: Ref = Ref {
+        number: 0,
+        stamp: 0,
+    };
+
+    // Nothing that stays.
+    pub const TEMPORARY: Ref = Ref {
+        number: 0,
+        stamp: 1,
+    };
+}
+
+// The causes of document 01, with their numbers there.
+#[derive(Clone, Copy, PartialEq, Eq)]
 pub enum Cause {
-    OptionCount,
-    OperatorCode,
-    SizeToWrite,
-    WorkTable,
-    WordRange,
-    TruthTable,
-    WrongByte,
-    DeclaredSize,
-    TooDeep,
-    NotInTable,
-    OtherLevel,
-    NotStorable,
-    BadNumber,
+    OptionCount = 1,
+    OperatorCode = 2,
+    SizeToWrite = 3,
+    WorkTable = 4,
+    WordRange = 5,
+    TruthTable = 6,
+    WrongByte = 7,
+    DeclaredSize = 8,
+    TooDeep = 9,
+    NotInTable = 10,
+    OtherLevel = 11,
+    NotStorable = 12,
+    BadNumber = 13,
 }
 
-#[derive(Clone, Copy)]
-pub enum Outcome {
-    Got(Element),
-    Fault(Cause, usize),
-    RanOut,
-}
+impl From<Cause> for u32 {
+    ghost use Rattle.theory_reading.specs.Causes.{cause_row};
+    ghost use Rattle.elements.specs.Abstraction.{cause_of};
 
-// The contexts by number, in the order of their names
-pub fn context_number(m: Context) -> u8
-    ensures { result ≡ context_number (context_of m) }
-{
-    match m {
-        Context::Start => 0,
-        Context::Lead => 1,
-        Context::Begins => 2,
-        Context::AfterDigit => 3,
-        Context::AfterTwo => 4,
-        Context::AfterOne => 5,
-        Context::Over => 6,
+    ghost from_gives = { λ c k. k ≡ (cause_row (cause_of c)).number };
+
+    fn from(c: Cause) -> u32 {
+        c as u32
     }
 }
 
-pub fn is_context(m: Context, k: Context) -> bool
-    ensures { result ≡ is_context (context_of k) (context_of m) }
-{
-    context_number(m) == context_number(k)
+// A fault in a stream: its cause, and the byte that it names.
+#[derive(Clone, Copy, PartialEq, Eq)]
+pub struct Fault {
+    pub cause: Cause,
+    pub byte: usize,
+}
+
+#[derive(Clone, Copy, PartialEq, Eq)]
+pub enum Outcome {
+    Got(Element),
+    Fault(Fault),
+    RanOut,
 }
 
 // An open node: whether its second child has begun; what its first child was, and whether a `~` stands after it.
@@ -97,38 +116,32 @@ pub struct Open {
     pub complement: bool,
 }
 
-// The open nodes, the outermost first, and how many there are.
+impl Open {
+    // A node that opens: its first child is not done.
+    pub const INSIDE: Open = Open {
+        first: Ref::TERMINAL,
+        second: false,
+        complement: false,
+    };
+
+    // The second child begins; what the first was, and whether a `~` stands after it.
+    pub fn begun(first: Ref, complement: bool) -> Open
+        ensures { result ≡ begun_open first complement }
+    {
+        Open {
+            first,
+            second: true,
+            complement,
+        }
+    }
+}
+
+// The open nodes, the outermost first, and how many there are, as C has them.
 #[repr(C)]
 #[derive(Clone, Copy)]
 pub struct Opens {
     pub nodes: [Open; OPEN_LIMIT],
     pub depth: usize,
-}
-
-// A node that opens: its first child is not done.
-pub fn inside() -> Open
-    ensures { result ≡ inside_open }
-{
-    let r = Ref {
-        number: 0,
-        stamp: 0,
-    };
-    Open {
-        second: false,
-        complement: false,
-        first: r,
-    }
-}
-
-// The second child begins; r is what the first was, t whether a `~` stands after it.
-pub fn begun(r: Ref, t: bool) -> Open
-    ensures { result ≡ begun_open r t }
-{
-    Open {
-        second: true,
-        complement: t,
-        first: r,
-    }
 }
 
 // Where the entry of the innermost of d open nodes stands, and the one after it.
@@ -141,20 +154,9 @@ pub struct Spots {
 pub fn spots_of(d: usize) -> Spots
     ensures { result ≡ spots_of d }
 {
-    if d == 0 {
-        return Spots {
-            low: LAST_OPEN,
-            high: 0,
-        };
-    }
-    if d < OPEN_LIMIT {
-        return Spots {
-            low: d - 1,
-            high: d,
-        };
-    }
     Spots {
-        low: LAST_OPEN,
-        high: LAST_OPEN,
+        // the last place for none: 0 - 1 wraps to the largest number
+        low: d.wrapping_sub(1).min(LAST_OPEN),
+        high: d.min(LAST_OPEN),
     }
 }

@@ -18,7 +18,7 @@ use Rattle.theory_reading.proofs.Settled.{never-some}
 use Rattle.theory_reading.proofs.Passing.{start_trace}
 use Rattle.theory_reading.proofs.Filling.{put_node}
 use Rattle.theory_reading.proofs.Reaching.{At, at-fault, at-end, at-end-trace, at-within, at_most, filled-first, filled-alike, filled_on}
-use Rattle.elements.specs.Abstraction.{ref_of, cause_of, open_list}
+use Rattle.elements.specs.Abstraction.{ref_of, cause_of, inside_open, open_list}
 use Rattle.node_records.specs.Records.{no_record}
 use Rattle.work_table.specs.TableLaws.{table_of}
 use Rattle.reader.specs.Simulation.{child-of}
@@ -36,7 +36,7 @@ use Rattle.node_records.specs.declared.Edge.{Edge}
 use Rattle.cursors.specs.declared.Cursor.{Cursor}
 use Rattle.elements.specs.declared.Opens.{Opens}
 use Rattle.cursors.specs.declared.Run.{Run}
-use Rattle.reader.specs.OpenCells.{ReadReached, opens_in}
+use Rattle.reader.specs.OpenNodes.{ReadReached, opens_in}
 use Rattle.node_records.specs.declared.NodeRecord.{NodeRecord}
 
 -- What filling keeps: the truth table has the words that are covered where the loop stands.
@@ -53,9 +53,9 @@ filled-start n bytes t v room e = record { stands = stands-first n bytes t room;
 -- So for code that begins there.
 pub filled-begun : (n : ℕ) (bytes : List ℕ) (t : List NodeRecord) (v : List ℕ) (c : Cursor) → table_limit ≤ length t → v ≡ replicate (2 ^ n / 8) 0 → c
     ≡ start_cursor
-    → FilledTo n bytes c.run (opens_in (replicate open_limit (replicate 4 0)) c.depth) t v
+    → FilledTo n bytes c.run (opens_in (replicate open_limit inside_open) c.depth) t v
 filled-begun n bytes t v c room e ce =
-    subst (λ (c : Cursor). FilledTo n bytes c.run (opens_in (replicate open_limit (replicate 4 0)) c.depth) t v) (sym ce)
+    subst (λ (c : Cursor). FilledTo n bytes c.run (opens_in (replicate open_limit inside_open) c.depth) t v) (sym ce)
     (filled-start n bytes t v room e)
 
 -- x: what the loop reaches from where r stands, with r's covered count as its stop

@@ -1,9 +1,7 @@
 -- A truth table as code writes it, against the theory's: bytes where a sum wraps, the children of a node, and lengths. Assumes nothing.
-use Rattle.std.specs.Prelude.{◌≡◌, ℕ, zero, suc, ◌+◌, ◌-◌, ◌*◌, ◌/◌, ◌%◌, ◌^◌, ◌<◌, ◌≤◌, Bool, true, false, cond, ◌&&◌, ◌||◌, List, [], ◌∷◌, ◌++◌, map, length, take, set, replicate, ◌==◌, ◌≢◌, nat_lt, slice_index, slice_set, refl}
-use Rattle.std.proofs.Common.{sym, ap, ap₂, ◌∙◌, mod-eq_of_lt, one-mul, add-one, arith, pow_mono, take-suc-set, ne_eqb}
-use Rattle.std.proofs.lemmas.List.{replicate-append-replicate}
+use Rattle.std.specs.Prelude.{◌≡◌, ℕ, zero, suc, ◌+◌, ◌-◌, ◌*◌, ◌/◌, ◌%◌, ◌^◌, ◌<◌, ◌≤◌, Bool, true, false, cond, ◌&&◌, ◌||◌, List, [], ◌∷◌, map, set, ◌==◌, ◌≢◌, nat_lt, slice_index, slice_set, refl}
+use Rattle.std.proofs.Common.{sym, ap, ap₂, ◌∙◌, mod-eq_of_lt, arith}
 use Rattle.std.proofs.Math.ListN.{get_or-map}
-use Rattle.std.proofs.Math.Seq.{set_out}
 use Rattle.theory_lists.specs.Lists.{differ}
 use Rattle.theory_reading.specs.Limits.{truth_table_most}
 use Rattle.theory_reading.specs.Nodes.{Node, node}
@@ -81,43 +79,6 @@ put-truths m t i c b w k n p q e =
     ∙ put_in m t i c b w (bytes_from k n p 0)
     ∙ ap cut (sym e)
     ∙ bytes_small k n q 0
-
--- ---- Zeros -----------------------------------------------------------------------------------
-
--- one zero more behind i of them
-pub zero_more : (bs : List ℕ) (i : ℕ) → i < length bs → take i bs ≡ replicate i 0 → take (i + 1) (slice_set bs i 0) ≡ replicate (i + 1) 0
-zero_more bs i h e =
-    ap (λ (k : ℕ). take k (slice_set bs i 0)) (add-one i)
-    ∙ take-suc-set bs i 0 h
-    ∙ ap (λ (l : List ℕ). l ++ (0 ∷ [])) e
-    ∙ replicate-append-replicate i 1 0
-
--- ---- One word --------------------------------------------------------------------------------
-
--- a word past the end changes nothing
-pub word-past : (bs : List ℕ) (w : ℕ) → length bs ≤ w / 8 → bs ≡ with_word_in bs w
-word-past bs w h = sym (set_out bs (w / 8) _ h)
-
--- the bit of a word fits in a byte
-bit-fits : (w : ℕ) → 1 * 2 ^ (w % 8) % 256 ≡ 2 ^ (w % 8)
-bit-fits w = ap (λ (x : ℕ). x % 256) (one-mul (2 ^ (w % 8))) ∙ mod-eq_of_lt (omega (arith, pow_mono {i = w % 8} {j = 7} (omega arith)))
-
--- a word as `put_word` puts it
-pub word-correct : (bs : List ℕ) (w x : ℕ) → x ≡ (slice_index bs (w / 8) + 1 * 2 ^ (w % 8) % 256) % 256 → slice_set bs (w / 8) x ≡ with_word_in bs w
-word-correct bs w x e = ap (set bs (w / 8)) (e ∙ ap (λ (y : ℕ). (slice_index bs (w / 8) + y) % 256) (bit-fits w))
-
-module _ (bs : List ℕ) (e : Edge) (w : ℕ) where
-  -- a number is no word
-  pub edge-number : (e.number ≢ 0) → bs ≡ cond (e.number == 0 && e.complement) (with_word_in bs w) bs
-  edge-number h = rw (ne_eqb e.number 0 h) refl
-
-  -- the terminal turned about is one, ..
-  pub edge-yes : e.number ≡ 0 → e.complement ≡ true → with_word_in bs w ≡ cond (e.number == 0 && e.complement) (with_word_in bs w) bs
-  edge-yes h y = rw (h, y) refl
-
-  -- .. and as it stands none
-  pub edge-no : e.number ≡ 0 → e.complement ≡ false → bs ≡ cond (e.number == 0 && e.complement) (with_word_in bs w) bs
-  edge-no h y = rw (h, y) refl
 
 -- ---- The children of a node ------------------------------------------------------------------
 

@@ -19,8 +19,9 @@ use Rattle.node_records.specs.Records.{no_record}
 use Rattle.record_tables.specs.Entries.{clear_to}
 use Rattle.node_records.specs.declared.NodeRecord.{NodeRecord}
 use Rattle.cursors.specs.declared.Cursor.{Cursor}
+use Rattle.elements.specs.declared.Open.{Open}
 use Rattle.reader.specs.declared.Reached.{Reached}
-use Rattle.reader.specs.OpenCells.{ReadReached, opens_in, reached_in, cursor_in}
+use Rattle.reader.specs.OpenNodes.{ReadReached, opens_in, reached_in, cursor_in}
 use Rattle.reader.specs.Loop.{stands-covered, Ends, ReachedBy}
 use Rattle.reader.specs.ReadOn.{read_from, read-called}
 use Rattle.checker.specs.CheckCorrect.{late_of, cleared-after, Reads, halted-reads, all-reads, table-after}
@@ -39,18 +40,13 @@ found_by r v = cond r.faulty (C.refused (late_of r)) (C.done (R.word v))
 
 -- ---- The call --------------------------------------------------------------------------------
 
--- what is reached, by another name
-pub seeks-same : (n : ℕ) (bytes : List ℕ) (w : ℕ) (a : Bool) (x y : Reached) (os : List (List ℕ)) (v : ℕ) (u t : List NodeRecord) → y ≡ x
-    → Seeks n bytes w a (reached_in x os) v u t → Seeks n bytes w a (reached_in y os) v u t
-seeks-same n bytes w a x y os v u t e h = subst (λ (r : Reached). Seeks n bytes w a (reached_in r os) v u t) (sym e) h
-
 -- Clearing all records then leaves what the paper says,
 pub seeks-cleared : (n : ℕ) (bytes : List ℕ) (w : ℕ) (a : Bool) (r : ReadReached) (v : ℕ) (u t : List NodeRecord) → Seeks n bytes w a r v u t
     → (z : List NodeRecord) → z ≡ clear_to no_record u (length u) → z ≡ C.cleared no_record t
 seeks-cleared n bytes w a r v u t h z e = cleared-after n bytes h.stop r u h.reached t h.kept z e
 
 -- and reading on to the end reads the stream. c: the cursor, as code has it; x, y: what is reached, and the table then
-module _ (n : ℕ) (bytes : List ℕ) (few : n ≤ option_limit) (w : ℕ) (r : Reached) (os : List (List ℕ)) (v : ℕ) (u t : List NodeRecord)
+module _ (n : ℕ) (bytes : List ℕ) (few : n ≤ option_limit) (w : ℕ) (r : Reached) (os : List Open) (v : ℕ) (u t : List NodeRecord)
     (h : Seeks n bytes w true (reached_in r os) v u t) (c : Cursor) (ce : c ≡ record { run = r.run; depth = r.depth }) (x : ReadReached)
     (y : List NodeRecord) (called : record { reached = x; table = y } ≡ read_from n bytes word_limit (cursor_in c os) u) where
   to_end_lem : ReachedBy n bytes word_limit x y

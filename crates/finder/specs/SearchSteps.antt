@@ -1,16 +1,16 @@
 -- The search call by call, as code goes. Assumes nothing.
-use Rattle.std.specs.Prelude.{◌≡◌, refl, Bool, true, false, List, ltb}
+use Rattle.std.specs.Prelude.{◌≡◌, refl, Bool, true, false, List, ltb, Option, Some, None, is_some, is_none, unwrap_or}
 use Rattle.std.proofs.Common.{sym, ◌∙◌, arith, lt-ltb, le-ltb, ltb-true, ltb-false, pow_mono}
 use Rattle.std.proofs.Math.Path.{ap, ap₂}
 use Rattle.std.proofs.Math.Bool.{cond}
 use Prim.Native.Nat.{ℕ, zero, suc, ◌+◌, ◌-◌, ◌*◌, ◌%◌, ◌<◌, ◌≤◌, ◌^◌}
-use Rattle.theory_lists.specs.Powers.{shifted, few_words}
+use Rattle.theory_lists.specs.Powers.{few_words}
 use Rattle.theory_reading.specs.Limits.{option_limit, word_limit}
 use Rattle.node_records.specs.Edges.{first_edge, second_edge}
 use Rattle.node_records.specs.declared.Edge.{Edge}
 use Rattle.node_records.specs.declared.NodeRecord.{NodeRecord}
 use Rattle.work_table.specs.Table.{get_in}
-use Rattle.finder.specs.Search.{some_in, first_in, second_in, least_in, start_in, halves_to, from_in}
+use Rattle.finder.specs.Search.{some_in, first_in, second_in, least_in, word_below, start_in, halves_to, from_in}
 
 -- ---- Bounds ----------------------------------------------------------------------------------
 
@@ -54,6 +54,67 @@ from-most (suc m) t z i e w l =
         let j : 2 ^ m ≤ w = ltb-false w (2 ^ m) p in
         omega (arith, k (omega (arith, j, l)))
 
+-- ---- A word, or none -------------------------------------------------------------------------
+
+-- A word below k is one; from k on it is none.
+pub below-some : (k w v : ℕ) → v ≡ w → w < k → Some v ≡ word_below k w
+below-some k w v e l = rw (lt-ltb w k l) (ap (λ (i : ℕ). Some i) e)
+
+pub below-none : (k w : ℕ) → k ≤ w → None ≡ word_below k w
+below-none k w l = rw (le-ltb w k l) refl
+
+-- And back.
+pub below-is : (k w v : ℕ) → word_below k w ≡ Some v → (v ≡ w) × (w < k)
+below-is k w v = go (ltb w k) refl
+  where
+    go : (b : Bool) → ltb w k ≡ b → cond b (Some w) None ≡ Some v → (v ≡ w) × (w < k)
+    go true e h = let q : w ≡ v = cc in (sym q, ltb-true w k e)
+    go false e h = absurd (cc)
+
+pub none-below : (k w : ℕ) → word_below k w ≡ None → k ≤ w
+none-below k w = go (ltb w k) refl
+  where
+    go : (b : Bool) → ltb w k ≡ b → cond b (Some w) None ≡ None → k ≤ w
+    go true e h = absurd (cc)
+    go false e h = ltb-false w k e
+
+pub is-below : (q x : ℕ) → is_some (word_below q x) ≡ true → x < q
+is-below q x = go (ltb x q) refl
+  where
+    go : (b : Bool) → ltb x q ≡ b → is_some (cond b (Some x) None) ≡ true → x < q
+    go true e h = ltb-true x q e
+    go false e h = absurd (cc)
+
+pub not-below : (q x : ℕ) → is_some (word_below q x) ≡ false → q ≤ x
+not-below q x = go (ltb x q) refl
+  where
+    go : (b : Bool) → ltb x q ≡ b → is_some (cond b (Some x) None) ≡ false → q ≤ x
+    go true e h = absurd (cc)
+    go false e h = ltb-false x q e
+
+-- One that is found is the word.
+pub below-found : (q x : ℕ) (o : Option ℕ) → o ≡ word_below q x → x < q → (unwrap_or o 0 ≡ x) × (is_none o ≡ false)
+below-found q x o e l = let f = e ∙ sym (below-some q x x refl l) in (ap (λ (p : Option ℕ). unwrap_or p 0) f, ap is_none f)
+
+-- With k for none it is the word, if that is k at most.
+pub below-or : (k x : ℕ) → x ≤ k → unwrap_or (word_below k x) k ≡ x
+below-or k x l = go (ltb x k) refl
+  where
+    go : (b : Bool) → ltb x k ≡ b → unwrap_or (cond b (Some x) None) k ≡ x
+    go true e = refl
+    go false e = let m = ltb-false x k e in omega (arith, m, l)
+
+-- What is found in the first half, of q words, is so in the whole, of k.
+pub below-low : (q k : ℕ) → q + q ≡ k → (x y : ℕ) → x ≡ y → x < q → word_below q x ≡ word_below k y
+below-low q k ke x y ye l = sym (below-some q x x refl l) ∙ below-some k y x ye (omega (arith, ye, l, ke))
+
+-- What is found in the second half, of q words, h in code, is h more in the whole, of k; none is none.
+pub below-more : (h q k : ℕ) → h ≡ q → q + q ≡ k → (x y v : ℕ) → h + x ≡ y → word_below q x ≡ Some v → Some (h + v) ≡ word_below k y
+below-more h q k he ke x y v ye e = let b = below-is q x v e in below-some k y (h + v) (omega (arith, b, ye)) (omega (arith, b, ye, he, ke))
+
+pub none-more : (h q k : ℕ) → h ≡ q → q + q ≡ k → (x y : ℕ) → h + x ≡ y → word_below q x ≡ None → None ≡ word_below k y
+none-more h q k he ke x y ye e = let b = none-below q x e in below-none k y (omega (arith, b, ye, he, ke))
+
 -- ---- Steps -----------------------------------------------------------------------------------
 
 -- a half as code has it
@@ -83,17 +144,9 @@ from-none zero t z i e w s = sym (ap (λ (b : Bool). cond b w 1) s)
 from-none (suc m) t z i e w s = sym (ap (λ (b : Bool). cond b (cond (ltb w (2 ^ m)) (halves_to (2 ^ m) (from_in m t z (i + 1) (first_in t z i e) w)
     (start_in m t z (i + 1) (second_in t z i e))) (2 ^ m + from_in m t z (i + 1) (second_in t z i e) (w - 2 ^ m))) (2 ^ suc m)) s)
 
-pub shifted_none : (m : ℕ) (t : List NodeRecord) (z i : ℕ) (e : Edge) (w : ℕ) → m ≤ option_limit → some_in t z e ≡ false
-    → 1 * 2 ^ m % 18446744073709551616 ≡ from_in m t z i e w
-shifted_none m t z i e w l s = shifted m (omega (arith, l)) ∙ from-none m t z i e w s
-
 -- The words of a node start with the least, if there is one.
 pub start-some : (m : ℕ) (t : List NodeRecord) (z i : ℕ) (e : Edge) → some_in t z e ≡ true → (r : ℕ) → r ≡ least_in m t z i e → r ≡ start_in m t z i e
 start-some m t z i e s r re = re ∙ sym (ap (λ (b : Bool). cond b (least_in m t z i e) (2 ^ m)) s)
-
-pub start_none : (m : ℕ) (t : List NodeRecord) (z i : ℕ) (e : Edge) → some_in t z e ≡ false → m ≤ option_limit
-    → 1 * 2 ^ m % 18446744073709551616 ≡ start_in m t z i e
-start_none m t z i e s l = shifted m (omega (arith, l)) ∙ sym (ap (λ (b : Bool). cond b (least_in m t z i e) (2 ^ m)) s)
 
 -- x: the record of e's number; f, g: its children, as code has them
 module _ (t : List NodeRecord) (z i : ℕ) (e : Edge) (x : NodeRecord) (got : x ≡ get_in t z e.number) where

@@ -3,10 +3,11 @@ use Rattle.std.specs.Prelude.{◌≡◌, Bool, true, false, List, ℕ, suc, ◌�
 use Rattle.std.proofs.Common.{sym, ap, ◌∙◌, arith}
 use Rattle.std.proofs.Math.Path.{subst⁻¹}
 use Rattle.theory_reading.specs.Limits.{option_limit, open_limit, table_limit, word_limit}
+use Rattle.elements.specs.Abstraction.{inside_open}
 use Rattle.cursors.specs.Cursors.{first_run, start_cursor}
 use Rattle.cursors.specs.declared.Cursor.{Cursor}
 use Rattle.node_records.specs.declared.NodeRecord.{NodeRecord}
-use Rattle.reader.specs.OpenCells.{ReadReached, ReadCursor, cursor_in}
+use Rattle.reader.specs.OpenNodes.{ReadReached, ReadCursor, cursor_in}
 use Rattle.reader.specs.Loop.{first_opens, Stands, stands-covered, stands-first}
 use Rattle.reader.specs.ReadOn.{ReadTo, read_all, first_cursor, read_from, not-off, read-within}
 use Rattle.reader.specs.RunOn.{goal_of, search_from, reads_all, search-within}
@@ -23,11 +24,11 @@ OnWay n bytes t x u = Leg n bytes (record { reached = x; table = u }) (to_end n 
 module _ (n : ℕ) (bytes : List ℕ) (few : n ≤ option_limit) (t : List NodeRecord) where
   -- Reading from the start, to w, is. c: where it begins, as code has it
   pub read-way : table_limit ≤ length t → (w : ℕ) → w ≤ word_limit → (c : Cursor) → c ≡ start_cursor → (x : ReadReached) (u : List NodeRecord)
-      → record { reached = x; table = u } ≡ read_from n bytes w (cursor_in c (replicate open_limit (replicate 4 0))) t → OnWay n bytes t x u
+      → record { reached = x; table = u } ≡ read_from n bytes w (cursor_in c (replicate open_limit inside_open)) t → OnWay n bytes t x u
   read-way room w most c ce x u called =
       subst⁻¹ (λ (z : ReadTo). Leg n bytes z (to_end n bytes t))
       (called
-      ∙ ap (λ (c : Cursor). read_from n bytes w (cursor_in c (replicate open_limit (replicate 4 0))) t) ce
+      ∙ ap (λ (c : Cursor). read_from n bytes w (cursor_in c (replicate open_limit inside_open)) t) ce
       ∙ read-within n bytes few w most first_cursor t (stands-first n bytes t room)
       ∙ sym (reads_all n bytes (goal_of w false false) first_run first_opens t))
       (run-leg (suc (length bytes)) n bytes false (goal_of w false false) first_run first_opens 0 0 t most (omega arith))

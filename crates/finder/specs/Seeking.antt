@@ -1,5 +1,5 @@
 -- What the search for a word comes to, from what reading and searching on reach. Assumes nothing.
-use Rattle.std.specs.Prelude.{◌≡◌, refl, Bool, true, false, not, List, ℕ, ◌+◌, ◌-◌, ◌<◌, ◌≤◌, ◌^◌, length, replicate}
+use Rattle.std.specs.Prelude.{◌≡◌, refl, Bool, true, false, not, List, ℕ, ◌+◌, ◌-◌, ◌<◌, ◌≤◌, ◌^◌, length, replicate, Option, unwrap_or, is_none, is_some}
 use Rattle.std.proofs.Common.{sym, ap, ◌∙◌, subst, ⊎_elim, true≢false, arith, pow_mono}
 use Rattle.std.proofs.lemmas.Bool.{false≢true}
 use Rattle.theory_lists.specs.Lists.{differ, differ-assoc, decide-le}
@@ -9,7 +9,7 @@ use Rattle.theory_reading.specs.Deciding.{options, decided, decision}
 use Rattle.theory_reading.specs.Covered.{parity}
 use Rattle.theory_reading.proofs.Covered.{covered-decided}
 use Rattle.theory_reading.proofs.Reaching.{at-within}
-use Rattle.elements.specs.Abstraction.{open_list}
+use Rattle.elements.specs.Abstraction.{inside_open, open_list}
 use Rattle.node_records.specs.Words.{some_yes}
 use Rattle.node_records.specs.declared.Edge.{Edge}
 use Rattle.node_records.specs.declared.NodeRecord.{NodeRecord}
@@ -18,9 +18,10 @@ use Rattle.work_table.specs.TableLaws.{table_of, table-node, Worded}
 use Rattle.work_table.specs.WalkLaws.{edge_walk}
 use Rattle.cursors.specs.Cursors.{start_cursor}
 use Rattle.cursors.specs.declared.Cursor.{Cursor}
+use Rattle.elements.specs.declared.Open.{Open}
 use Rattle.reader.specs.declared.Reached.{Reached}
 use Rattle.reader.specs.Advance.{state_at}
-use Rattle.reader.specs.OpenCells.{ReadReached, opens_in, reached_in, cursor_in}
+use Rattle.reader.specs.OpenNodes.{ReadReached, opens_in, reached_in, cursor_in}
 use Rattle.reader.specs.Loop.{ReachedBy}
 use Rattle.reader.specs.ReadOn.{read_from, read-begun}
 use Rattle.reader.specs.RunOn.{search_from}
@@ -29,8 +30,8 @@ use Rattle.blocks.specs.Blocks.{edge_at}
 use Rattle.blocks.specs.BlockLaws.{stands-all, passed-stop, passed-covers, passed-shallow, passed-ordered, passed-sits, passed-decides}
 use Rattle.finder.specs.SeekLegs.{OnWay, read-way, search-way}
 use Rattle.finder.specs.LeastDecided.{is_value, value-decided, NoneDecided}
-use Rattle.finder.specs.Search.{turned_edge, some_in, from_in, least_in}
-use Rattle.finder.specs.SearchSteps.{least-below}
+use Rattle.finder.specs.Search.{turned_edge, some_in, from_in, least_in, word_below}
+use Rattle.finder.specs.SearchSteps.{least-below, is-below, not-below, below-found}
 use Rattle.finder.specs.SearchLaws.{Least, yes, Sits, none-yes, least-yes, from-yes, turned-sits, turned-yes}
 
 -- ---- Definitions -----------------------------------------------------------------------------
@@ -48,6 +49,11 @@ pub record Seeks (n : ℕ) (bytes : List ℕ) (w : ℕ) (v : Bool) (r : ReadReac
   pub way : OnWay n bytes t r u
   pub ended : r.halted ≡ true → NoneDecided (decision n bytes) v w stop
   pub found : r.halted ≡ false → (w ≤ k) × ((k < r.run.covered) × ((decision n bytes k ≡ decided v) × NoneDecided (decision n bytes) v w k))
+
+-- Likewise with a word exactly if reading has not halted.
+pub record Finds (n : ℕ) (bytes : List ℕ) (w : ℕ) (v : Bool) (r : ReadReached) (o : Option ℕ) (u t : List NodeRecord) : Type 0 where
+  pub seeks : Seeks n bytes w v r (unwrap_or o 0) u t
+  pub halts : r.halted ≡ is_none o
 
 -- ---- The words that were passed --------------------------------------------------------------
 
@@ -171,6 +177,18 @@ module _ (n : ℕ) (bytes : List ℕ) (few : n ≤ option_limit) (a : Bool) (v :
     );
   }
 
+  -- Likewise for a word o that code may have found.
+  pub finds-found : (w : ℕ) → w ≤ v → NoneDecided (decision n bytes) a w v → (o : Option ℕ) (t : List NodeRecord)
+      → o ≡ word_below (x.from + 2 ^ (n - x.deep)) (sought_at (not a) u n x v) → is_some o ≡ true → length u ≡ length t → OnWay n bytes t x u
+      → Finds n bytes w a x o u t
+  finds-found w low none o t oe s l way =
+      let m = is-below _ _ (ap is_some (sym oe) ∙ s) in
+      let f = below-found _ _ o oe m in
+      record {
+        seeks = seeks-found w low none (unwrap_or o 0) t f.0 (omega (arith, f.0, m, covers)) l way;
+        halts = e ∙ sym f.1;
+      }
+
 -- Where reading halts there is no word, if none is decided so from w on before the stop.
 pub seeks-ended : (n : ℕ) (bytes : List ℕ) (a : Bool) (v : ℕ) (x : ReadReached) (u : List NodeRecord) → ReachedBy n bytes v x u → (w : ℕ)
     → NoneDecided (decision n bytes) a w v → (k : ℕ) (t : List NodeRecord) → x.halted ≡ true → length u ≡ length t → OnWay n bytes t x u
@@ -205,12 +223,12 @@ module _ (n : ℕ) (bytes : List ℕ) (few : n ≤ option_limit) (w : ℕ) (a : 
       )
 
   -- what reading reaches from the start, o: the open nodes, c: where it begins, as code has them
-  pub read_first : (t : List NodeRecord) (o : List (List ℕ)) (c : Cursor) (x : ReadReached) (u : List NodeRecord) → table_limit ≤ length t → w < 2 ^ n
-      → o ≡ replicate open_limit (replicate 4 0) → c ≡ start_cursor → record { reached = x; table = u } ≡ read_from n bytes w (cursor_in c o) t
+  pub read_first : (t : List NodeRecord) (o : List Open) (c : Cursor) (x : ReadReached) (u : List NodeRecord) → table_limit ≤ length t → w < 2 ^ n
+      → o ≡ replicate open_limit inside_open → c ≡ start_cursor → record { reached = x; table = u } ≡ read_from n bytes w (cursor_in c o) t
       → ReachedBy n bytes w x u × OnWay n bytes t x u
   read_first t o c x u room l oe ce called =
       let most : w ≤ word_limit = omega (arith, l, pow_mono {i = n} {j = option_limit} few) in
-      let from = called ∙ ap (λ (o : List (List ℕ)). read_from n bytes w (cursor_in c o) t) oe in
+      let from = called ∙ ap (λ (o : List Open). read_from n bytes w (cursor_in c o) t) oe in
       (read-begun n bytes few w most c t room ce x u from, read-way n bytes few t room w most c ce x u from)
 
   -- what searching on reaches
@@ -225,12 +243,12 @@ module _ (n : ℕ) (bytes : List ℕ) (few : n ≤ option_limit) (w : ℕ) (a : 
 
   -- Where none of the words that reading passed is found, the search goes on behind them. r, os: what reading reaches, and the open nodes then;
   -- c, odd: where the search begins, and what the open nodes turn about, as code has them
-  pub searches : (r : Reached) (os : List (List ℕ)) (u t : List NodeRecord) → let x = reached_in r os in
-      ReachedBy n bytes w x u × OnWay n bytes t x u → x.halted ≡ false → (k : ℕ) → k ≡ sought_at (not a) u n x w → x.run.covered ≤ k
-      → (c : Cursor) → c ≡ record { run = r.run; depth = r.depth } → (odd : Bool) → odd ≡ differ (edge_at x).complement r.run.complement
+  pub searches : (r : Reached) (os : List Open) (u t : List NodeRecord) → let x = reached_in r os in
+      ReachedBy n bytes w x u × OnWay n bytes t x u → x.halted ≡ false → (o : Option ℕ)
+      → o ≡ word_below (x.from + 2 ^ (n - x.deep)) (sought_at (not a) u n x w) → is_some o ≡ false → (c : Cursor) → c ≡ record { run = r.run; depth = r.depth } → (odd : Bool) → odd ≡ differ (edge_at x).complement r.run.complement
       → (y : ReadReached) (z : List NodeRecord) → record { reached = y; table = z } ≡ search_from n bytes (cursor_in c os) odd (not a) u
       → Searching y z × OnWay n bytes t y z
-  searches r os u t first e k ke m c ce odd oe y z called =
+  searches r os u t first e o ke s c ce odd oe y z called =
       let x = reached_in r os in
       let from = called ∙ ap (λ (c : Cursor). search_from n bytes (cursor_in c os) odd (not a) u) ce in (
         search-called n bytes few (not a) NoneTo none_over (record { run = r.run; opens = opens_in os r.depth }) odd u reached.stands
@@ -244,7 +262,9 @@ module _ (n : ℕ) (bytes : List ℕ) (few : n ≤ option_limit) (w : ℕ) (a : 
       known : NoneTo r.run.covered
       known =
           let i = passed-stop n bytes w (reached_in r os) u reached e in
-          (omega (arith, i), λ j l b. none_found n bytes few a w (reached_in r os) u reached e k ke j l (omega (arith, b, m)))
+          let m = not-below _ _ (ap is_some (sym ke) ∙ s) in
+          let c = passed-covers n bytes w (reached_in r os) u reached e in
+          (omega (arith, i), λ j l b. none_found n bytes few a w (reached_in r os) u reached e _ refl j l (omega (arith, b, m, c)))
 
   module _ (y : ReadReached) (u t : List NodeRecord) (found : Searching y u × OnWay n bytes t y u) where
     abbrev h : Searching y u
@@ -271,3 +291,11 @@ module _ (n : ℕ) (bytes : List ℕ) (few : n ≤ option_limit) (w : ℕ) (a : 
           let free = subst NoneTo same h.free in
           seeks-found n bytes few a y.from y u begun e w free.0 free.1 k t ke
           (some-passed n bytes few a y.from y u begun e (h.here e).1 refl k ke) l found.1
+
+      pub search-finds : (o : Option ℕ) → o ≡ word_below (y.from + 2 ^ (n - y.deep)) (sought_at (not a) u n y y.from) → length u ≡ length t
+          → Finds n bytes w a y o u t
+      search-finds o oe l =
+          let s = search-found (sought_at (not a) u n y y.from) refl l in
+          let c = passed-covers n bytes y.from y u begun e in
+          let f = below-found _ _ o oe (omega (arith, (s.found e).1.0, c)) in
+          record { seeks = subst (λ (k : ℕ). Seeks n bytes w a y k u t) (sym f.0) s; halts = e ∙ sym f.1 }

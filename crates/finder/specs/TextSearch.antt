@@ -1,6 +1,6 @@
 -- The search for a word of either value, in a stream or in the table of a whole one: what is answered for every input, and how code comes to it.
 -- Assumes nothing.
-use Rattle.std.specs.Prelude.{◌≡◌, Bool, true, false, cond, not, List, ℕ, min, ◌-◌, ◌<◌, ◌≤◌, ◌^◌, ltb, leb, length}
+use Rattle.std.specs.Prelude.{◌≡◌, Bool, true, false, cond, not, List, ℕ, min, ◌-◌, ◌<◌, ◌≤◌, ◌^◌, ltb, leb, length, max, Option, Some, None, unwrap_or, is_none}
 use Rattle.std.proofs.Math.Path.{refl}
 use Rattle.std.proofs.Common.{sym, ap, ap₂, ◌∙◌, subst, arith}
 use borrow.Author.Tests.{lt-ltb, le-ltb, lt-leb, le-leb, ltb-true, ltb-false}
@@ -17,7 +17,7 @@ use Rattle.node_records.specs.declared.Edge.{Edge}
 use Rattle.node_records.specs.declared.NodeRecord.{NodeRecord}
 use Rattle.record_tables.specs.Entries.{clear_to}
 use Rattle.work_table.specs.TableLaws.{table_of, table-node, Worded}
-use Rattle.reader.specs.OpenCells.{ReadReached}
+use Rattle.reader.specs.OpenNodes.{ReadReached}
 use Rattle.reader.specs.Loop.{Ends}
 use Rattle.checker.specs.CheckCorrect.{halted-reads}
 use Rattle.blocks.specs.BlockLaws.{stands-all}
@@ -26,7 +26,7 @@ use Rattle.blocks.specs.LoadLaws.{load-shows, load-ordered, load-held, load-deep
 use Rattle.finder.specs.LeastDecided.{is_value, value-decided, least_decided, least-unique}
 use Rattle.finder.specs.Search.{turned_edge, from_in}
 use Rattle.finder.specs.SearchLaws.{Least, yes, Sits, from-yes, turned-sits, turned-yes}
-use Rattle.finder.specs.Seeking.{Seeks}
+use Rattle.finder.specs.Seeking.{Seeks, Finds}
 use Rattle.finder.specs.FindCorrect.{seeks-cleared}
 
 -- ---- Definitions -----------------------------------------------------------------------------
@@ -58,22 +58,11 @@ search_nodes n t z e w v = cond (ltb option_limit n) w (cond (leb (2 ^ n) w) w (
 abbrev pub outer_edge : LoadTo → Edge
 outer_edge x = record { number = x.number; complement = x.complement }
 
--- the word that the search in a stream comes to: k, unless reading has halted, with c words covered
-abbrev pub word_of : Bool → ℕ → ℕ → ℕ → ℕ
-word_of h c k w = cond h (cond (ltb c w) w c) k
+-- the word that the search in a stream comes to: what it found; if it found none, with c words covered: where they end, or w
+abbrev pub word_of : ℕ → Option ℕ → ℕ → ℕ
+word_of c o w = unwrap_or o (max c w)
 
 -- ---- The search in a stream ------------------------------------------------------------------
-
--- The word where reading has not halted; where it has, before w or not. d: the covered count, as code has it
-module _ (h : Bool) (c k w : ℕ) where
-  pub word-found : h ≡ false → k ≡ word_of h c k w
-  word-found e = rw e refl
-
-  pub word-short : h ≡ true → (d : ℕ) → d ≡ c → d < w → w ≡ word_of h c k w
-  word-short e d de l = let m : c < w = omega (arith, de, l) in rw (e, lt-ltb c w m) refl
-
-  pub word-ended : h ≡ true → (d : ℕ) → d ≡ c → w ≤ d → d ≡ word_of h c k w
-  word-ended e d de l = let m : w ≤ c = omega (arith, de, l) in de ∙ rw (e, le-ltb c w m) refl
 
 module _ (n : ℕ) (bytes : List ℕ) (w : ℕ) (v : Bool) (t : List NodeRecord) where
   pub text-options : option_limit < n → searched w t ≡ search_text n bytes w v t
@@ -97,7 +86,7 @@ module _ (n : ℕ) (bytes : List ℕ) (w : ℕ) (v : Bool) (t : List NodeRecord)
     -- r, k, u: what the search reaches, its word, and the table then
     module _ (r : ReadReached) (k : ℕ) (u : List NodeRecord) (h : Seeks n bytes w v r k u t) where
       -- where reading has halted none is decided so
-      ended-word : r.halted ≡ true → least_decided (covered n bytes - w) (decision n bytes) v w ≡ cond (ltb r.run.covered w) w r.run.covered
+      ended-word : r.halted ≡ true → least_decided (covered n bytes - w) (decision n bytes) v w ≡ max r.run.covered w
       ended-word e = go (ltb r.run.covered w) refl
         where
           all : covered n bytes ≡ r.run.covered
@@ -106,15 +95,17 @@ module _ (n : ℕ) (bytes : List ℕ) (w : ℕ) (v : Bool) (t : List NodeRecord)
           most : r.run.covered ≤ h.stop
           most = (subst (Ends n bytes h.stop r u h.reached.stands.steps) e h.reached.ends).0
 
-          go : (b : Bool) → ltb r.run.covered w ≡ b → least_decided (covered n bytes - w) (decision n bytes) v w ≡ cond b w r.run.covered
+          go : (b : Bool) → ltb r.run.covered w ≡ b → least_decided (covered n bytes - w) (decision n bytes) v w ≡ max r.run.covered w
           go true p =
               let m = ltb-true r.run.covered w p in
+              let q : w ≡ max r.run.covered w = omega (arith, m) in
               least-unique (decision n bytes) v (covered n bytes - w) w w (omega arith) (omega arith) (λ j a b. absurd (omega (arith, a, b)))
-              (λ q. absurd (omega (arith, q, m, all)))
+              (λ q. absurd (omega (arith, q, m, all))) ∙ q
           go false p =
               let m : w ≤ r.run.covered = ltb-false r.run.covered w p in
+              let q : r.run.covered ≡ max r.run.covered w = omega (arith, m) in
               least-unique (decision n bytes) v (covered n bytes - w) w r.run.covered m (omega (arith, m, all))
-              (λ j a b. h.ended e j a (omega (arith, b, most))) (λ q. absurd (omega (arith, q, m, all)))
+              (λ j a b. h.ended e j a (omega (arith, b, most))) (λ q. absurd (omega (arith, q, m, all))) ∙ q
 
       -- else the word is
       found_word : r.halted ≡ false → least_decided (covered n bytes - w) (decision n bytes) v w ≡ k
@@ -123,19 +114,19 @@ module _ (n : ℕ) (bytes : List ℕ) (w : ℕ) (v : Bool) (t : List NodeRecord)
           least-unique (decision n bytes) v (covered n bytes - w) w k f.0
           (omega (arith, f.0, f.1.0, stands-all n bytes r.run r.opens u h.reached.stands)) f.1.1.1 (λ _. f.1.1.0)
 
-      least-word : least_decided (covered n bytes - w) (decision n bytes) v w ≡ word_of r.halted r.run.covered k w
-      least-word = go r.halted refl
+    -- o: what is found, or none
+    module _ (r : ReadReached) (o : Option ℕ) (u : List NodeRecord) (h : Finds n bytes w v r o u t) where
+      least-word : least_decided (covered n bytes - w) (decision n bytes) v w ≡ word_of r.run.covered o w
+      least-word = go o refl
         where
-          go : (b : Bool) → r.halted ≡ b → least_decided (covered n bytes - w) (decision n bytes) v w ≡ word_of b r.run.covered k w
-          go true e = ended-word e
-          go false e = found_word e
+          go : (p : Option ℕ) → o ≡ p → least_decided (covered n bytes - w) (decision n bytes) v w ≡ word_of r.run.covered p w
+          go None e = ended-word r (unwrap_or o 0) u h.seeks (h.halts ∙ ap is_none e)
+          go (Some k) e = found_word r (unwrap_or o 0) u h.seeks (h.halts ∙ ap is_none e) ∙ ap (λ (p : Option ℕ). unwrap_or p 0) e
 
-    -- THE CALL: a, z: its answer, and the table after it.
-    pub text-correct : (r : ReadReached) (k : ℕ) (u : List NodeRecord) → Seeks n bytes w v r k u t
-        → (a : ℕ) → a ≡ word_of r.halted r.run.covered k w → (z : List NodeRecord) → z ≡ clear_to no_record u (length u)
-        → searched a z ≡ search_text n bytes w v t
-    text-correct r k u h a ae z ze =
-        ap₂ searched (ae ∙ sym (least-word r k u h)) (seeks-cleared n bytes w v r k u t h z ze) ∙ sym text-within
+      -- THE CALL: a, z: its answer, and the table after it.
+      pub text-correct : (a : ℕ) → a ≡ word_of r.run.covered o w → (z : List NodeRecord) → z ≡ clear_to no_record u (length u)
+          → searched a z ≡ search_text n bytes w v t
+      text-correct a ae z ze = ap₂ searched (ae ∙ sym least-word) (seeks-cleared n bytes w v r (unwrap_or o 0) u t h.seeks z ze) ∙ sym text-within
 
 -- ---- The search in a table -------------------------------------------------------------------
 

@@ -4,31 +4,30 @@
 ghost use Rattle.std.specs.Prelude.{◌≡◌};
 ghost use Rattle.firmware.specs.Numbers.{check_given, decide_given, next_given, fill_given};
 
-use c_answers::{
-    RuleChecked, RuleDecided, RuleFilled, RuleFound, checked_numbers, decided_numbers,
-    filled_numbers, found_numbers,
-};
+use c_answers::{RuleChecked, RuleDecided, RuleFilled, RuleFound};
 use node_records::NodeRecord;
+
+// (kept: four functions alike, one for each call of include/rule.h)
 
 // CHECKING a stream
 pub fn rule_check(n: u32, stream: &[u8], table: &mut [NodeRecord]) -> RuleChecked
     ensures { record { answer = result; table = table.new } ≡ check_given n stream.now table.old }
 {
-    checked_numbers(checker::check(n, stream, table))
+    RuleChecked::from(checker::check(n, stream, table))
 }
 
 // DECIDING a word
 pub fn rule_decide(n: u32, stream: &[u8], word: u64, table: &mut [NodeRecord]) -> RuleDecided
     ensures { record { answer = result; table = table.new } ≡ decide_given n stream.now word table.old }
 {
-    decided_numbers(decider::decide(n, stream, word, table))
+    RuleDecided::from(decider::decide(n, stream, word, table))
 }
 
 // FINDING THE NEXT ADMITTED WORD
 pub fn rule_next(n: u32, stream: &[u8], word: u64, table: &mut [NodeRecord]) -> RuleFound
     ensures { record { answer = result; table = table.new } ≡ next_given n stream.now word table.old }
 {
-    found_numbers(finder::find_next(n, stream, word, table))
+    RuleFound::from(finder::find_next(n, stream, word, table))
 }
 
 // FILLING a truth table
@@ -36,5 +35,5 @@ pub fn rule_fill(n: u32, stream: &[u8], truths: &mut [u8], table: &mut [NodeReco
     ensures { record { answer = result; table = table.new; truths = truths.new }
         ≡ fill_given n stream.now truths.old table.old }
 {
-    filled_numbers(filler::fill(n, stream, truths, table))
+    RuleFilled::from(filler::fill(n, stream, truths, table))
 }

@@ -8,6 +8,8 @@ ghost use Rattle.firmware.specs.Numbers.{check_given, decide_given, next_given, 
 use c_answers::{RuleChecked, RuleDecided, RuleFilled, RuleFound};
 use node_records::NodeRecord;
 
+// (kept: four functions alike, one for each call of include/rule.h)
+
 // CHECKING a stream
 #[unsafe(no_mangle)]
 pub extern "C" fn rule_check(n: u32, stream: &[u8], table: &mut [NodeRecord]) -> RuleChecked

@@ -1,10 +1,9 @@
-// A rule's bytes with how far they have been read: a struct that holds a reference. Its functions are thin: the work is done by `Place` and by
-// `rest_of`, which take plain slices.
+// A rule's bytes with how far they have been read: a struct that holds a reference. Its functions are thin: the work is done by `Place`.
 #![tactic(auto)]
 
 ghost use Rattle.std.specs.Prelude.{◌≡◌};
 ghost use Rattle.held_reader.specs.Abstraction.{reader_of, read_of};
-ghost use Rattle.held_reader.specs.Held.{first_in, read_next, left_in, left_of};
+ghost use Rattle.held_reader.specs.Held.{first_in, read_next, left_of};
 
 use elements::Outcome;
 use places::Place;
@@ -21,17 +20,6 @@ pub struct Reader<'a> {
 pub struct Read<'a> {
     pub outcome: Outcome,
     pub reader: Reader<'a>,
-}
-
-// The bytes from a place on; past the end there are none.
-fn rest_of(s: &[u8], at: usize) -> &[u8]
-    ensures { result.now ≡ left_in at s.now }
-{
-    let n = s.len();
-    if at < n {
-        return &s[at..];
-    }
-    &s[n..]
 }
 
 impl<'a> Reader<'a> {
@@ -53,16 +41,16 @@ impl<'a> Reader<'a> {
         Read {
             outcome: x.outcome,
             reader: Reader {
-                bytes: self.bytes,
                 place: x.place,
+                ..self
             },
         }
     }
 
-    // What is left.
+    // What is left; past the end there is nothing.
     pub fn left(self) -> &'a [u8]
         ensures { result.now ≡ left_of (reader_of self.entry) }
     {
-        rest_of(self.bytes, self.place.at)
+        &self.bytes[self.place.at.min(self.bytes.len())..]
     }
 }

@@ -1,7 +1,8 @@
 -- Lists cut at a byte, by places: the pieces of Join are what is between. Assumes nothing.
 use Rattle.std.proofs.Math.Path.{◌≡◌, refl, sym, ap, ap₂}
 use Rattle.std.proofs.Common.{◌∙◌, drop_of_length-le, drop-cons, drop-drop, get_or-drop}
-use Rattle.std.specs.Prelude.{◌≢◌, Bool}
+use Rattle.std.specs.Prelude.{◌≢◌, Bool, Option, Some, None, MatchOption, unwrap_or, is_some}
+use Rattle.std.proofs.lemmas.Bool.{false≢true, true≢false}
 use Rattle.std.proofs.Math.Bool.{true, false, cond}
 use mathlib.Core.List.{List, [], ◌∷◌}
 use Prim.Native.Nat.{ℕ, suc, ◌+◌, ◌-◌, ◌≤◌, ◌<◌}
@@ -171,3 +172,21 @@ module _ (c : ℕ) (s : List ℕ) where
   pub piece-last : (i : ℕ) → length s ≤ cut_at c s i → i ≤ length s → pieces c (drop i s) ≡ drop i s ∷ []
   unfolding cut_at
   piece-last i h k = pieces-last c (drop i s) (omega (arith, h, length-drop i s))
+
+-- ---- As code answers a place -----------------------------------------------------------------
+
+-- r is the place k if that is before the end, m
+abbrev Answers : Option ℕ → ℕ → ℕ → Type 0
+Answers r m k = MatchOption r (m ≤ k) (λ j. (j ≡ k) × (j < m))
+
+pub place-or-end : (r : Option ℕ) (m k : ℕ) → Answers r m k → k ≤ m → unwrap_or r m ≡ k
+place-or-end None m k h g = omega (arith, h, g)
+place-or-end (Some j) m k h g = h.0
+
+pub place-some : (r : Option ℕ) (m k : ℕ) → Answers r m k → is_some r ≡ true → k < m
+place-some None m k h e = absurd (false≢true e)
+place-some (Some j) m k h e = omega (arith, h)
+
+pub place-none : (r : Option ℕ) (m k : ℕ) → Answers r m k → is_some r ≡ false → m ≤ k
+place-none None m k h e = h
+place-none (Some j) m k h e = absurd (true≢false e)

@@ -1,33 +1,20 @@
 -- What a field of the first line says: numbers digit by digit, names by the table. Assumes nothing.
-use Rattle.std.specs.Prelude.{◌≡◌, refl, ◌≢◌, Bool, true, false, ◌&&◌, ◌||◌, leb, ltb, eqb, get_or, drop}
+use Rattle.std.specs.Borrow.{Bor}
+use Rattle.std.specs.Prelude.{◌≡◌, refl, ◌≢◌, Bool, true, false, ◌&&◌, ◌||◌, ltb, eqb, get_or, drop}
 use Rattle.std.proofs.Math.Path.{sym, ap, ap₂}
-use Rattle.std.proofs.Common.{◌∙◌, drop_of_length-le, pow-add, drop-cons, lt-ltb, le-ltb, eq-eqb, ne_eqb, leb-true, leb-false}
-use Rattle.std.proofs.lemmas.Bool.{false≢true}
+use Rattle.std.proofs.Common.{◌∙◌, drop_of_length-le, pow-add, drop-cons, lt-ltb, le-ltb, eq-eqb, ne_eqb}
 use mathlib.Core.List.{List, [], ◌∷◌, map}
 use Rattle.std.proofs.Math.Option.{Option, none, some}
-use Prim.{tt}
 use Prim.Native.Nat.{ℕ, zero, suc, ◌+◌, ◌*◌, ◌-◌, ◌^◌, ◌≤◌, ◌<◌}
 use native.Mathlib.Omega.{arith}
 use Rattle.std.proofs.Math.ListN.{length}
-use Rattle.theory_lists.specs.Lists.{All, is_false, and_r}
-use Rattle.theory_lists.specs.Maps.{get_or-pad}
-use Rattle.theory_reading.specs.Bytes.{digit_zero, digit_nine, is_digit, text}
-use Rattle.claims.specs.Numerals.{digit-true, digit-range}
+use lib.Pointwise.{pointwise}
+use Rattle.std.proofs.lemmas.List.{length-map}
+use Rattle.job.specs.Abstraction.{row_of, named_row}
+use Rattle.theory_reading.specs.Bytes.{digit_zero, is_digit, text}
 use Rattle.theory_writing.specs.Join.{same_bytes, Named, named, operator_names, operator_of, value_on, number_of}
-use Rattle.job.specs.Abstraction.{row_of, operator_rows, named_at, name_at}
-use Rattle.job.specs.declared.NamedOperator.{NamedOperator}
 
 -- ---- Numbers ---------------------------------------------------------------------------------
-
-pub digit-below : (b : ℕ) → b < digit_zero → false ≡ is_digit b
-digit-below b h = sym (is_false (is_digit b) (λ e. let r = digit-range b e in omega (arith, h, r.0)))
-
-pub digit-test : (b : ℕ) → digit_zero ≤ b → leb b digit_nine ≡ is_digit b
-digit-test b h = go (leb b digit_nine) refl
-  where
-    go : (t : Bool) → leb b digit_nine ≡ t → t ≡ is_digit b
-    go true e = sym (digit-true b h (leb-true b digit_nine e))
-    go false e = sym (is_false (is_digit b) (λ d. let r = digit-range b d in let k = leb-false b digit_nine e in omega (arith, k, r.1)))
 
 -- four digits are few
 pub pow-few : (j : ℕ) → j ≤ 4 → 10 ^ j ≤ 10000
@@ -113,40 +100,20 @@ number-value (b ∷ bs) g h d =
 
 -- ---- Names -----------------------------------------------------------------------------------
 
-same_length : (x y : List ℕ) → same_bytes x y ≡ true → length x ≡ length y
+-- code's test of two texts is the definition's
+same_test : (x y : List ℕ) → pointwise eqb x y ≡ same_bytes x y
 unfolding same_bytes
-same_length [] [] e = refl
-same_length [] (b ∷ y) e = absurd (false≢true e)
-same_length (a ∷ x) [] e = absurd (false≢true e)
-same_length (a ∷ x) (b ∷ y) e = ap suc (same_length x y (and_r (eqb a b) (same_bytes x y) e))
+same_test [] [] = refl
+same_test [] (b ∷ y) = refl
+same_test (a ∷ x) [] = refl
+same_test (a ∷ x) (b ∷ y) = ap (λ (t : Bool). eqb a b && t) (same_test x y)
 
-pub same-other-length : (x y : List ℕ) → length y ≢ length x → false ≡ same_bytes x y
-same-other-length x y d = sym (is_false (same_bytes x y) (λ e. d (sym (same_length x y e))))
+-- operator k of the table, and its name
+abbrev pub named_at : ℕ → Named
+named_at k = get_or operator_names k (named "" 0)
 
-module _ (x y : List ℕ) (h : length y ≡ length x) where
-  -- the first j bytes were the same: the others tell
-  abbrev pub SameFrom : ℕ → Type 0
-  SameFrom j = same_bytes x y ≡ same_bytes (drop j x) (drop j y)
-
-  same-cons : (j : ℕ) → j < length y → same_bytes (drop j x) (drop j y) ≡ eqb (get_or x j 0) (get_or y j 0) && same_bytes (drop (suc j) x) (drop (suc j) y)
-  unfolding same_bytes
-  same-cons j k = ap₂ same_bytes (drop-cons x j 0 (omega (arith, h, k))) (drop-cons y j 0 k)
-
-  pub same_step : (j : ℕ) → SameFrom j → j < length y → get_or y j 0 ≡ get_or x j 0 → SameFrom (j + 1)
-  same_step j i k e =
-      let s : suc j ≡ j + 1 = omega arith in
-      i ∙ same-cons j k
-      ∙ ap (λ (t : Bool). t && same_bytes (drop (suc j) x) (drop (suc j) y)) (eq-eqb (get_or x j 0) (get_or y j 0) (sym e))
-      ∙ ap (λ (n : ℕ). same_bytes (drop n x) (drop n y)) s
-
-  pub same_stop : (j : ℕ) → SameFrom j → j < length y → get_or y j 0 ≢ get_or x j 0 → false ≡ same_bytes x y
-  same_stop j i k d =
-      sym (i ∙ same-cons j k
-      ∙ ap (λ (t : Bool). t && same_bytes (drop (suc j) x) (drop (suc j) y)) (ne_eqb (get_or x j 0) (get_or y j 0) (λ e. d (sym e))))
-
-  pub same_end : (j : ℕ) → SameFrom j → length y ≤ j → true ≡ same_bytes x y
-  unfolding same_bytes
-  same_end j i k = let g : length x ≤ j = omega (arith, h, k) in sym (i ∙ ap₂ same_bytes (drop_of_length-le x g) (drop_of_length-le y k))
+abbrev pub name_at : ℕ → List ℕ
+name_at k = text (named_at k).name
 
 -- ---- The table -------------------------------------------------------------------------------
 
@@ -154,34 +121,6 @@ map_at : {A B : Type 0} (f : A → B) (l : List A) (k : ℕ) (d : A) (e : B) →
 map_at f [] k d e h = absurd (omega arith)
 map_at f (x ∷ l) zero d e h = refl
 map_at f (x ∷ l) (suc k) d e h = map_at f l k d e (omega arith)
-
-pub row_at : (t : List NamedOperator) (k : ℕ) (d : NamedOperator) → t ≡ operator_rows → k < 8 → get_or t k d ≡ row_of (named_at k)
-row_at t k d e h = ap (λ (r : List NamedOperator). get_or r k d) e ∙ map_at row_of operator_names k (named "" 0) d h
-
--- a byte of a name
-pub row-name : (o : Named) (j : ℕ) → get_or (row_of o).name j 0 ≡ get_or (text o.name) j 0
-row-name o j = get_or-pad (text o.name) (4 - length (text o.name)) j 0
-
--- names have at most four
-short-at : (os : List Named) (k : ℕ) → All (λ (o : Named). length (text o.name) ≤ 4) os → length (text (get_or os k (named "" 0)).name) ≤ 4
-unfolding text
-short-at [] k h = omega arith
-short-at (o ∷ os) zero h = h.0
-short-at (o ∷ os) (suc k) h = short-at os k h.1
-
-pub name-short : (k : ℕ) → length (name_at k) ≤ 4
-unfolding text
-name-short k =
-    short-at operator_names k (
-      omega arith,
-      (
-        omega arith,
-        (
-          omega arith,
-          (omega arith, (omega arith, (omega arith, (omega arith, (omega arith, tt))))),
-        ),
-      ),
-    )
 
 module _ (x : List ℕ) where
   abbrev named_or : Named → List Named → Bool → Option ℕ
@@ -204,3 +143,23 @@ module _ (x : List ℕ) where
   pub operator-end : (k : ℕ) → 8 ≤ k → operator_of (drop k operator_names) x ≡ none
   unfolding operator_of
   operator-end k h = ap (λ (os : List Named). operator_of os x) (drop_of_length-le operator_names h)
+
+-- Code's table t has the definition's rows: at row k, whose name is n, and r tells whether that is x.
+module _ (t : List (Bor (List ℕ) × ℕ)) (e : map row_of t ≡ map named_row operator_names) where
+  pub rows : length t ≡ 8
+  rows = sym (length-map t row_of) ∙ ap length e
+
+  module _ (k : ℕ) (d : Bor (List ℕ) × ℕ) (n x : List ℕ) (r : Bool) (f : n ≡ (get_or t k d).0.now) (g : r ≡ pointwise eqb n x) (h : k < length t) where
+    row : row_of (get_or t k d) ≡ named_row (named_at k)
+    row =
+        sym (map_at row_of t k d (row_of d) h) ∙ ap (λ (r : List (List ℕ × ℕ)). get_or r k (row_of d)) e
+        ∙ map_at named_row operator_names k (named "" 0) (row_of d) (omega (arith, h, rows))
+
+    told : same_bytes (name_at k) x ≡ r
+    told = ap (λ (o : List ℕ × ℕ). same_bytes o.0 x) (sym row) ∙ ap (λ (m : List ℕ). same_bytes m x) (sym f) ∙ sym (same_test n x) ∙ sym g
+
+    pub row-hit : r ≡ true → some (get_or t k d).1 ≡ operator_of (drop k operator_names) x
+    row-hit b = ap (λ (o : List ℕ × ℕ). some o.1) row ∙ sym (operator-hit x k (omega (arith, h, rows)) (told ∙ b))
+
+    pub row-miss : r ≡ false → operator_of (drop k operator_names) x ≡ operator_of (drop (k + 1) operator_names) x
+    row-miss b = operator-miss x k (omega (arith, h, rows)) (told ∙ b)

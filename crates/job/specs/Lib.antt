@@ -4,5 +4,5 @@ pub mod Abstraction
 pub mod Lining
 pub mod Fields
 pub mod Parsing
-pub mod ParsingCorrect
 pub mod Streams
+pub mod ParsingCorrect

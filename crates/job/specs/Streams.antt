@@ -1,7 +1,7 @@
 -- The two streams of a job, by the places of its lines: the report on them is the program's. Assumes nothing.
 use Rattle.std.proofs.Math.Path.{◌≡◌, refl, sym}
 use Rattle.std.proofs.Common.{ap, ◌∙◌, ⊎_elim, arith}
-use Rattle.std.specs.Prelude.{Bool, List, [], ◌∷◌, ℕ, ◌+◌, ◌≤◌, ◌<◌, ltb, length, take}
+use Rattle.std.specs.Prelude.{Bool, List, [], ◌∷◌, ℕ, ◌+◌, ◌≤◌, ◌<◌, ltb, length, take, Some, None}
 use Rattle.std.proofs.Math.Bool.{true, false}
 use Rattle.std.proofs.Math.Option.{Option, none, some}
 use Rattle.theory_lists.specs.Lists.{decide-le}
@@ -10,9 +10,8 @@ use Rattle.theory_writing.specs.Join as J
 use Rattle.job.specs.Between.{between}
 use Rattle.job.specs.Cuts.{cut_at, first_end, third_end, fifth_end}
 use Rattle.job.specs.Lining.{one_line, two-lines, three-lines, four-lines, more-lines, five-lines, lines-ordered}
-use Rattle.job.specs.Parsing.{job_unless, job_in, placed_job, placed, parsed}
+use Rattle.job.specs.Parsing.{job_unless, job_in, parsed_as}
 use Rattle.job.specs.declared.Job.{Job}
-use Rattle.job.specs.declared.Parsing.TheVariants.{Good, Bad}
 
 -- ---- The streams are those that the first line is read for -----------------------------------
 
@@ -55,7 +54,7 @@ module _ (s : List ℕ) (j : J.Job) (g : J.five_lines (J.pieces line_feed s) ≡
     line-more : (length s ≤ end i → J.five_lines (J.pieces line_feed s) ≡ none) → (end i < length s → A) → A
     line-more f k = ⊎_elim (λ (h : length s ≤ end i). no-job (f h)) (λ (h : end i < length s). k h) (decide-le (length s) (end i))
 
-  streams : Streams s j
+  pub streams : Streams s j
   streams =
       let a = end 0 in
       let b = end (a + 1) in
@@ -75,13 +74,22 @@ module _ (s : List ℕ) (j : J.Job) (g : J.five_lines (J.pieces line_feed s) ≡
       (λ (h : e + 1 < length s). no-job (more-lines s a b c (refl, p) (refl, q) (refl, r) d (refl, t) e refl h))
       (decide-le (length s) (e + 1))))))
 
+-- of the job of an input
+module _ (s : List ℕ) (j : J.Job) where
+  in_lines : (t : Bool) → job_unless s t ≡ some j → J.five_lines (J.pieces line_feed s) ≡ some j
+  in_lines true e = never j e
+  in_lines false e = e
+
+  pub streams-in : job_in s ≡ some j → Streams s j
+  streams-in e = streams s j (in_lines (ltb J.job_limit (length s)) e)
+
 -- ---- What the program prints -----------------------------------------------------------------
 
 abbrev reported : List ℕ → Bool → List ℕ
 reported s t = elim t as (λ _. List ℕ) [ true ↦ J.bad_job | false ↦ J.answered (J.five_lines (J.pieces line_feed s)) ]
 
 module _ (s : List ℕ) where
-  join-answered : J.answered (job_in s) ≡ J.join s
+  pub join-answered : J.answered (job_in s) ≡ J.join s
   unfolding J.join J.answered
   join-answered = go (ltb J.job_limit (length s))
     where
@@ -89,52 +97,41 @@ module _ (s : List ℕ) where
       go true = refl
       go false = refl
 
-  pub join-bad : Bad ≡ parsed s → J.bad_job ≡ J.join s
-  unfolding parsed J.answered
-  join-bad e = go (job_in s) refl e
-    where
-      go : (o : Option J.Job) → job_in s ≡ o → Bad ≡ placed s o → J.bad_job ≡ J.join s
-      go none p q = sym (ap J.answered p) ∙ join-answered
-      go (some j) p q = let z : ◌≡◌ {A = ℕ} 0 1 = cc in absurd (omega arith)
+  pub join-bad : parsed_as None ≡ job_in s → J.bad_job ≡ J.join s
+  unfolding J.answered
+  join-bad e = ap J.answered e ∙ join-answered
 
--- what the code knows of a job: the lines are in this order, and the report on what stands between them is the program's output
+-- what the code knows of a job: the lines are in this order, its streams stand between them, and the report on what stands between them is the
+-- program's output
 pub record Operates (s : List ℕ) (t : Job) : Type 0 where
-  pub first-third : t.first < t.third
-  pub third-fifth : t.third < t.fifth
-  pub fifth-end : t.fifth ≤ length s
+  pub first : between s (first_end s + 1) (third_end s) ≡ t.first.now
+  pub second : between s (third_end s + 1) (fifth_end s) ≡ t.second.now
+  pub first-third : first_end s < third_end s
+  pub third-fifth : third_end s < fifth_end s
+  pub fifth-end : fifth_end s ≤ length s
   pub output :
       J.answered (some (record {
         n = t.n;
         op = t.op;
         size = t.size;
-        stream₁ = between s (t.first + 1) t.third;
-        stream₂ = between s (t.third + 1) t.fifth;
+        stream₁ = between s (first_end s + 1) (third_end s);
+        stream₂ = between s (third_end s + 1) (fifth_end s);
       }))
       ≡ J.join s
 
 module _ (s : List ℕ) where
-  joins-placed : (j : J.Job) → job_in s ≡ some j → Streams s j → Operates s (placed_job s j)
-  joins-placed j p o =
+  pub join-good : (t : Job) → parsed_as (Some t) ≡ job_in s → Operates s t
+  join-good t e =
+      let j : J.Job = record { n = t.n; op = t.op; size = t.size; stream₁ = t.first.now; stream₂ = t.second.now } in
+      let o = streams-in s j (sym e) in
       record {
+        first = o.first;
+        second = o.second;
         first-third = o.first-third;
         third-fifth = o.third-fifth;
         fifth-end = o.fifth-end;
         output =
             let x = o.first in
             let y = o.second in
-            rw (x, y) (ap J.answered (sym p) ∙ join-answered s);
+            rw (x, y) (ap J.answered e ∙ join-answered s);
       }
-
-  in_lines : (j : J.Job) (t : Bool) → job_unless s t ≡ some j → J.five_lines (J.pieces line_feed s) ≡ some j
-  in_lines j true e = never j e
-  in_lines j false e = e
-
-  pub join-good : (t : Job) → Good t ≡ parsed s → Operates s t
-  unfolding parsed
-  join-good t e = go (job_in s) refl e
-    where
-      go : (o : Option J.Job) → job_in s ≡ o → Good t ≡ placed s o → Operates s t
-      go none p q = let z : ◌≡◌ {A = ℕ} 0 1 = cc in absurd (omega arith)
-      go (some j) p q =
-          let d : t ≡ placed_job s j = cc in
-          rw d (joins-placed j p (streams s j (in_lines j (ltb J.job_limit (length s)) p)))

@@ -1,15 +1,14 @@
 // The program `join`: a job from standard input, its report to standard output. What fails is said on standard error.
 #![tactic(auto)]
 
-ghost use Rattle.std.specs.Prelude.{◌≡◌, length, take, ◌<◌, ◌≤◌, IfOk};
-ghost use Rattle.std.proofs.Math.Option.{some};
+ghost use Rattle.std.specs.Prelude.{◌≡◌, length, take, ◌<◌, ◌≤◌, IfOk, IfSome, Some};
 ghost use Rattle.std.specs.Io.{ReadsAtMost};
 ghost use Rattle.std.specs.Io.KnownBytes.{Consumes, IsAtEnd};
 ghost use Rattle.theory_writing.specs.Join.{answered, join};
+ghost use Rattle.job.specs.Parsing.{parsed_as};
 ghost use Rattle.join.specs.Joining.{report_limit};
-ghost use Rattle.join.specs.Got.{Within};
 
-use job::{JOB_LIMIT, Parsing};
+use job::{JOB_LIMIT, Job};
 use report::LINE_LIMIT;
 use std::io;
 use std::io::{Cursor, Read, Write};
@@ -20,16 +19,15 @@ const INPUT_LIMIT: usize = JOB_LIMIT + 1;
 // An output of JOB_LIMIT bytes and a last line have room.
 const REPORT_LIMIT: usize = JOB_LIMIT + LINE_LIMIT;
 
-// The report on a job of these numbers and streams
-fn run(n: u32, op: u32, size: u32, x: &[u8], y: &[u8], w: &mut [u8; REPORT_LIMIT]) -> usize
+// The report on a job
+fn run(j: Job, w: &mut [u8; REPORT_LIMIT]) -> usize
     requires { report_limit ≤ length w.old }
-    ensures w_after { take result w.new ≡ answered (some (record
-        { n = n; op = op; size = size; stream₁ = x.now; stream₂ = y.now })) }
+    ensures w_after { take result w.new ≡ answered (parsed_as (Some j.entry)) }
     ensures upper_bound { result ≤ length w.new }
 {
     let mut out = [0u8; JOB_LIMIT];
-    let a = job_call::call(n, op, size, x, y, &mut out);
-    report::print(n, a, &out, w)
+    let a = job_call::call(j.n, j.op, j.size, j.first, j.second, &mut out);
+    report::print(j.n, a, &out, w)
 }
 
 // THE REPORT on an input, in the first bytes of w. Its length is asked for, since no rule tells it of what is lent.
@@ -38,25 +36,13 @@ fn answer(input: &[u8], w: &mut [u8; REPORT_LIMIT]) -> usize
     ensures w_after { take result w.new ≡ join input.now }
     ensures upper_bound { result ≤ length w.new }
 {
-    let Parsing::Good(j) = job::parse(input) else {
-        return report::print_bad(w);
-    };
-    let a = j.first;
-    let b = a + 1;
-    let c = j.third;
-    let d = c + 1;
-    let e = j.fifth;
-    run(j.n, j.op, j.size, &input[b..c], &input[d..e], w)
+    match job::parse(input) {
+        Some(j) => run(j, w),
+        None => report::print_bad(w),
+    }
 }
 
 // ---- The program
-
-// How many bytes came in
-#[derive(Clone, Copy)]
-enum Got {
-    Bytes(usize),
-    Failed,
-}
 
 // Fills buf from its beginning, until the input ends or there is no more room: with what the input gives, in its order, and no byte is lost.
 fn fill<R: Read>(from: &mut R, buf: &mut [u8]) -> io::Result<usize>
@@ -65,6 +51,7 @@ fn fill<R: Read>(from: &mut R, buf: &mut [u8]) -> io::Result<usize>
     ensures end { IfOk result (λ n. n < length buf.new → IsAtEnd (R.remaining from.new)) }
 {
     let mut at = 0;
+    // It counts no item: `at` grows by what a read gives.
     while at < buf.len() {
         let n = from.read(&mut buf[at..])?;
         if n == 0 {
@@ -92,35 +79,31 @@ fn fail(rt: &impl Eprint, what: &str, e: io::Error) {
     let _ = eprintln!(rt; "{what}: {cause}");
 }
 
-// Reads until the input ends or there is no more room. Says so if that fails.
-fn read_all(rt: &(impl Input + Eprint), buf: &mut [u8]) -> Got
-    ensures { Within result (length buf.new) }
+// How many bytes came in, until the input ends or there is no more room. Says so if reading fails.
+fn read_all(rt: &(impl Input + Eprint), buf: &mut [u8]) -> Option<usize>
+    ensures { IfSome result (λ n. n ≤ length buf.new) }
 {
     match fill(&mut rt.reader(), buf) {
-        Ok(n) => Got::Bytes(n),
+        Ok(n) => Some(n),
         Err(e) => {
             fail(rt, "read", e);
-            Got::Failed
+            None
         }
     }
 }
 
 // Writes the report on an input. The input is there for the contract: no other text goes to standard output. Says so if that fails.
-fn write_report(rt: &(impl Print + Eprint), input: &[u8], text: &[u8]) -> bool
+fn write_report(rt: &(impl Print + Eprint), input: &[u8], text: &[u8])
     requires { text.now ≡ join input.now }
 {
-    match rt.write_all(text) {
-        Ok(()) => true,
-        Err(e) => {
-            fail(rt, "write", e);
-            false
-        }
+    if let Err(e) = rt.write_all(text) {
+        fail(rt, "write", e);
     }
 }
 
 fn main(rt: HostRuntime) {
     let mut input = [0u8; INPUT_LIMIT];
-    let Got::Bytes(n) = read_all(&rt, &mut input) else {
+    let Some(n) = read_all(&rt, &mut input) else {
         return;
     };
     let mut report = [0u8; REPORT_LIMIT];

@@ -5,68 +5,84 @@ use Rattle.std.proofs.Math.Path.{refl}
 use Rattle.std.proofs.Common.{sym, ap, ap₂, ◌∙◌, ⊎_elim, arith, add-zero, eq-eqb, ne_eqb, lt-ltb, le-ltb, le-leb}
 use Rattle.std.proofs.lemmas.Bool.{lt-leb}
 use Rattle.theory_lists.specs.Lists.{differ, and_l, and_r, not-differ-true, decide_eq, decide-le}
-use Rattle.theory_reading.specs.Bytes.{Kind, digit, bracket, mark, space, line_end, point, foreign, digit_zero, digit_nine, opener, closer, tilde, colon}
-use Rattle.theory_reading.specs.Bytes.{blank, line_feed, dot, kind_of, is_digit_kind, is_digit}
+use Rattle.theory_reading.specs.Bytes as B
+use Rattle.theory_reading.specs.Bytes.{digit_zero, digit_nine, opener, closer, tilde, colon, blank, line_feed, dot, kind_of, is_digit_kind, is_digit}
 use Rattle.theory_reading.specs.Element.{Scan, read, unread, digits_on, number_at}
+use Rattle.kinds.specs.declared.Kind.{Kind}
+use Rattle.kinds.specs.declared.Kind.TheVariants.{Digit, Bracket, Mark, Space, LineEnd, Point, Foreign}
 
+-- the theory's kinds as code has them
+abbrev pub kind_as : B.Kind → Kind
+kind_as B.digit = Digit
+kind_as B.bracket = Bracket
+kind_as B.mark = Mark
+kind_as B.space = Space
+kind_as B.line_end = LineEnd
+kind_as B.point = Point
+kind_as B.foreign = Foreign
+
+-- the kinds by number, in the order of their names
 abbrev pub kind_number : Kind → ℕ
-kind_number digit = 0
-kind_number bracket = 1
-kind_number mark = 2
-kind_number space = 3
-kind_number line_end = 4
-kind_number point = 5
-kind_number foreign = 6
+kind_number Digit = 0
+kind_number Bracket = 1
+kind_number Mark = 2
+kind_number Space = 3
+kind_number LineEnd = 4
+kind_number Point = 5
+kind_number Foreign = 6
+
+abbrev pub is_kind : Kind → Kind → Bool
+is_kind n k = eqb (kind_number k) (kind_number n)
 
 -- the kinds of k bytes from b on
-unfoldable pub kinds_from : ℕ → ℕ → List ℕ
+unfoldable pub kinds_from : ℕ → ℕ → List Kind
 unfolding kind_of
 kinds_from zero b = []
-kinds_from (suc k) b = kind_number (kind_of b) ∷ kinds_from k (b + 1)
+kinds_from (suc k) b = kind_as (kind_of b) ∷ kinds_from k (b + 1)
 
 -- "A table of 256 entries gives each byte its kind."
-abbrev pub kind_table : List ℕ
+abbrev pub kind_table : List Kind
 kind_table = kinds_from 256 0
 
 -- ---- What a table k of kinds tells -----------------------------------------------------------
 
--- the byte b is of the kind whose number is n; a number above 255 is no byte
-unfoldable pub kind_in : List ℕ → ℕ → ℕ → Bool
-kind_in k n b = eqb (cond (ltb b 256) (get_or k b 0) (kind_number foreign)) n
+-- the byte b is of the kind n; a number above 255 is no byte
+unfoldable pub kind_in : List Kind → Kind → ℕ → Bool
+kind_in k n b = is_kind n (cond (ltb b 256) (get_or k b Digit) Foreign)
 
 -- the kinds that tell their byte, and the digits
-abbrev pub digit_in : List ℕ → ℕ → Bool
-digit_in k b = kind_in k (kind_number digit) b
+abbrev pub digit_in : List Kind → ℕ → Bool
+digit_in k b = kind_in k Digit b
 
-abbrev pub blank_in : List ℕ → ℕ → Bool
-blank_in k b = kind_in k (kind_number space) b
+abbrev pub blank_in : List Kind → ℕ → Bool
+blank_in k b = kind_in k Space b
 
-abbrev pub line_feed_in : List ℕ → ℕ → Bool
-line_feed_in k b = kind_in k (kind_number line_end) b
+abbrev pub line_feed_in : List Kind → ℕ → Bool
+line_feed_in k b = kind_in k LineEnd b
 
-abbrev pub dot_in : List ℕ → ℕ → Bool
-dot_in k b = kind_in k (kind_number point) b
+abbrev pub dot_in : List Kind → ℕ → Bool
+dot_in k b = kind_in k Point b
 
 -- brackets and marks, of which there are two each
-abbrev pub opener_in : List ℕ → ℕ → Bool
-opener_in k b = kind_in k (kind_number bracket) b && eqb b opener
+abbrev pub opener_in : List Kind → ℕ → Bool
+opener_in k b = kind_in k Bracket b && eqb b opener
 
-abbrev pub closer_in : List ℕ → ℕ → Bool
-closer_in k b = kind_in k (kind_number bracket) b && eqb b closer
+abbrev pub closer_in : List Kind → ℕ → Bool
+closer_in k b = kind_in k Bracket b && eqb b closer
 
-abbrev pub tilde_in : List ℕ → ℕ → Bool
-tilde_in k b = kind_in k (kind_number mark) b && eqb b tilde
+abbrev pub tilde_in : List Kind → ℕ → Bool
+tilde_in k b = kind_in k Mark b && eqb b tilde
 
-abbrev pub colon_in : List ℕ → ℕ → Bool
-colon_in k b = kind_in k (kind_number mark) b && eqb b colon
+abbrev pub colon_in : List Kind → ℕ → Bool
+colon_in k b = kind_in k Mark b && eqb b colon
 
 -- the digits of a number, as `digits_on` has them
-unfoldable pub digits_by : List ℕ → List ℕ → ℕ → ℕ → Scan
+unfoldable pub digits_by : List Kind → List ℕ → ℕ → ℕ → Scan
 digits_by k [] v at = unread
 digits_by k (b ∷ bs) v at = elim (digit_in k b) [ true ↦ digits_by k bs (v * 10 + (b - digit_zero)) (at + 1) | false ↦ read v at ]
 
 -- the number whose first digit b stands at a place, as `number_at` has it
-unfoldable pub number_by : List ℕ → List ℕ → ℕ → ℕ → Scan
+unfoldable pub number_by : List Kind → List ℕ → ℕ → ℕ → Scan
 unfolding digits_by
 number_by k bytes at b = elim (eqb b digit_zero) [ true ↦ read 0 (at + 1) | false ↦ digits_by k (drop (at + 1) bytes) (b - digit_zero) (at + 1) ]
 
@@ -76,25 +92,25 @@ pub and-off : (t : Bool) → (t && false) ≡ false
 and-off true = refl
 and-off false = refl
 
-kinds-at : (k b i : ℕ) → i < k → get_or (kinds_from k b) i 0 ≡ kind_number (kind_of (b + i))
+kinds-at : (k b i : ℕ) → i < k → get_or (kinds_from k b) i Digit ≡ kind_as (kind_of (b + i))
 unfolding kinds_from
 kinds-at zero b i h = absurd (omega arith)
-kinds-at (suc k) b zero h = ap (λ (x : ℕ). kind_number (kind_of x)) (sym (add-zero b))
+kinds-at (suc k) b zero h = ap (λ (x : ℕ). kind_as (kind_of x)) (sym (add-zero b))
 kinds-at (suc k) b (suc i) h =
     let e : b + 1 + i ≡ b + suc i = omega arith in
-    kinds-at k (b + 1) i (omega arith) ∙ ap (λ (x : ℕ). kind_number (kind_of x)) e
+    kinds-at k (b + 1) i (omega arith) ∙ ap (λ (x : ℕ). kind_as (kind_of x)) e
 
-zero-digit : (k : Kind) → eqb (kind_number k) (kind_number digit) ≡ is_digit_kind k
-zero-digit digit = refl
-zero-digit bracket = refl
-zero-digit mark = refl
-zero-digit space = refl
-zero-digit line_end = refl
-zero-digit point = refl
-zero-digit foreign = refl
+zero-digit : (k : B.Kind) → is_kind Digit (kind_as k) ≡ is_digit_kind k
+zero-digit B.digit = refl
+zero-digit B.bracket = refl
+zero-digit B.mark = refl
+zero-digit B.space = refl
+zero-digit B.line_end = refl
+zero-digit B.point = refl
+zero-digit B.foreign = refl
 
 -- a number above all bytes is foreign
-foreign-above : (b : ℕ) → 256 ≤ b → kind_of b ≡ foreign
+foreign-above : (b : ℕ) → 256 ≤ b → kind_of b ≡ B.foreign
 unfolding kind_of
 foreign-above b h =
     rw (
@@ -110,29 +126,29 @@ foreign-above b h =
     ) refl
 
 -- The table has the kind of each byte.
-kind-in : (n b : ℕ) → kind_in kind_table n b ≡ eqb (kind_number (kind_of b)) n
+kind-in : (n : Kind) (b : ℕ) → kind_in kind_table n b ≡ is_kind n (kind_as (kind_of b))
 unfolding kind_in
 kind-in n b = ⊎_elim
     (λ (h : 256 ≤ b). rw (le-ltb b 256 h, foreign-above b h) refl)
     (λ (h : b < 256). let e : 0 + b ≡ b = omega arith in
-    rw (lt-ltb b 256 h) (ap (λ (x : ℕ). eqb x n) (kinds-at 256 0 b h ∙ ap (λ (x : ℕ). kind_number (kind_of x)) e)))
+    rw (lt-ltb b 256 h) (ap (is_kind n) (kinds-at 256 0 b h ∙ ap (λ (x : ℕ). kind_as (kind_of x)) e)))
     (decide-le 256 b)
 
 -- A byte is a digit exactly if the table of kinds says so,
 pub digit-in : (b : ℕ) → digit_in kind_table b ≡ is_digit b
 unfolding is_digit
-digit-in b = kind-in (kind_number digit) b ∙ zero-digit (kind_of b)
+digit-in b = kind-in Digit b ∙ zero-digit (kind_of b)
 
 -- and so it is with the bytes that are alone of their kind, by a test that is computed over all bytes,
-abbrev tells : ℕ → ℕ → ℕ → Bool
-tells n a b = not (differ (eqb (kind_number (kind_of b)) n) (eqb b a))
+abbrev tells : Kind → ℕ → ℕ → Bool
+tells n a b = not (differ (is_kind n (kind_as (kind_of b))) (eqb b a))
 
-unfoldable alone : ℕ → ℕ → ℕ → ℕ → Bool
+unfoldable alone : Kind → ℕ → ℕ → ℕ → Bool
 unfolding kind_of
 alone n a zero b = true
 alone n a (suc k) b = tells n a b && alone n a k (b + 1)
 
-alone_at : (n a k b i : ℕ) → alone n a k b ≡ true → i < k → eqb (kind_number (kind_of (b + i))) n ≡ eqb (b + i) a
+alone_at : (n : Kind) (a k b i : ℕ) → alone n a k b ≡ true → i < k → is_kind n (kind_as (kind_of (b + i))) ≡ eqb (b + i) a
 unfolding alone
 alone_at n a zero b i t h = absurd (omega arith)
 alone_at n a (suc k) b zero t h = rw (add-zero b) (not-differ-true _ _ (and_l (tells n a b) (alone n a k (b + 1)) t))
@@ -141,46 +157,46 @@ alone_at n a (suc k) b (suc i) t h =
     rw e at (alone_at n a k (b + 1) i (and_r (tells n a b) (alone n a k (b + 1)) t) (omega arith))
 
 module _ (b : ℕ) where
-  alone-in : (n a : ℕ) → alone n a 256 0 ≡ true → n < kind_number foreign → a < 256 → kind_in kind_table n b ≡ eqb b a
+  alone-in : (n : Kind) (a : ℕ) → alone n a 256 0 ≡ true → is_kind n Foreign ≡ false → a < 256 → kind_in kind_table n b ≡ eqb b a
   alone-in n a t l m = kind-in n b ∙ ⊎_elim
-      (λ (h : 256 ≤ b). rw (foreign-above b h, ne_eqb (kind_number foreign) n (λ e. omega (arith, e)), ne_eqb b a (λ e. omega (arith, h, e))) refl)
+      (λ (h : 256 ≤ b). rw (foreign-above b h, l, ne_eqb b a (λ e. omega (arith, h, e))) refl)
       (λ (h : b < 256). let e : 0 + b ≡ b = omega arith in rw e at (alone_at n a 256 0 b t h))
       (decide-le 256 b)
 
   pub blank-in : blank_in kind_table b ≡ eqb b blank
   unfolding alone kind_of
-  blank-in = alone-in (kind_number space) blank refl (omega arith) (omega arith)
+  blank-in = alone-in Space blank refl refl (omega arith)
 
   pub line-feed-in : line_feed_in kind_table b ≡ eqb b line_feed
   unfolding alone kind_of
-  line-feed-in = alone-in (kind_number line_end) line_feed refl (omega arith) (omega arith)
+  line-feed-in = alone-in LineEnd line_feed refl refl (omega arith)
 
   pub dot-in : dot_in kind_table b ≡ eqb b dot
   unfolding alone kind_of
-  dot-in = alone-in (kind_number point) dot refl (omega arith) (omega arith)
+  dot-in = alone-in Point dot refl refl (omega arith)
 
   -- and with those of a kind that has two.
-  one_in : (n a : ℕ) → kind_number (kind_of a) ≡ n → (kind_in kind_table n b && eqb b a) ≡ eqb b a
+  one_in : (n : Kind) (a : ℕ) → kind_as (kind_of a) ≡ n → (kind_in kind_table n b && eqb b a) ≡ eqb b a
   one_in n a h = ⊎_elim
-      (λ (e : b ≡ a). let k : kind_in kind_table n b ≡ true = kind-in n b ∙ eq-eqb _ n (ap (λ (x : ℕ). kind_number (kind_of x)) e ∙ h) in rw k refl)
+      (λ (e : b ≡ a). let k : kind_in kind_table n b ≡ true = kind-in n b ∙ eq-eqb _ _ (ap kind_number (ap (λ (x : ℕ). kind_as (kind_of x)) e ∙ h)) in rw k refl)
       (λ (e : b ≢ a). rw (ne_eqb b a e) (and-off (kind_in kind_table n b)))
       (decide_eq b a)
 
   pub opener-in : opener_in kind_table b ≡ eqb b opener
   unfolding kind_of
-  opener-in = one_in (kind_number bracket) opener refl
+  opener-in = one_in Bracket opener refl
 
   pub closer-in : closer_in kind_table b ≡ eqb b closer
   unfolding kind_of
-  closer-in = one_in (kind_number bracket) closer refl
+  closer-in = one_in Bracket closer refl
 
   pub tilde-in : tilde_in kind_table b ≡ eqb b tilde
   unfolding kind_of
-  tilde-in = one_in (kind_number mark) tilde refl
+  tilde-in = one_in Mark tilde refl
 
   pub colon-in : colon_in kind_table b ≡ eqb b colon
   unfolding kind_of
-  colon-in = one_in (kind_number mark) colon refl
+  colon-in = one_in Mark colon refl
 
 digits-by : (bs : List ℕ) (v at : ℕ) → digits_by kind_table bs v at ≡ digits_on bs v at
 unfolding digits_by digits_on

@@ -3,69 +3,73 @@
 ghost use Rattle.std.specs.Prelude.{◌≡◌, ◌&&◌, eqb};
 ghost use Rattle.kinds.specs.Kinds.{kind_table, kind_in};
 
-// The kinds of bytes, as `kind_number` has them.
-pub const DIGIT: u8 = 0;
+use Kind::{Bracket, Digit, Foreign, LineEnd, Mark, Point, Space};
 
-pub const BRACKET: u8 = 1;
+// The kinds of bytes.
+#[derive(Clone, Copy, PartialEq, Eq)]
+pub enum Kind {
+    Digit,
+    Bracket,
+    Mark,
+    Space,
+    LineEnd,
+    Point,
+    Foreign,
+}
 
-pub const MARK: u8 = 2;
+// A kind for each byte.
+pub type KindTable = [Kind; 256];
 
-pub const SPACE: u8 = 3;
-
-pub const LINE_END: u8 = 4;
-
-pub const POINT: u8 = 5;
-
-pub const FOREIGN: u8 = 6;
-
-// The kind of each byte.
-const KINDS: [u8; 256] = [
-    FOREIGN, FOREIGN, FOREIGN, FOREIGN, FOREIGN, FOREIGN, FOREIGN, FOREIGN, FOREIGN, FOREIGN,
-    LINE_END, FOREIGN, FOREIGN, FOREIGN, FOREIGN, FOREIGN, FOREIGN, FOREIGN, FOREIGN, FOREIGN,
-    FOREIGN, FOREIGN, FOREIGN, FOREIGN, FOREIGN, FOREIGN, FOREIGN, FOREIGN, FOREIGN, FOREIGN,
-    FOREIGN, FOREIGN, SPACE, FOREIGN, FOREIGN, FOREIGN, FOREIGN, FOREIGN, FOREIGN, FOREIGN,
-    BRACKET, BRACKET, FOREIGN, FOREIGN, FOREIGN, FOREIGN, POINT, FOREIGN, DIGIT, DIGIT, DIGIT,
-    DIGIT, DIGIT, DIGIT, DIGIT, DIGIT, DIGIT, DIGIT, MARK, FOREIGN, FOREIGN, FOREIGN, FOREIGN,
-    FOREIGN, FOREIGN, FOREIGN, FOREIGN, FOREIGN, FOREIGN, FOREIGN, FOREIGN, FOREIGN, FOREIGN,
-    FOREIGN, FOREIGN, FOREIGN, FOREIGN, FOREIGN, FOREIGN, FOREIGN, FOREIGN, FOREIGN, FOREIGN,
-    FOREIGN, FOREIGN, FOREIGN, FOREIGN, FOREIGN, FOREIGN, FOREIGN, FOREIGN, FOREIGN, FOREIGN,
-    FOREIGN, FOREIGN, FOREIGN, FOREIGN, FOREIGN, FOREIGN, FOREIGN, FOREIGN, FOREIGN, FOREIGN,
-    FOREIGN, FOREIGN, FOREIGN, FOREIGN, FOREIGN, FOREIGN, FOREIGN, FOREIGN, FOREIGN, FOREIGN,
-    FOREIGN, FOREIGN, FOREIGN, FOREIGN, FOREIGN, FOREIGN, FOREIGN, FOREIGN, FOREIGN, FOREIGN,
-    FOREIGN, FOREIGN, FOREIGN, MARK, FOREIGN, FOREIGN, FOREIGN, FOREIGN, FOREIGN, FOREIGN, FOREIGN,
-    FOREIGN, FOREIGN, FOREIGN, FOREIGN, FOREIGN, FOREIGN, FOREIGN, FOREIGN, FOREIGN, FOREIGN,
-    FOREIGN, FOREIGN, FOREIGN, FOREIGN, FOREIGN, FOREIGN, FOREIGN, FOREIGN, FOREIGN, FOREIGN,
-    FOREIGN, FOREIGN, FOREIGN, FOREIGN, FOREIGN, FOREIGN, FOREIGN, FOREIGN, FOREIGN, FOREIGN,
-    FOREIGN, FOREIGN, FOREIGN, FOREIGN, FOREIGN, FOREIGN, FOREIGN, FOREIGN, FOREIGN, FOREIGN,
-    FOREIGN, FOREIGN, FOREIGN, FOREIGN, FOREIGN, FOREIGN, FOREIGN, FOREIGN, FOREIGN, FOREIGN,
-    FOREIGN, FOREIGN, FOREIGN, FOREIGN, FOREIGN, FOREIGN, FOREIGN, FOREIGN, FOREIGN, FOREIGN,
-    FOREIGN, FOREIGN, FOREIGN, FOREIGN, FOREIGN, FOREIGN, FOREIGN, FOREIGN, FOREIGN, FOREIGN,
-    FOREIGN, FOREIGN, FOREIGN, FOREIGN, FOREIGN, FOREIGN, FOREIGN, FOREIGN, FOREIGN, FOREIGN,
-    FOREIGN, FOREIGN, FOREIGN, FOREIGN, FOREIGN, FOREIGN, FOREIGN, FOREIGN, FOREIGN, FOREIGN,
-    FOREIGN, FOREIGN, FOREIGN, FOREIGN, FOREIGN, FOREIGN, FOREIGN, FOREIGN, FOREIGN, FOREIGN,
-    FOREIGN, FOREIGN, FOREIGN, FOREIGN, FOREIGN, FOREIGN, FOREIGN, FOREIGN, FOREIGN, FOREIGN,
-    FOREIGN, FOREIGN, FOREIGN, FOREIGN, FOREIGN, FOREIGN, FOREIGN, FOREIGN, FOREIGN, FOREIGN,
-    FOREIGN, FOREIGN,
+const KINDS: KindTable = [
+    Foreign, Foreign, Foreign, Foreign, Foreign, Foreign, Foreign, Foreign, Foreign, Foreign,
+    LineEnd, Foreign, Foreign, Foreign, Foreign, Foreign, Foreign, Foreign, Foreign, Foreign,
+    Foreign, Foreign, Foreign, Foreign, Foreign, Foreign, Foreign, Foreign, Foreign, Foreign,
+    Foreign, Foreign, Space, Foreign, Foreign, Foreign, Foreign, Foreign, Foreign, Foreign,
+    Bracket, Bracket, Foreign, Foreign, Foreign, Foreign, Point, Foreign, Digit, Digit, Digit,
+    Digit, Digit, Digit, Digit, Digit, Digit, Digit, Mark, Foreign, Foreign, Foreign, Foreign,
+    Foreign, Foreign, Foreign, Foreign, Foreign, Foreign, Foreign, Foreign, Foreign, Foreign,
+    Foreign, Foreign, Foreign, Foreign, Foreign, Foreign, Foreign, Foreign, Foreign, Foreign,
+    Foreign, Foreign, Foreign, Foreign, Foreign, Foreign, Foreign, Foreign, Foreign, Foreign,
+    Foreign, Foreign, Foreign, Foreign, Foreign, Foreign, Foreign, Foreign, Foreign, Foreign,
+    Foreign, Foreign, Foreign, Foreign, Foreign, Foreign, Foreign, Foreign, Foreign, Foreign,
+    Foreign, Foreign, Foreign, Foreign, Foreign, Foreign, Foreign, Foreign, Foreign, Foreign,
+    Foreign, Foreign, Foreign, Mark, Foreign, Foreign, Foreign, Foreign, Foreign, Foreign, Foreign,
+    Foreign, Foreign, Foreign, Foreign, Foreign, Foreign, Foreign, Foreign, Foreign, Foreign,
+    Foreign, Foreign, Foreign, Foreign, Foreign, Foreign, Foreign, Foreign, Foreign, Foreign,
+    Foreign, Foreign, Foreign, Foreign, Foreign, Foreign, Foreign, Foreign, Foreign, Foreign,
+    Foreign, Foreign, Foreign, Foreign, Foreign, Foreign, Foreign, Foreign, Foreign, Foreign,
+    Foreign, Foreign, Foreign, Foreign, Foreign, Foreign, Foreign, Foreign, Foreign, Foreign,
+    Foreign, Foreign, Foreign, Foreign, Foreign, Foreign, Foreign, Foreign, Foreign, Foreign,
+    Foreign, Foreign, Foreign, Foreign, Foreign, Foreign, Foreign, Foreign, Foreign, Foreign,
+    Foreign, Foreign, Foreign, Foreign, Foreign, Foreign, Foreign, Foreign, Foreign, Foreign,
+    Foreign, Foreign, Foreign, Foreign, Foreign, Foreign, Foreign, Foreign, Foreign, Foreign,
+    Foreign, Foreign, Foreign, Foreign, Foreign, Foreign, Foreign, Foreign, Foreign, Foreign,
+    Foreign, Foreign, Foreign, Foreign, Foreign, Foreign, Foreign, Foreign, Foreign, Foreign,
+    Foreign, Foreign, Foreign, Foreign, Foreign, Foreign, Foreign, Foreign, Foreign, Foreign,
+    Foreign, Foreign,
 ];
 
-// The kind of each byte. A call has it built once and lends it.
-pub fn kinds() -> [u8; 256]
-    ensures { result ≡ kind_table }
+// The constant in memory: a constant array is built anew where it is used.
+static TABLE: KindTable = KINDS;
+
+// The kind of each byte.
+pub fn kinds() -> &'static KindTable
+    ensures { result.now ≡ kind_table }
 {
-    KINDS
+    &TABLE
 }
 
 // k, here and below: a table of kinds, lent
-pub fn is_kind(k: &[u8; 256], b: u8, n: u8) -> bool
-    ensures { result ≡ kind_in k.now n b }
+#[tactic(auto, using(crate::specs::Same::same_kind), unfolding(crate::specs::Kinds::kind_in))]
+pub fn is_kind(k: &KindTable, b: u8, kind: Kind) -> bool
+    ensures { result ≡ kind_in k.now kind b }
 {
-    let i = b as usize;
-    k[i] == n
+    k[b as usize] == kind
 }
 
 // The byte a, of a kind that has two.
-pub fn is_one(k: &[u8; 256], b: u8, n: u8, a: u8) -> bool
-    ensures { result ≡ (kind_in k.now n b && eqb b a) }
+pub fn is_one(k: &KindTable, b: u8, kind: Kind, a: u8) -> bool
+    ensures { result ≡ (kind_in k.now kind b && eqb b a) }
 {
-    if is_kind(k, b, n) { b == a } else { false }
+    is_kind(k, b, kind) && b == a
 }

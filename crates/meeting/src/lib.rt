@@ -1,21 +1,20 @@
 // Two halves meet: the five rules, over records, waiting text and output; and what a call answers.
 #![tactic(auto)]
 
-ghost use Rattle.std.specs.Prelude.{◌≡◌, cond, true, false, []};
+ghost use Rattle.std.specs.Prelude.{◌≡◌, ◌≢◌, cond, true, false, []};
 ghost use Rattle.theory_writing.specs.Run.{whole, input_ended, output_full};
-ghost use Rattle.theory_engine.specs.Engine.{is_stale, alike_constant, alike_number, barred_half, spaced, send_node, write_temporary, give_in, known_in};
-ghost use Rattle.theory_engine.specs.Engine.{meet_in, second_in, done_in};
-ghost use Rattle.meeting.specs.Abstraction.{half_of, progress_of, walked_of, endings_of};
+ghost use Rattle.theory_engine.specs.Engine.{is_constant, is_stale, alike_constant, alike_number, barred_half, spaced, send_node, write_temporary};
+ghost use Rattle.theory_engine.specs.Engine.{give_in, meet_in, second_in, done_in};
+ghost use Rattle.meeting.specs.Abstraction.{half_of, progress_of, same_sink, walked_of, written_of};
 
-use answers::Refusal;
-use node_records::WriterRecord;
+use node_records::{Node, WriterRecord};
 use pending_text::{Sent, close, push, send, wait};
 use unique_table::{Ends, find, next_number, stamp_of, store};
-use writer_numbers::{either, one_more};
 
 // ---- Halves
 
 // What a part came to: the number (0: the constant, or a temporary node), its stamp, the levels skipped
+// (No enum: it is the Half of Engine, and 0 is what the constant is written as.)
 #[derive(Clone, Copy)]
 pub struct Half {
     pub number: u32,
@@ -42,6 +41,22 @@ pub struct Walked {
     pub half: Half,
 }
 
+// Between two halves: what the first came to, the `~` of the second, how much waits
+#[derive(Clone, Copy)]
+pub struct Gap {
+    pub first: Half,
+    pub tilde: bool,
+    pub waiting: usize,
+}
+
+// What is written to: the records of the table for writing, the output, the bytes that wait
+#[derive(Drop)]
+pub struct Sink<'a> {
+    pub table: &'a mut [WriterRecord],
+    pub out: &'a mut [u8],
+    pub waiting: &'a mut [u8],
+}
+
 pub fn constant(v: bool) -> Half
     ensures { result ≡ record { number = 0; stamp = 0; skipped = 0; temporary = false; complement = v; wrote = false } }
 {
@@ -62,9 +77,8 @@ pub fn numbered(k: u32, g: u32, j: u32, v: bool, wrote: bool) -> Half
         number: k,
         stamp: g,
         skipped: j,
-        temporary: false,
-        complement: v,
-        wrote: wrote,
+        wrote,
+        ..constant(v)
     }
 }
 
@@ -72,122 +86,86 @@ fn temporary(v: bool) -> Half
     ensures { result ≡ record { number = 0; stamp = 0; skipped = 0; temporary = true; complement = v; wrote = true } }
 {
     Half {
-        number: 0,
-        stamp: 0,
-        skipped: 0,
         temporary: true,
-        complement: v,
         wrote: true,
+        ..constant(v)
     }
 }
 
 // ---- The five rules
 
-// Rule 1: both constant, no `~`.
-fn alike_constant(v: bool, a: Half, b: Half) -> bool
-    ensures { result ≡ alike_constant v (half_of a) (half_of b) }
+fn is_constant(a: Half) -> bool
+    ensures { result ≡ is_constant (half_of a) }
 {
-    if a.number != 0 {
-        return false;
-    }
-    if a.temporary {
-        return false;
-    }
-    if b.number != 0 {
-        return false;
-    }
-    if b.temporary {
-        return false;
-    }
-    !v
+    a.number == 0 && !a.temporary
+}
+
+// Rule 1: both constant, no `~`.
+fn alike_constant(g: Gap, b: Half) -> bool
+    ensures { result ≡ alike_constant g.tilde (half_of g.first) (half_of b) }
+{
+    is_constant(g.first) && is_constant(b) && !g.tilde
 }
 
 // Its number was given out again since.
 fn is_stale(t: &[WriterRecord], a: Half) -> bool
     ensures { result ≡ is_stale t.now (half_of a) }
 {
-    if a.number == 0 {
-        return false;
-    }
-    stamp_of(t, a.number) != a.stamp
+    a.number != 0 && stamp_of(t, a.number) != a.stamp
 }
 
 // Rule 2: same number, no `~`, not given out again since either half got it.
-fn alike_number(t: &[WriterRecord], v: bool, a: Half, b: Half) -> bool
-    ensures { result ≡ alike_number t.now v (half_of a) (half_of b) }
+fn alike_number(t: &[WriterRecord], g: Gap, b: Half) -> bool
+    ensures { result ≡ alike_number t.now g.tilde (half_of g.first) (half_of b) }
 {
-    if a.number == 0 {
-        return false;
-    }
-    if a.number != b.number {
-        return false;
-    }
-    if v {
-        return false;
-    }
-    if is_stale(t, a) {
-        return false;
-    }
-    !is_stale(t, b)
+    let a = g.first;
+    a.number != 0 && a.number == b.number && !g.tilde && !is_stale(t, a) && !is_stale(t, b)
 }
 
 // Rule 3, of one half: temporary, or its number given out again since.
 fn is_barred(t: &[WriterRecord], a: Half) -> bool
     ensures { result ≡ barred_half t.now (half_of a) }
 {
-    let x = a.temporary;
-    if x {
-        return true;
-    }
-    is_stale(t, a)
+    a.temporary || is_stale(t, a)
 }
 
 // A space stands between the halves.
-fn is_spaced(v: bool, a: Half, b: Half) -> bool
-    ensures { result ≡ spaced v (half_of a) (half_of b) }
+fn is_spaced(g: Gap, b: Half) -> bool
+    ensures { result ≡ spaced g.tilde (half_of g.first) (half_of b) }
 {
-    if v {
-        return false;
-    }
-    if a.temporary {
-        return false;
-    }
-    if a.skipped != 0 {
-        return false;
-    }
-    if b.wrote {
-        return false;
-    }
-    b.skipped == 0
+    let a = g.first;
+    !g.tilde && !a.temporary && a.skipped == 0 && !b.wrote && b.skipped == 0
 }
 
-// The two-child node of a and b goes out with its number k, 0 for none; `at` bytes are written.
-fn send_node(
-    m: usize,
-    v: bool,
-    a: Half,
-    b: Half,
-    k: u32,
-    out: &mut [u8],
-    w: &mut [u8],
-    at: usize,
-) -> Sent
+// The two-child node of the halves goes out with its number k, 0 for none; `at` bytes are written.
+fn send_node(g: Gap, b: Half, k: u32, out: &mut [u8], w: &mut [u8], at: usize) -> Sent
     ensures { record { written = result.written; full = result.full; output = out.new; waits = w.new }
-        ≡ send_node m v (half_of a) (half_of b) k out.old w.old at }
+        ≡ send_node g.waiting g.tilde (half_of g.first) (half_of b) k out.old w.old at }
 {
-    let space = is_spaced(v, a, b);
-    let x = close(w, m, space, b.wrote, b.skipped, b.number, k);
+    let x = close(
+        w,
+        g.waiting,
+        is_spaced(g, b),
+        b.wrote,
+        b.skipped,
+        b.number,
+        k,
+    );
     send(out, w, at, x)
 }
 
-fn sent_as(h: Half, z: u32, e: Ends, x: Sent) -> Walked
-    ensures { result ≡ record { half = h; progress = record { written = x.written; given = z; first = e.first; last = e.last; full = x.full } } }
+fn sent_as(half: Half, given: u32, e: Ends, x: Sent) -> Walked
+    ensures { result ≡ record {
+      half = half;
+      progress = record
+          { written = x.written; given = given; first = e.first; last = e.last; full = x.full };
+    } }
 {
     Walked {
-        half: h,
+        half,
         progress: Progress {
             written: x.written,
-            given: z,
+            given,
             first: e.first,
             last: e.last,
             full: x.full,
@@ -195,169 +173,105 @@ fn sent_as(h: Half, z: u32, e: Ends, x: Sent) -> Walked
     }
 }
 
-pub fn kept(h: Half, progress: Progress) -> Walked
-    ensures { result ≡ record { half = h; progress = progress } }
-{
-    Walked {
-        half: h,
-        progress: progress,
-    }
-}
-
-pub fn half_of(r: Walked) -> Half
-    ensures { result ≡ r.half }
-{
-    r.half
-}
-
-pub fn progress_of(r: Walked) -> Progress
-    ensures { result ≡ r.progress }
-{
-    r.progress
-}
-
 // A node without a number
-fn write_temporary(
-    m: usize,
-    v: bool,
-    a: Half,
-    b: Half,
-    t: &mut [WriterRecord],
-    out: &mut [u8],
-    w: &mut [u8],
-    progress: Progress,
-) -> Walked
-    ensures { walked_of result t.new out.new w.new
-        ≡ write_temporary m v (half_of a) (half_of b) t.old out.old w.old (progress_of progress) }
+fn write_temporary(g: Gap, b: Half, to: &mut Sink<'_>, progress: Progress) -> Walked
+    ensures same { same_sink to.new to.old }
+    ensures walked { walked_of result to.new.table.now to.new.out.now to.new.waiting.now
+        ≡ write_temporary g.waiting g.tilde (half_of g.first) (half_of b) to.old.table.now to.old.out.now to.old.waiting.now
+        (progress_of progress) }
 {
-    let c = a.complement;
-    let x = send_node(m, v, a, b, 0, out, w, progress.written);
-    let e = Ends {
-        first: progress.first,
-        last: progress.last,
-    };
-    sent_as(temporary(c), progress.given, e, x)
+    let x = send_node(g, b, 0, to.out, to.waiting, progress.written);
+    Walked {
+        half: temporary(g.first.complement),
+        progress: Progress {
+            written: x.written,
+            full: x.full,
+            ..progress
+        },
+    }
 }
 
-// Rule 5: the node gets the number k, or none if that is 0.
-fn give(
-    k: u32,
-    i: u32,
-    m: usize,
-    v: bool,
-    a: Half,
-    b: Half,
-    t: &mut [WriterRecord],
-    out: &mut [u8],
-    w: &mut [u8],
-    progress: Progress,
-) -> Walked
-    ensures { walked_of result t.new out.new w.new
-        ≡ give_in k i m v (half_of a) (half_of b) t.old out.old w.old (progress_of progress) }
+// The node of two halves at level i
+fn node(i: u32, g: Gap, b: Half) -> Node
+    ensures { result ≡ record { level = i; first = g.first.number; second = b.number; complement = cond g.tilde 1 0 } }
 {
-    if k == 0 {
-        return write_temporary(m, v, a, b, t, out, w, progress);
+    Node {
+        level: i,
+        first: g.first.number,
+        second: b.number,
+        complement: u32::from(g.tilde),
     }
-    let z = progress.given;
-    let q = Ends {
-        first: progress.first,
-        last: progress.last,
-    };
-    let e = store(t, z, q, k, i, a.number, b.number, either(v, 1, 0));
-    let g = stamp_of(t, k);
-    let h = numbered(k, g, 0, a.complement, true);
-    let x = send_node(m, v, a, b, k, out, w, progress.written);
-    sent_as(h, either(z < k, k, z), e, x)
 }
 
-// Rule 4: the number k, in place of the text; 0: there is none.
-fn known(
-    k: u32,
-    size: u32,
-    i: u32,
-    m: usize,
-    v: bool,
-    a: Half,
-    b: Half,
-    t: &mut [WriterRecord],
-    out: &mut [u8],
-    w: &mut [u8],
-    progress: Progress,
-) -> Walked
-    ensures { walked_of result t.new out.new w.new
-        ≡ known_in k size i m v (half_of a) (half_of b) t.old out.old w.old (progress_of progress) }
+// Rule 5: the node gets the number k.
+fn give(k: u32, i: u32, g: Gap, b: Half, to: &mut Sink<'_>, progress: Progress) -> Walked
+    requires { k ≢ 0 }
+    ensures same { same_sink to.new to.old }
+    ensures walked { walked_of result to.new.table.now to.new.out.now to.new.waiting.now
+        ≡ give_in k i g.waiting g.tilde (half_of g.first) (half_of b) to.old.table.now to.old.out.now to.old.waiting.now
+        (progress_of progress) }
 {
-    if k == 0 {
-        let x = next_number(t, progress.given, progress.first, size, a.number, b.number);
-        return give(x, i, m, v, a, b, t, out, w, progress);
-    }
-    let g = stamp_of(t, k);
-    kept(numbered(k, g, 0, a.complement, false), progress)
+    let Progress {
+        given,
+        first,
+        last,
+        ..
+    } = progress;
+    // Lent by itself: what a slice in a field holds is not known where it is passed as `&`.
+    let t = &mut *to.table;
+    let e = store(t, given, Ends { first, last }, k, node(i, g, b));
+    let h = numbered(k, stamp_of(t, k), 0, g.first.complement, true);
+    let x = send_node(g, b, k, to.out, to.waiting, progress.written);
+    sent_as(h, given.max(k), e, x)
 }
 
-// Two halves meet at level i; v: the `~` between them, m: how much waits.
-fn meet(
-    size: u32,
-    i: u32,
-    m: usize,
-    v: bool,
-    a: Half,
-    b: Half,
-    t: &mut [WriterRecord],
-    out: &mut [u8],
-    w: &mut [u8],
-    progress: Progress,
-) -> Walked
-    ensures { walked_of result t.new out.new w.new
-        ≡ meet_in size i m v (half_of a) (half_of b) t.old out.old w.old (progress_of progress) }
+// Two halves meet at level i.
+fn meet(size: u32, i: u32, g: Gap, b: Half, to: &mut Sink<'_>, progress: Progress) -> Walked
+    ensures same { same_sink to.new to.old }
+    ensures walked { walked_of result to.new.table.now to.new.out.now to.new.waiting.now
+        ≡ meet_in size i g.waiting g.tilde (half_of g.first) (half_of b) to.old.table.now to.old.out.now to.old.waiting.now
+        (progress_of progress) }
 {
-    if alike_constant(v, a, b) {
-        return kept(constant(a.complement), progress);
-    }
-    if alike_number(t, v, a, b) {
-        return kept(
-            numbered(
-                a.number,
-                a.stamp,
-                one_more(a.skipped),
-                a.complement,
-                a.wrote,
-            ),
+    let a = g.first;
+    let t = &mut *to.table;
+    if alike_constant(g, b) {
+        return Walked {
+            half: constant(a.complement),
             progress,
-        );
+        };
     }
-    if is_barred(t, a) {
-        return write_temporary(m, v, a, b, t, out, w, progress);
+    if alike_number(t, g, b) {
+        let half = Half {
+            skipped: a.skipped.saturating_add(1),
+            temporary: false,
+            ..a
+        };
+        return Walked { half, progress };
     }
-    if is_barred(t, b) {
-        return write_temporary(m, v, a, b, t, out, w, progress);
+    if is_barred(t, a) || is_barred(t, b) {
+        return write_temporary(g, b, to, progress);
     }
-    let k = find(t, progress.given, i, a.number, b.number, either(v, 1, 0));
-    known(k, size, i, m, v, a, b, t, out, w, progress)
+    // Rule 4: the number of such a node, in place of its text
+    if let Some(k) = find(t, progress.given, node(i, g, b)) {
+        let half = numbered(k, stamp_of(t, k), 0, a.complement, false);
+        return Walked { half, progress };
+    }
+    match next_number(t, progress.given, progress.first, size, a.number, b.number) {
+        Some(k) => give(k, i, g, b, to, progress),
+        None => write_temporary(g, b, to, progress),
+    }
 }
 
 // After the second half: the halves meet, unless more was sent than the output holds.
-pub fn second(
-    size: u32,
-    i: u32,
-    m: usize,
-    v: bool,
-    a: Half,
-    b: Walked,
-    t: &mut [WriterRecord],
-    out: &mut [u8],
-    w: &mut [u8],
-) -> Walked
-    ensures { walked_of result t.new out.new w.new
-        ≡ second_in size i m v (half_of a) (walked_of b t.old out.old w.old) }
+pub fn second(size: u32, i: u32, g: Gap, b: Walked, to: &mut Sink<'_>) -> Walked
+    ensures same { same_sink to.new to.old }
+    ensures walked { walked_of result to.new.table.now to.new.out.now to.new.waiting.now
+        ≡ second_in size i g.waiting g.tilde (half_of g.first) (walked_of b to.old.table.now to.old.out.now to.old.waiting.now) }
 {
-    let progress = b.progress;
-    let full = progress.full;
-    if full {
+    if b.progress.full {
         return b;
     }
-    let h = b.half;
-    meet(size, i, m, v, a, h, t, out, w, progress)
+    meet(size, i, g, b.half, to, b.progress)
 }
 
 // ---- Before and after the walk
@@ -379,23 +293,19 @@ pub fn done(m: usize, r: Walked, out: &mut [u8], w: &mut [u8]) -> Sent
     ensures { record { written = result.written; full = result.full; output = out.new; waits = w.new }
         ≡ done_in m (walked_of r [] out.old w.old) }
 {
-    let progress = r.progress;
-    let full = progress.full;
+    let Progress { written, full, .. } = r.progress;
     if full {
-        return Sent {
-            written: progress.written,
-            full: full,
-        };
+        return Sent { written, full };
     }
     let h = r.half;
     let q = wait(w, m, h.wrote, h.skipped, h.number);
     let e = push(w, q, b'.');
-    send(out, w, progress.written, e)
+    send(out, w, written, e)
 }
 
 // ---- What a call answers
 
-// How a run ends
+// How a run ends, in the order of the numbers that C has for it
 #[derive(Clone, Copy)]
 pub enum Ending {
     Whole,
@@ -411,21 +321,24 @@ pub struct Written {
     pub ending: Ending,
 }
 
-#[derive(Clone, Copy)]
-pub enum Writing {
-    Refused(Refusal),
-    Done(Written),
-}
-
-// more: of what is to be written than the output holds; all: words are covered
-pub fn ending_of(more: bool, all: bool) -> Ending
-    ensures { endings_of result ≡ cond more output_full (cond all whole input_ended) }
+// After a run that covers so many words; all: they are all there are
+pub fn answer(x: Sent, covered: u64, all: bool) -> Written
+    ensures { written_of result ≡ record {
+      written = x.written;
+      covered = covered;
+      ending = cond x.full output_full (cond all whole input_ended);
+    } }
 {
-    if more {
-        return Ending::OutputFull;
+    let ending = if x.full {
+        Ending::OutputFull
+    } else if all {
+        Ending::Whole
+    } else {
+        Ending::InputEnded
+    };
+    Written {
+        bytes: x.written,
+        covered,
+        ending,
     }
-    if all {
-        return Ending::Whole;
-    }
-    Ending::InputEnded
 }

@@ -1,190 +1,127 @@
 // The inputs of a run: each is inside its text, at the block that was read last, or at an edge of its own table.
 #![tactic(auto)]
 
-ghost use Rattle.std.specs.Prelude.{◌≡◌, false, cond, not, ◌&&◌, List, ℕ, ◌+◌};
-ghost use Rattle.theory_applying.specs.Operands.{settle, first_operand, second_operand};
+ghost use Rattle.std.specs.Prelude.{◌≡◌, List, ℕ, ◌+◌};
+ghost use Rattle.theory_applying.specs.Operands.{edge_of, settle, first_operand, second_operand};
 ghost use Rattle.theory_combining.specs.BlockReaders.{deep_of, source_of, ended_of, next_reader};
 ghost use Rattle.blocks.specs.Blocks.{block_in};
 ghost use Rattle.elements.specs.declared.Opens.{Opens};
-ghost use Rattle.operands.specs.Abstraction.{operand_on, operand_of, begun_in, read_by, arrived, begun_from};
+ghost use Rattle.edges.specs.Abstraction.{edge_in};
+ghost use Rattle.operands.specs.Abstraction.{same_stream, standing, reader_of, input_on, input_of, first_value_of, begun_from};
 
 use blocks::{Block, next_block};
 use cursors::first_cursor;
 use edges::{TableEdge, first_edge, second_edge};
-use elements::OPEN_LIMIT;
-use node_records::NodeRecord;
+use elements::{OPEN_LIMIT, Open};
+use node_records::{Edge, NodeRecord};
 use work_table::get as record_at;
 
-// An input at a part: inside its text, at the block that was read last, which begins with the part and is smaller; or at an edge
-#[derive(Clone, Copy)]
-pub struct Operand {
-    pub inside: bool,
-    pub number: u32,
-    pub complement: bool,
+pub const TERMINAL: Edge = Edge {
+    number: 0,
+    complement: false,
+};
+
+// A stream that is read block by block: its bytes, its table, the open nodes where it is read
+#[derive(Drop)]
+pub struct Stream<'a> {
+    pub bytes: &'a [u8],
+    pub table: &'a mut [NodeRecord],
+    pub opens: &'a mut [Open; OPEN_LIMIT],
 }
 
-// With the block that was read last
+// An input at a part: at an edge of its table; or, with none, inside its text, where the block that was read last begins with the part and is smaller
 #[derive(Clone, Copy)]
-pub struct Begun {
-    pub operand: Operand,
+pub struct Input {
+    pub edge: Option<Edge>,
     pub block: Block,
 }
 
-// The edge that an input is at
-pub fn edge_of(f: Operand, b: Block) -> TableEdge
-    ensures { result ≡ record { number = f.number; complement = f.complement; size = b.cursor.run.size } }
+// The edge that an input is at, in its table
+pub fn edge_of(f: Input) -> TableEdge
+    ensures given { result ≡ record { edge = standing f.edge; size = f.block.cursor.run.size } }
+    ensures read { (n : ℕ) (o : Opens) (s : List ℕ) (t : List NodeRecord) → edge_in result t
+        ≡ edge_of deep_of source_of ended_of (next_reader n) (input_on f o s t) }
 {
-    let c = b.cursor;
-    let q = c.run;
     TableEdge {
-        number: f.number,
-        complement: f.complement,
-        size: q.size,
-    }
-}
-
-fn at_edge(e: TableEdge) -> Operand
-    ensures { result ≡ record { inside = false; number = e.number; complement = e.complement } }
-{
-    Operand {
-        inside: false,
-        number: e.number,
-        complement: e.complement,
-    }
-}
-
-fn at_terminal() -> Operand
-    ensures { result ≡ record { inside = false; number = 0; complement = false } }
-{
-    Operand {
-        inside: false,
-        number: 0,
-        complement: false,
+        edge: f.edge.unwrap_or(TERMINAL),
+        size: f.block.cursor.run.size,
     }
 }
 
 // A block as great as a part that i open nodes are around is an edge. Past the end of its text an input is at the terminal.
-fn settle(i: u32, f: Operand, b: Block) -> Operand
-    ensures { (n : ℕ) (o : Opens) (s : List ℕ) (t : List NodeRecord) → operand_on result b o s t
-        ≡ settle deep_of source_of ended_of (next_reader n) (i + 1) (operand_on f b o s t) }
+fn settle(i: u32, f: Input) -> Option<Edge>
+    ensures { (n : ℕ) (o : Opens) (s : List ℕ) (t : List NodeRecord) → input_on (record { edge = result; block = f.block }) o s t
+        ≡ settle deep_of source_of ended_of (next_reader n) (i + 1) (input_on f o s t) }
 {
-    let inside = f.inside;
-    if !inside {
-        return f;
-    }
-    let halted = b.halted;
-    if halted {
-        return at_terminal();
-    }
-    if b.deep != i as usize {
-        return f;
-    }
-    Operand {
-        inside: false,
-        number: b.number,
-        complement: b.complement,
+    let b = f.block;
+    match f.edge {
+        None if b.halted => Some(TERMINAL),
+        None if b.deep == i as usize => Some(Edge {
+            number: b.number,
+            complement: b.complement,
+        }),
+        edge => edge,
     }
 }
 
-// THE FIRST HALF of a part of level i
-pub fn first_half(t: &[NodeRecord], i: u32, f: Operand, b: Block) -> Operand
-    ensures { (n : ℕ) (o : Opens) (s : List ℕ) → operand_on result b o s t.now
-        ≡ first_operand deep_of source_of ended_of (next_reader n) i (operand_on f b o s t.now) }
+// THE FIRST HALF of a part of level i: the edge of an input there, at the same block
+pub fn first_half(t: &[NodeRecord], i: u32, f: Input) -> Option<Edge>
+    ensures { (n : ℕ) (o : Opens) (s : List ℕ) → input_on (record { edge = result; block = f.block }) o s t.now
+        ≡ first_operand deep_of source_of ended_of (next_reader n) i (input_on f o s t.now) }
 {
-    let inside = f.inside;
-    if inside {
-        return settle(i, f, b);
+    if f.edge.is_none() {
+        return settle(i, f);
     }
-    let e = edge_of(f, b);
-    let r = record_at(t, e.size, e.number);
-    at_edge(first_edge(i, e, r))
+    let x = edge_of(f);
+    Some(first_edge(i, x, record_at(t, x.size, x.edge.number)).edge)
 }
 
-// The input is inside its text, which has not ended.
-fn reads(f: Operand, b: Block) -> bool
-    ensures { result ≡ (f.inside && not b.halted) }
+// The next block, unless the text has ended
+fn read_on(n: u32, s: &mut Stream<'_>, b: Block) -> Block
+    ensures same { same_stream s.new s.old }
+    ensures read { reader_of result s.new ≡ next_reader n (reader_of b s.old) }
 {
-    let inside = f.inside;
-    if inside {
-        return !b.halted;
+    if b.halted {
+        return b;
     }
-    false
+    next_block(n, s.bytes, s.table, s.opens, b.cursor)
 }
 
-// For a second half the next block is read, if the input is inside its text and that has not ended. o: the open nodes there
-fn read_on(
-    n: u32,
-    s: &[u8],
-    t: &mut [NodeRecord],
-    o: &mut [[u32; 4]; OPEN_LIMIT],
-    f: Operand,
-    b: Block,
-) -> Block
-    ensures { record { block = block_in result o.new; table = t.new }
-        ≡ read_by n s.now f (block_in b o.old) t.old }
+// THE FIRST BLOCK of a stream: the input at the outermost node
+pub fn begin(n: u32, s: &mut Stream<'_>) -> Input
+    ensures same { same_stream s.new s.old }
+    ensures begun { input_of result s.new ≡ begun_from n s.old.bytes.now s.old.opens.now s.old.table.now }
 {
-    if reads(f, b) {
-        let c = b.cursor;
-        return next_block(n, s, t, o, c);
-    }
-    b
+    let block = next_block(n, s.bytes, s.table, s.opens, first_cursor());
+    let edge = settle(0, Input { edge: None, block });
+    Input { edge, block }
 }
 
-fn second_operand(t: &[NodeRecord], i: u32, f: Operand, b: Block) -> Operand
-    ensures { (n : ℕ) (o : Opens) (s : List ℕ) → operand_on result b o s t.now ≡ arrived n i (operand_on f b o s t.now) }
+// THE SECOND HALF of a part of level i; f: the input there, with the block that was read last. For it the next block is read, if it is inside its text.
+pub fn second_half(n: u32, i: u32, s: &mut Stream<'_>, f: Input) -> Input
+    ensures same { same_stream s.new s.old }
+    ensures gone { input_of result s.new ≡ second_operand deep_of source_of ended_of (next_reader n) i (input_of f s.old) }
 {
-    let inside = f.inside;
-    if inside {
-        return settle(i, f, b);
+    if f.edge.is_none() {
+        let block = read_on(n, s, f.block);
+        let edge = settle(i, Input { block, ..f });
+        return Input { edge, block };
     }
-    let e = edge_of(f, b);
-    let r = record_at(t, e.size, e.number);
-    at_edge(second_edge(i, e, r))
-}
-
-// THE FIRST BLOCK of a stream: the input at the outermost node. o: cells for its open nodes
-pub fn begin(n: u32, s: &[u8], t: &mut [NodeRecord], o: &mut [[u32; 4]; OPEN_LIMIT]) -> Begun
-    ensures { begun_in result o.new s.now t.new ≡ begun_from n s.now o.old t.old }
-{
-    let b = next_block(n, s, t, o, first_cursor());
-    let f = Operand {
-        inside: true,
-        number: 0,
-        complement: false,
-    };
-    Begun {
-        operand: settle(0, f, b),
-        block: b,
-    }
-}
-
-// THE SECOND HALF of a part of level i that the input was at as f; b: the block that was read last
-pub fn second_half(
-    n: u32,
-    i: u32,
-    s: &[u8],
-    t: &mut [NodeRecord],
-    o: &mut [[u32; 4]; OPEN_LIMIT],
-    f: Operand,
-    b: Block,
-) -> Begun
-    ensures { begun_in result o.new s.now t.new
-        ≡ second_operand deep_of source_of ended_of (next_reader n) i (operand_of f b o.old s.now t.old) }
-{
-    let c = read_on(n, s, t, o, f, b);
-    Begun {
-        operand: second_operand(t, i, f, c),
-        block: c,
+    let x = edge_of(f);
+    let t = &mut *s.table;
+    let y = second_edge(i, x, record_at(t, x.size, x.edge.number));
+    Input {
+        edge: Some(y.edge),
+        ..f
     }
 }
 
 // What it decides at the first word of the part
-pub fn first_value(f: Operand, b: Block) -> bool
-    ensures { result ≡ cond f.inside b.complement f.complement }
+pub fn first_value(f: Input) -> bool
+    ensures { result ≡ first_value_of f }
 {
-    let inside = f.inside;
-    if inside {
-        return b.complement;
+    match f.edge {
+        Some(edge) => edge.complement,
+        None => f.block.complement,
     }
-    f.complement
 }

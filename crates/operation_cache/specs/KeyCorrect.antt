@@ -1,121 +1,116 @@
 -- One law for each way through code that keeps an operation cache. Assumes nothing.
-use Rattle.std.specs.Prelude.{◌≡◌, refl, Bool, true, false, cond, ◌&&◌, ◌||◌, List, [], ◌∷◌, ℕ, zero, suc, ◌+◌, ◌-◌, ◌*◌, ◌%◌, ◌≤◌, eqb, length, get_or, set}
-use Rattle.std.proofs.Common.{sym, ap, ap₂, ◌∙◌, arith, eq-eqb, ne_eqb}
-use Rattle.std.proofs.Math.ListN.{get_or-eq_default}
+use Rattle.std.specs.Prelude.{◌≡◌, refl, Bool, true, false, cond, not, ◌&&◌, ◌||◌, List, [], ℕ, ◌+◌, ◌-◌, ◌*◌, ◌%◌, ◌<◌, eqb, length, get_or, Option, None, Some}
+use Rattle.std.proofs.Common.{sym, ap, ap₂, ◌∙◌, eq-eqb, ne_eqb}
+use Rattle.std.proofs.Math.Bool.{beq}
+use Rattle.std.proofs.lemmas.List.{get_or-map}
 use Rattle.theory_lists.specs.Lists.{bit}
 use Rattle.theory_engine.specs.Cells.{cell}
 use Rattle.writer_numbers.specs.Hashing.{edge_span, stir}
 use Rattle.theory_engine.specs.Engine as E
-use Rattle.theory_applying.specs.Memo.{is_young, number_in, stamp_in, complement_in, told_half, cache_entries, slot_from, slot_of}
+use Rattle.theory_applying.specs.Memo.{is_young, complement_in, cache_entries, slot_from, slot_of}
 use Rattle.meeting.specs.Abstraction.{half_of}
 use Rattle.meeting.specs.declared.Half.{Half}
-use Rattle.operation_cache.specs.Abstraction.{key_cells, holds, told_by, tells_by, noted_entry, noted_by}
+use Rattle.operation_cache.specs.Abstraction.{key_cells, row_of, rows_of, holds, tells_by}
+use Rattle.operation_cache.specs.declared.Entry.{Entry}
 use Rattle.operation_cache.specs.declared.Key.{Key}
-use Rattle.operation_cache.specs.declared.Told.{Told}
 use Rattle.node_records.specs.declared.WriterRecord.{WriterRecord}
 
 -- ---- The place of a key ----------------------------------------------------------------------
 
-pub slot-pair : (k : Key) (v w : ℕ) → v ≡ stir 2654435769 (k.stamp1 * edge_span + k.number1 * 2 + k.complement1)
-    → w ≡ stir 2654435769 (v % 4294967296 + (k.stamp2 * edge_span + k.number2 * 2 + k.complement2)) → w % cache_entries ≡ slot_of (key_cells k)
-unfolding slot_from
-slot-pair k v w e f =
-    let a : ℕ = k.stamp1 * edge_span + k.number1 * 2 + k.complement1 in
-    let z : a ≡ 0 + a = omega arith in
-    ap (λ (w : ℕ). w % cache_entries) (f ∙ ap (λ (v : ℕ). stir 2654435769 (v % 4294967296 + (k.stamp2 * edge_span + k.number2 * 2 + k.complement2)))
-    (e ∙ ap (stir 2654435769) z))
+-- one input after the other
+abbrev pub mixed_by : ℕ → ℕ → ℕ → Bool → ℕ
+mixed_by v k g c = stir 2654435769 (v % 4294967296 + (g * edge_span + k * 2 + bit c))
 
-pub bit-as : (b : Bool) (x : ℕ) → x ≡ cond b 1 0 → x ≡ bit b
-bit-as true x e = e
-bit-as false x e = e
+pub slot-pair : (k : Key) → mixed_by (mixed_by 0 k.number1 k.stamp1 k.complement1) k.number2 k.stamp2 k.complement2 % cache_entries ≡ slot_of (key_cells k)
+unfolding slot_from
+slot-pair k = refl
 
 -- ---- What a row tells ------------------------------------------------------------------------
 
--- nothing is known
-pub told_none : (x : Told) (r : List ℕ) (i : ℕ) (t : List WriterRecord) → x.known ≡ false
-    → cond x.known (half_of x.half) (told_half r i t) ≡ told_half r i t
-told_none x r i t e = ap (λ (b : Bool). cond b (half_of x.half) (told_half r i t)) e
+-- the row p, in which code found e
+pub row-here : (c : List (Option Entry)) (p : ℕ) (x : Option Entry) (e : Entry) → p < length c → ((d : Option Entry) → x ≡ get_or c p d) → x ≡ Some e
+    → get_or (rows_of c) p [] ≡ row_of (Some e)
+row-here c p x e l f g = get_or-map row_of c p x [] l ∙ ap row_of (sym (f x) ∙ g)
 
--- its number was given out again
-pub told-old : (x : Told) (r : List ℕ) (i s : ℕ) (t : List WriterRecord) → x.known ≡ false → (get_or r 1 0 ≡ 0 → ⊥)
-    → s ≡ cell t 4 (get_or r 1 0) → (s ≡ get_or r 2 0 → ⊥) → told_by x r i t
-told-old x r i s t e z f g = (
-  e ∙ sym (ap₂ ◌||◌ (ne_eqb (number_in r) 0 z) (ne_eqb (cell t 4 (number_in r)) (stamp_in r) (λ h. g (f ∙ h)))),
-  told_none x r i t e,
-)
+pub not-is : (a b : Bool) → a ≡ not b → b ≡ not a
+not-is a true e = sym (ap not e)
+not-is a false e = sym (ap not e)
 
--- the constant
-pub told-constant : (x : Told) (h : Half) (v : Bool) (r : List ℕ) (i : ℕ) (t : List WriterRecord) → x ≡ record { known = true; half = h }
-    → h ≡ record { number = 0; stamp = 0; skipped = 0; temporary = false; complement = v; wrote = false } → get_or r 1 0 ≡ 0
-    → v ≡ complement_in r → told_by x r i t
-told-constant x h v r i t e f z g = (
-  ap (λ (x : Told). x.known) e ∙ sym (ap (λ (b : Bool). b || eqb (cell t 4 (number_in r)) (stamp_in r)) (eq-eqb (number_in r) 0 z)),
-  ap (λ (x : Told). cond x.known (half_of x.half) (told_half r i t)) e ∙ ap half_of f ∙ ap E.constant_half g
-      ∙ sym (ap (λ (b : Bool). cond b (E.constant_half (complement_in r))
-      (E.number_half (number_in r) (stamp_in r) (cell t 0 (number_in r) - i) (complement_in r) false)) (eq-eqb (number_in r) 0 z)),
-)
+-- nothing tells nothing
+pub tells-none : (r : List ℕ) (k : Key) (i : ℕ) (t : List WriterRecord) → holds r k ≡ false → tells_by None r k i t
+tells-none r k i t e = (sym (ap (λ (b : Bool). b && is_young r t) e), refl)
 
--- a number that still has its stamp; s, l: its stamp and level, j: the levels skipped
-pub told-number : (x : Told) (h : Half) (v : Bool) (r : List ℕ) (i s l j : ℕ) (t : List WriterRecord) → x ≡ record { known = true; half = h }
-    → h ≡ record { number = get_or r 1 0; stamp = get_or r 2 0; skipped = j; temporary = false; complement = v; wrote = false }
-    → (get_or r 1 0 ≡ 0 → ⊥) → v ≡ complement_in r → s ≡ cell t 4 (get_or r 1 0) → s ≡ get_or r 2 0 → l ≡ cell t 0 (get_or r 1 0) → j ≡ l - i
-    → told_by x r i t
-told-number x h v r i s l j t e f z g p q u w = (
-  ap (λ (x : Told). x.known) e
-      ∙ sym (ap₂ ◌||◌ (ne_eqb (number_in r) 0 z) (eq-eqb (cell t 4 (number_in r)) (stamp_in r) (sym p ∙ q))),
-  ap (λ (x : Told). cond x.known (half_of x.half) (told_half r i t)) e ∙ ap half_of f
-      ∙ ap₂ (λ (j : ℕ) (v : Bool). E.number_half (number_in r) (stamp_in r) j v false) (w ∙ ap (λ (l : ℕ). l - i) u) g
-      ∙ sym (ap (λ (b : Bool). cond b (E.constant_half (complement_in r))
-      (E.number_half (number_in r) (stamp_in r) (cell t 0 (number_in r) - i) (complement_in r) false)) (ne_eqb (number_in r) 0 z)),
-)
+bit-plus : (b : Bool) → eqb (bit b + 1) 0 ≡ false
+bit-plus true = refl
+bit-plus false = refl
 
--- a row past the end has nothing
-pub tells-past : (x : Told) (μ : List (List ℕ)) (p : ℕ) (k : Key) (i : ℕ) (t : List WriterRecord) → x.known ≡ false → length μ ≤ p
-    → tells_by x (get_or μ p []) k i t
-tells-past x μ p k i t e l =
-    let r = get_or μ p [] in (
-      e ∙ sym (ap (λ (r : List ℕ). holds r k && is_young r t) (get_or-eq_default μ [] l)),
-      told_none x r i t e,
+bit-two : (b : Bool) → b ≡ eqb (bit b + 1) 2
+bit-two true = refl
+bit-two false = refl
+
+bit-same : (a b : Bool) → eqb (bit a) (bit b) ≡ beq a b
+bit-same true true = refl
+bit-same true false = refl
+bit-same false true = refl
+bit-same false false = refl
+
+-- two keys are the same, as a derived test has it
+abbrev pub alike : Key → Key → Bool
+alike a b = eqb a.number1 b.number1 && (eqb a.stamp1 b.stamp1 && (eqb a.number2 b.number2 && (eqb a.stamp2 b.stamp2
+    && (beq a.complement1 b.complement1 && beq a.complement2 b.complement2))))
+
+in-order : (a b x c d y : Bool) → (a && (b && (x && (c && (d && y))))) ≡ (a && (b && (c && (d && (x && y)))))
+in-order false b x c d y = refl
+in-order true false x c d y = refl
+in-order true true true c d y = refl
+in-order true true false false d y = refl
+in-order true true false true false y = refl
+in-order true true false true true y = refl
+
+module _ (e : Entry) (k : Key) (i : ℕ) (t : List WriterRecord) where
+  abbrev row : List ℕ
+  row = row_of (Some e)
+
+  pub holds-alike : holds row k ≡ alike e.key k
+  holds-alike =
+      ap₂ (λ (z u : Bool). not z && (eqb e.key.number1 k.number1 && (eqb e.key.stamp1 k.stamp1 && (u && (eqb e.key.number2 k.number2
+      && (eqb e.key.stamp2 k.stamp2 && eqb (bit e.key.complement2) (bit k.complement2))))))) (bit-plus e.complement) (bit-same e.key.complement1 k.complement1)
+      ∙ ap (λ (u : Bool). eqb e.key.number1 k.number1 && (eqb e.key.stamp1 k.stamp1 && (beq e.key.complement1 k.complement1 && (eqb e.key.number2 k.number2
+      && (eqb e.key.stamp2 k.stamp2 && u))))) (bit-same e.key.complement2 k.complement2)
+      ∙ in-order (eqb e.key.number1 k.number1) (eqb e.key.stamp1 k.stamp1) (beq e.key.complement1 k.complement1) (eqb e.key.number2 k.number2)
+      (eqb e.key.stamp2 k.stamp2) (beq e.key.complement2 k.complement2)
+
+  -- another key
+  pub tells-other : alike e.key k ≡ false → tells_by None row k i t
+  tells-other h = tells-none row k i t (holds-alike ∙ h)
+
+  module _ (same : alike e.key k ≡ true) where
+    held : (b : Bool) → b ≡ (holds row k && b)
+    held b = sym (ap (λ (z : Bool). z && b) (holds-alike ∙ same))
+
+    -- the constant
+    pub tells-constant : (h : Half) → h ≡ record { number = 0; stamp = 0; skipped = 0; temporary = false; complement = e.complement; wrote = false }
+        → e.number ≡ 0 → tells_by (Some h) row k i t
+    tells-constant h f z = (
+      sym (ap (λ (b : Bool). b || eqb (cell t 4 e.number) e.stamp) (eq-eqb e.number 0 z)) ∙ held _,
+      ap half_of f ∙ ap E.constant_half (bit-two e.complement)
+          ∙ sym (ap (λ (b : Bool). cond b (E.constant_half (complement_in row))
+          (E.number_half e.number e.stamp (cell t 0 e.number - i) (complement_in row) false)) (eq-eqb e.number 0 z)),
     )
 
--- another key, or none; b: as code tests it
-pub tells-other : (x : Told) (r : List ℕ) (k : Key) (i : ℕ) (t : List WriterRecord) (b : Bool) → x.known ≡ false → b ≡ holds r k → b ≡ false
-    → tells_by x r k i t
-tells-other x r k i t b e h f =
-    (e ∙ sym (ap (λ (b : Bool). b && is_young r t) (sym h ∙ f)), told_none x r i t e)
+    -- its number was given out again; s: its stamp now
+    pub tells-old : (s : ℕ) → (e.number ≡ 0 → ⊥) → s ≡ cell t 4 e.number → (s ≡ e.stamp → ⊥) → tells_by None row k i t
+    tells-old s z f g = (
+      sym (ap₂ ◌||◌ (ne_eqb e.number 0 z) (ne_eqb (cell t 4 e.number) e.stamp (λ h. g (f ∙ h)))) ∙ held _,
+      refl,
+    )
 
-pub tells-here : (x : Told) (r : List ℕ) (k : Key) (i : ℕ) (t : List WriterRecord) (b : Bool) → told_by x r i t → b ≡ holds r k → b ≡ true
-    → tells_by x r k i t
-tells-here x r k i t b y h f = (y.0 ∙ sym (ap (λ (b : Bool). b && is_young r t) (sym h ∙ f)), y.1)
-
--- ---- Remembering -----------------------------------------------------------------------------
-
-pub set_past : {A : Type 0} (l : List A) (p : ℕ) (x : A) → length l ≤ p → l ≡ set l p x
-set_past [] p x h = refl
-set_past (y ∷ l) zero x h = absurd (omega (arith, h))
-set_past (y ∷ l) (suc p) x h = ap (λ (l : List _). y ∷ l) (set_past l p x (omega (arith, h)))
-
--- e: the first cell
-pub entry-correct : (k : Key) (h : E.Half) (e : ℕ) → e ≡ cond h.complement 2 1 → e ∷ h.number ∷ h.stamp ∷ key_cells k ≡ noted_entry k h
-entry-correct k h e f = ap (λ (e : ℕ). e ∷ h.number ∷ h.stamp ∷ key_cells k) (f ∙ two h.complement)
-  where
-    two : (b : Bool) → cond b 2 1 ≡ bit b + 1
-    two true = refl
-    two false = refl
-
--- whether it is noted: more was sent (u), both pass (b), temporary
-pub noted-full : (μ : List (List ℕ)) (p : ℕ) (k : Key) (u b : Bool) (h : E.Half) → u ≡ true → μ ≡ noted_by μ p k (u || b) h
-noted-full μ p k u b h e = sym (ap (λ (u : Bool). noted_by μ p k (u || b) h) e)
-
-pub noted-pass : (μ : List (List ℕ)) (p : ℕ) (k : Key) (u b : Bool) (h : E.Half) → u ≡ false → b ≡ true → μ ≡ noted_by μ p k (u || b) h
-noted-pass μ p k u b h e f = sym (ap₂ (λ (u b : Bool). noted_by μ p k (u || b) h) e f)
-
-pub noted-temporary : (μ : List (List ℕ)) (p : ℕ) (k : Key) (u b : Bool) (h : E.Half) → u ≡ false → b ≡ false → h.temporary ≡ true
-    → μ ≡ noted_by μ p k (u || b) h
-noted-temporary μ p k u b h e f g =
-    sym (ap (λ (g : Bool). cond g μ (set μ p (noted_entry k h))) g) ∙ sym (ap₂ (λ (u b : Bool). noted_by μ p k (u || b) h) e f)
-
-pub noted_here : (μ : List (List ℕ)) (p : ℕ) (k : Key) (u b : Bool) (h : E.Half) → u ≡ false → b ≡ false → h.temporary ≡ false
-    → set μ p (noted_entry k h) ≡ noted_by μ p k (u || b) h
-noted_here μ p k u b h e f g =
-    sym (ap (λ (g : Bool). cond g μ (set μ p (noted_entry k h))) g) ∙ sym (ap₂ (λ (u b : Bool). noted_by μ p k (u || b) h) e f)
+    -- a number that still has its stamp; s, l: its stamp and level
+    pub tells-number : (h : Half) (s l : ℕ) → h ≡ record { number = e.number; stamp = e.stamp; skipped = l - i; temporary = false; complement = e.complement; wrote = false }
+        → (e.number ≡ 0 → ⊥) → s ≡ cell t 4 e.number → s ≡ e.stamp → l ≡ cell t 0 e.number → tells_by (Some h) row k i t
+    tells-number h s l f z p q u = (
+      sym (ap₂ ◌||◌ (ne_eqb e.number 0 z) (eq-eqb (cell t 4 e.number) e.stamp (sym p ∙ q))) ∙ held _,
+      ap half_of f ∙ ap₂ (λ (l : ℕ) (v : Bool). E.number_half e.number e.stamp (l - i) v false) u (bit-two e.complement)
+          ∙ sym (ap (λ (b : Bool). cond b (E.constant_half (complement_in row))
+          (E.number_half e.number e.stamp (cell t 0 e.number - i) (complement_in row) false)) (ne_eqb e.number 0 z)),
+    )

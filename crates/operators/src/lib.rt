@@ -5,8 +5,6 @@ ghost use Rattle.std.specs.Prelude.{◌≡◌, cond, [], ◌∷◌};
 ghost use Rattle.theory_writing.specs.Run.{operate};
 ghost use Rattle.operators.specs.Operators.{opens_first, opens_second};
 
-use node_records::differs;
-
 // ---- The truth tables
 
 const T: bool = true;
@@ -17,14 +15,16 @@ const F: bool = false;
 fn result(a: bool, b: bool, r00: bool, r01: bool, r10: bool, r11: bool) -> bool
     ensures { result ≡ cond a (cond b r11 r10) (cond b r01 r00) }
 {
-    if a {
-        if b { r11 } else { r10 }
-    } else {
-        if b { r01 } else { r00 }
+    match (a, b) {
+        (false, false) => r00,
+        (false, true) => r01,
+        (true, false) => r10,
+        (true, true) => r11,
     }
 }
 
 // What the operator gives for two decisions; of a number above 15 the last four binary digits count
+// (kept: the operator is a number, as include/rule.h and the theory's `operate` have it)
 pub fn operate(op: u32, a: bool, b: bool) -> bool
     ensures { result ≡ operate op (a ∷ b ∷ []) }
 {
@@ -54,15 +54,16 @@ pub fn operate(op: u32, a: bool, b: bool) -> bool
 // ---- Whether a decision counts
 
 // The results differ for the two decisions of the first input, beside the decision d of the second.
+// (kept: a function for each input, as Operators has two definitions, by which clauses of three crates speak; with a const parameter the clause has both)
 pub fn opens_first(op: u32, d: bool) -> bool
     ensures { result ≡ opens_first op d }
 {
-    differs(operate(op, false, d), operate(op, true, d))
+    operate(op, false, d) != operate(op, true, d)
 }
 
 // Likewise of the second, beside the decision d of the first.
 pub fn opens_second(op: u32, d: bool) -> bool
     ensures { result ≡ opens_second op d }
 {
-    differs(operate(op, d, false), operate(op, d, true))
+    operate(op, d, false) != operate(op, d, true)
 }

@@ -20,7 +20,7 @@ use Rattle.scanner.specs.declared.NextToken.{NextToken}
 use Rattle.elements.specs.OpenLaws.{deep-most, deep-self, low-deep, high-deep}
 use Rattle.scanner.specs.TokenLaws.{depth-after}
 
--- THE CODE'S STEP, from what its callees promise, the table of kinds being lent
+-- THE CODE'S STEP, from what its callees promise
 module _ (bytes : List ℕ) (p : Place) (long : length p.opens.nodes ≡ open_limit) where
   abbrev ns : List Open
   ns = p.opens.nodes
@@ -40,8 +40,8 @@ module _ (bytes : List ℕ) (p : Place) (long : length p.opens.nodes ≡ open_li
       ∙ ap₂ (λ (n : ℕ) (t : G.Top). G.applied (place_of p) (cap_scanned (G.scan_token kind_table bytes p.at (context_of p.context) t n)))
       (open-length ns d) (sym (open-top ns d (deep-most p.opens.depth)))
 
-  pub place-step : (k : List ℕ) → k ≡ kind_table → (i j : ℕ) → i ≡ low_at p.opens.depth → j ≡ high_at p.opens.depth
-      → (x : NextToken) → next_token_view x ≡ next_token k bytes p.at (context_of p.context) p.last p.opens.depth (entry i)
+  pub place-step : (i j : ℕ) → i ≡ low_at p.opens.depth → j ≡ high_at p.opens.depth
+      → (x : NextToken) → next_token_view x ≡ next_token kind_table bytes p.at (context_of p.context) p.last p.opens.depth (entry i)
       → stepped_of (record {
         outcome = outcome_in x;
         place = record {
@@ -53,12 +53,12 @@ module _ (bytes : List ℕ) (p : Place) (long : length p.opens.nodes ≡ open_li
         };
       })
       ≡ cap_step (T.step (place_of p) bytes)
-  place-step k ke i j ie je x xe =
+  place-step i j ie je x xe =
       let il : i ≡ low_at d = ie ∙ low-deep p.opens.depth in
       let jh : j ≡ high_at d = je ∙ high-deep p.opens.depth in
       let c : G.Change = seen.change in
       let same : next_token_view x ≡ next_token_by (plain d seen) p.last (entry (low_at d))
-      = xe ∙ ap₂ (λ (l : List ℕ) (a : ℕ). next_token l bytes p.at (context_of p.context) p.last p.opens.depth (entry a)) ke il in
+      = xe ∙ ap (λ (a : ℕ). next_token kind_table bytes p.at (context_of p.context) p.last p.opens.depth (entry a)) il in
       let room : Pushes c → d < open_limit = scan-room kind_table bytes p.at (context_of p.context) (side_of d (entry (low_at d))) d in
       let most : d ≤ open_limit = deep-most p.opens.depth in
       let opens : opens_of (set (set ns j inside_open) i x.low) (deep_of x.depth) ≡ G.changed c (ref_of p.last) (opens_of ns d)

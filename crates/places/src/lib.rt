@@ -3,12 +3,11 @@
 ghost use Rattle.std.specs.Prelude.{◌≡◌};
 ghost use Rattle.theory_reading.specs.Element.{begin, step};
 ghost use Rattle.scanner.specs.Capped.{cap_step};
-ghost use Rattle.scanner.specs.TokenView.{outcome_in};
 ghost use Rattle.places.specs.Abstraction.{place_of, stepped_of};
 
-use elements::{Context, Element, OPEN_LIMIT, Opens, Outcome, Ref, inside, spots_of};
+use elements::{Context, OPEN_LIMIT, Open, Opens, Outcome, Ref, spots_of};
 use kinds::kinds;
-use scanner::{NextToken, Token, next_token};
+use scanner::next_token;
 
 // A place in a stream: the bytes before it, what stands there, the open nodes, what ended last.
 #[derive(Clone, Copy)]
@@ -26,45 +25,19 @@ pub struct Stepped {
     pub place: Place,
 }
 
-fn outcome_of(x: NextToken) -> Outcome
-    ensures { result ≡ outcome_in x }
-{
-    let w = x.token;
-    match w {
-        Token::Opening => Outcome::Got(Element::Opening),
-        Token::Number => Outcome::Got(Element::Number(x.number)),
-        Token::Constant => Outcome::Got(Element::Constant),
-        Token::Turn => Outcome::Got(Element::Turn),
-        Token::Closing => Outcome::Got(Element::Closing),
-        Token::Storing => Outcome::Got(Element::Storing(x.number)),
-        Token::End => Outcome::Got(Element::End),
-        Token::Fault => {
-            let c = x.cause;
-            Outcome::Fault(c, x.byte)
-        }
-        Token::Out => Outcome::RanOut,
-    }
-}
-
 impl Place {
     // Before the first byte of a stream.
     pub fn begin() -> Place
         ensures { place_of result ≡ begin }
     {
-        let e = inside();
-        let o = Opens {
-            nodes: [e; OPEN_LIMIT],
-            depth: 0,
-        };
-        let r = Ref {
-            number: 0,
-            stamp: 1,
-        };
         Place {
             at: 0,
             context: Context::Start,
-            opens: o,
-            last: r,
+            opens: Opens {
+                nodes: [Open::INSIDE; OPEN_LIMIT],
+                depth: 0,
+            },
+            last: Ref::TEMPORARY,
         }
     }
 
@@ -72,28 +45,28 @@ impl Place {
     pub fn step(self, s: &[u8]) -> Stepped
         ensures { stepped_of result ≡ cap_step (step (place_of self) s.now) }
     {
-        let k = kinds();
-        let mut o = self.opens;
-        let d = o.depth;
-        let p = spots_of(d);
-        let i = p.low;
-        let j = p.high;
-        let low = o.nodes[i];
-        let last = self.last;
-        let m = self.context;
-        let x = next_token(&k, s, self.at, m, last, d, low);
-        let l = x.low;
-        o.nodes[j] = inside();
-        o.nodes[i] = l;
-        o.depth = x.depth;
-        let m1 = x.context;
+        let mut opens = self.opens;
+        let spots = spots_of(opens.depth);
+        let low = opens.nodes[spots.low];
+        let x = next_token(
+            kinds(),
+            s,
+            self.at,
+            self.context,
+            self.last,
+            opens.depth,
+            low,
+        );
+        opens.nodes[spots.high] = Open::INSIDE;
+        opens.nodes[spots.low] = x.low;
+        opens.depth = x.depth;
         Stepped {
-            outcome: outcome_of(x),
+            outcome: Outcome::from(x),
             place: Place {
                 at: x.at,
-                context: m1,
-                opens: o,
-                last: last,
+                context: x.context,
+                opens,
+                ..self
             },
         }
     }

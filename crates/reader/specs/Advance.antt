@@ -1,5 +1,5 @@
 -- One iteration of the code's loop is one element more of the theory's reading. Assumes nothing.
-use Rattle.std.specs.Prelude.{◌≡◌, refl, Bool, true, false, cond, not, ◌&&◌, ◌||◌, List, [], ◌∷◌, ℕ, zero, suc, ◌+◌, ◌<◌, ◌≤◌, ltb, eqb, length, get_or, set, replicate}
+use Rattle.std.specs.Prelude.{◌≡◌, refl, Bool, true, false, cond, not, ◌&&◌, ◌||◌, List, [], ◌∷◌, ℕ, zero, suc, ◌+◌, ◌<◌, ◌≤◌, ltb, eqb, length, get_or, set, replicate, Result, Ok, Err, Option}
 use Rattle.std.proofs.Math.Path.{sym, ap}
 use Rattle.std.proofs.Common.{ap₂, ◌∙◌, subst, true≢false, arith, length-set, eqb-true, eq-eqb, ne_eqb, ltb-false}
 use Rattle.std.proofs.lemmas.Bool.{false≢true, eqb-false}
@@ -35,20 +35,22 @@ use Rattle.elements.specs.declared.Cause.{Cause}
 use Rattle.elements.specs.declared.Cause.TheVariants.{WrongByte, NotStorable, BadNumber}
 use Rattle.elements.specs.declared.Element.{Element}
 use Rattle.elements.specs.declared.Element.TheVariants as E
+use Rattle.elements.specs.declared.Fault.{Fault}
 use Rattle.scanner.specs.declared.NextToken.{NextToken}
 use Rattle.elements.specs.declared.Context.{Context}
 use Rattle.elements.specs.declared.Open.{Open}
 use Rattle.elements.specs.declared.Opens.{Opens}
 use Rattle.elements.specs.declared.Outcome.{Outcome}
-use Rattle.elements.specs.declared.Outcome.TheVariants.{Got, Fault, RanOut}
+use Rattle.elements.specs.declared.Outcome.TheVariants.{Got, RanOut}
+use Rattle.elements.specs.declared.Outcome.TheVariants as O
 use Rattle.places.specs.declared.Place.{Place}
 use Rattle.elements.specs.declared.Ref.{Ref}
 use Rattle.cursors.specs.declared.Run.{Run}
 use Rattle.node_records.specs.declared.NodeRecord.{NodeRecord}
-use Rattle.reader.specs.declared.Taken.{Taken}
 use Rattle.reader.specs.declared.Iteration.{Iteration}
 use Rattle.cursors.specs.Cursors.{is_kept_of}
-use Rattle.reader.specs.Taking.{fails_of, is_bad_of, next_stamp, stored_run, taken_of}
+use Rattle.reader.specs.Tokens.{faulty_in, cause_in, byte_in}
+use Rattle.reader.specs.Taking.{TakenView, fails_of, is_bad_of, next_stamp, stored_run, taken_of}
 use Rattle.node_records.specs.Records.{no_record}
 use Rattle.record_tables.specs.Entries.{clear_to}
 use Rattle.work_table.specs.Table.{get_in, store_at, get_none, get-above}
@@ -104,11 +106,11 @@ record_to r d x = record {
 }
 
 -- The lent table after an element of the number k: a storing puts a record, a size clears its records. r: the run before; y: what was taken
-abbrev pub updated_to : Run → ℕ → ℕ → NodeRecord → Taken → List NodeRecord → List NodeRecord
+abbrev pub updated_to : Run → ℕ → ℕ → NodeRecord → TakenView → List NodeRecord → List NodeRecord
 updated_to r d k x y t = cond y.stores (store_at t r.size k (record_to r d x)) (cond y.sizes (clear_to no_record t k) t)
 
 -- likewise by the element
-abbrev updated_by : Run → ℕ → Element → NodeRecord → Taken → List NodeRecord → List NodeRecord
+abbrev updated_by : Run → ℕ → Element → NodeRecord → TakenView → List NodeRecord → List NodeRecord
 updated_by r d E.Opening x y t = t
 updated_by r d (E.Number v) x y t = cond (is_start (context_of r.context)) (cond y.faulty t (clear_to no_record t v)) t
 updated_by r d E.Constant x y t = t
@@ -130,7 +132,7 @@ abbrev pub record_in : Run → List NodeRecord → Element → NodeRecord
 record_in r t e = get_in t r.size (number_in e)
 
 -- what code takes for the element e of the token x; d: how many nodes are open, low: the innermost
-abbrev pub taken_at : ℕ → List ℕ → Run → ℕ → Open → List NodeRecord → NextToken → Element → Taken
+abbrev pub taken_at : ℕ → List ℕ → Run → ℕ → Open → List NodeRecord → NextToken → Element → TakenView
 taken_at n bytes r d low t x e = taken_of n r d low (digit_place r.at (get_or bytes r.at 0)) e (get_in t r.size x.number) x.at x.context
 
 -- the lent table after it
@@ -199,11 +201,11 @@ size_to r (E.Storing k) = r.size
 size_to r E.End = r.size
 
 -- neither a size nor a storing
-abbrev Plain : Taken → Type 0
+abbrev Plain : TakenView → Type 0
 Plain y = (y.stores ≡ false) × (y.sizes ≡ false)
 
 -- a number that is taken is one of the table, or a size that is not above the limit
-abbrev Legal : Run → Element → Taken → Type 0
+abbrev Legal : Run → Element → TakenView → Type 0
 Legal r E.Opening y = Plain y
 Legal r (E.Number v) y = (is_start (context_of r.context) ≡ true → v ≤ table_limit)
     × ((y.stores ≡ false) × (y.sizes ≡ is_start (context_of r.context)))
@@ -224,16 +226,16 @@ Free r (E.Storing k) x = (x.parents ≡ 0) × ((r.pair.first.number ≡ k → �
 Free r E.End x = Unit {0}
 
 -- what is taken: at a fault the run stays and nothing is stored
-abbrev Effect : Run → Context → Element → Taken → Bool → Type 0
+abbrev Effect : Run → Context → Element → TakenView → Bool → Type 0
 Effect r m e y true = (y.run ≡ r) × Plain y
 Effect r m e y false = (y.run.context ≡ m) × ((y.run.size ≡ size_to r e) × Legal r e y)
 
 -- r: the run before; m: the context after
 module _ (n : ℕ) (r : Run) (d : ℕ) (o : Open) (g : ℕ) (x : NodeRecord) (at : ℕ) (m : Context) where
-  abbrev EffectBy : Element → Taken → Type 0
+  abbrev EffectBy : Element → TakenView → Type 0
   EffectBy e y = Effect r m e y y.faulty
 
-  effect-cond : (e : Element) (b : Bool) (y z : Taken) → (b ≡ true → EffectBy e y) → (b ≡ false → EffectBy e z) → EffectBy e (cond b y z)
+  effect-cond : (e : Element) (b : Bool) (y z : TakenView) → (b ≡ true → EffectBy e y) → (b ≡ false → EffectBy e z) → EffectBy e (cond b y z)
   effect-cond e true y z h k = h refl
   effect-cond e false y z h k = k refl
 
@@ -293,10 +295,10 @@ module _ (n : ℕ) (r : Run) (d : ℕ) (o : Open) (g : ℕ) (x : NodeRecord) (at
   free-taken E.End f = tt
 
   -- the place after what is taken
-  abbrev Onto : Taken → Type 0
+  abbrev Onto : TakenView → Type 0
   Onto y = y.faulty ≡ false → y.run.at ≡ at
 
-  onto-cond : (b : Bool) (y z : Taken) → Onto y → Onto z → Onto (cond b y z)
+  onto-cond : (b : Bool) (y z : TakenView) → Onto y → Onto z → Onto (cond b y z)
   onto-cond true y z h k = h
   onto-cond false y z h k = k
 
@@ -318,7 +320,7 @@ module _ (n : ℕ) (r : Run) (d : ℕ) (o : Open) (g : ℕ) (x : NodeRecord) (at
 -- ---- The table after -------------------------------------------------------------------------
 
 -- the lent table after an element that is no fault, by the element
-updated-well : (r : Run) (d : ℕ) (e : Element) (x : NodeRecord) (y : Taken) (t : List NodeRecord) → y.faulty ≡ false → Legal r e y
+updated-well : (r : Run) (d : ℕ) (e : Element) (x : NodeRecord) (y : TakenView) (t : List NodeRecord) → y.faulty ≡ false → Legal r e y
     → updated_to r d (number_in e) x y t ≡ updated_by r d e x y t
 updated-well r d E.Opening x y t f l = rw (l.0, l.1) refl
 updated-well r d (E.Number v) x y t f l = rw (f, l.1.0, l.1.1) refl
@@ -329,11 +331,11 @@ updated-well r d (E.Storing k) x y t f l = rw l.1.1 refl
 updated-well r d E.End x y t f l = rw (l.0, l.1) refl
 
 -- nothing is lent where nothing is stored
-updated-plain : (r : Run) (d k : ℕ) (x : NodeRecord) (y : Taken) (t : List NodeRecord) → Plain y → updated_to r d k x y t ≡ t
+updated-plain : (r : Run) (d k : ℕ) (x : NodeRecord) (y : TakenView) (t : List NodeRecord) → Plain y → updated_to r d k x y t ≡ t
 updated-plain r d k x y t l = rw (l.0, l.1) refl
 
 -- at a fault the table stays
-table-fault : (r : Run) (d : ℕ) (e : Element) (x : NodeRecord) (y : Taken) (u : List Node) → y.faulty ≡ true → y.stores ≡ false
+table-fault : (r : Run) (d : ℕ) (e : Element) (x : NodeRecord) (y : TakenView) (u : List Node) → y.faulty ≡ true → y.stores ≡ false
     → table_to r d e x y u ≡ u
 table-fault r d E.Opening x y u f h = refl
 table-fault r d (E.Number v) x y u f h = rw f (go (is_start (context_of r.context)))
@@ -357,7 +359,7 @@ node-put r d x = ap (λ (b : Bool). new_node (d + 1) r.pair.first.number r.pair.
     (bit-back r.pair.complement)
 
 -- the theory's table after an element is that of the lent one after it
-table-next : (r : Run) (d : ℕ) (e : Element) (x : NodeRecord) (y : Taken) (t : List NodeRecord) → table_limit ≤ length t → y.faulty ≡ false
+table-next : (r : Run) (d : ℕ) (e : Element) (x : NodeRecord) (y : TakenView) (t : List NodeRecord) → table_limit ≤ length t → y.faulty ≡ false
     → Legal r e y → Begun (context_of r.context) (element_of e)
     → table_to r d e x y (table_at r t) ≡ table_of (updated_by r d e x y t) (size_to r e)
 table-next r d E.Opening x y t room f l h = table-later r t h
@@ -418,7 +420,7 @@ record-wanted r o t kept young E.End h = tt
 -- ---- The lent table after --------------------------------------------------------------------
 
 -- The lent table keeps its length.
-pub length-updated : (r : Run) (d k : ℕ) (x : NodeRecord) (y : Taken) (t : List NodeRecord) → length (updated_to r d k x y t) ≡ length t
+pub length-updated : (r : Run) (d k : ℕ) (x : NodeRecord) (y : TakenView) (t : List NodeRecord) → length (updated_to r d k x y t) ≡ length t
 length-updated r d k x y t = go y.stores y.sizes
   where
     go : (a b : Bool) → length (cond a (store_at t r.size k (record_to r d x)) (cond b (clear_to no_record t k) t)) ≡ length t
@@ -426,7 +428,7 @@ length-updated r d k x y t = go y.stores y.sizes
     go false true = length-clear t k
     go false false = refl
 
-size_small : (r : Run) (e : Element) (y : Taken) → r.size ≤ table_limit → Legal r e y → size_to r e ≤ table_limit
+size_small : (r : Run) (e : Element) (y : TakenView) → r.size ≤ table_limit → Legal r e y → size_to r e ≤ table_limit
 size_small r E.Opening y h l = h
 size_small r (E.Number v) y h l = go (is_start (context_of r.context)) l.0
   where
@@ -439,7 +441,7 @@ size_small r E.Closing y h l = h
 size_small r (E.Storing k) y h l = h
 size_small r E.End y h l = h
 
-held_next : (r : Run) (o : Opens) (d : ℕ) (e : Element) (y : Taken) (t : List NodeRecord) → Kept r o t → y.faulty ≡ false → Legal r e y
+held_next : (r : Run) (o : Opens) (d : ℕ) (e : Element) (y : TakenView) (t : List NodeRecord) → Kept r o t → y.faulty ≡ false → Legal r e y
     → Free r e (record_in r t e)
     → Held (updated_by r d e (record_in r t e) y t) (size_to r e)
 held_next r o d E.Opening y t kept f l x = kept.held
@@ -548,13 +550,13 @@ module _ (n : ℕ) (bytes : List ℕ) (r : Run) (o : Opens) (t : List NodeRecord
   advance-token : barred_colon s b ≡ false → advance n bytes s ≡ after n s (first_digit s b) (outcome_of (outcome_in x)) onto
   advance-token free =
       let p : Place = record { at = r.at; context = r.context; opens = o; last = r.last } in
-      let e = place-step bytes p kept.nodes kind_table refl (low_at o.depth) (high_at o.depth) refl refl x seen in
+      let e = place-step bytes p kept.nodes (low_at o.depth) (high_at o.depth) refl refl x seen in
       advance-seen n bytes s kept.small (table-short r t kept.held.room)
       ∙ ap (λ (u : Bool). chosen n s b u (cap_step (T.step s.place bytes)).outcome (cap_step (T.step s.place bytes)).place) free
       ∙ ap (λ (y : T.Step). after n s (first_digit s b) y.outcome y.place) (sym e)
 
   -- a fault of the step is the fault of the theory's reading
-  advance-fault : (c : Cause) (i : ℕ) → outcome_in x ≡ Fault c i → barred_colon s b ≡ false → advance n bytes s ≡ fails s (cause_of c) i
+  advance-fault : (c : Cause) (i : ℕ) → outcome_in x ≡ O.Fault (record { cause = c; byte = i }) → barred_colon s b ≡ false → advance n bytes s ≡ fails s (cause_of c) i
   unfolding after
   advance-fault c i e free = advance-token free ∙ ap (λ (y : Outcome). after n s (first_digit s b) (outcome_of y) onto) e
 
@@ -579,7 +581,7 @@ module _ (n : ℕ) (bytes : List ℕ) (r : Run) (o : Opens) (t : List NodeRecord
         go (E.Storing k) = refl
         go E.End = refl
 
-    abbrev y : Taken
+    abbrev y : TakenView
     y = taken_at n bytes r o.depth (low_of o) t x e
 
     abbrev os' : List T.Open
@@ -615,7 +617,7 @@ module _ (n : ℕ) (bytes : List ℕ) (r : Run) (o : Opens) (t : List NodeRecord
     advance-taken free =
         advance-token free
         ∙ ap (λ (u : Outcome). after n s (first_digit s b) (outcome_of u) onto) got
-        ∙ sym (subst (λ (z : Taken). reading_of z (cond z.faulty (open_list o) os') (table_to r o.depth e (record_in r t e) z (table_at r t))
+        ∙ sym (subst (λ (z : TakenView). reading_of z (cond z.faulty (open_list o) os') (table_to r o.depth e (record_in r t e) z (table_at r t))
         ≡ with_element n s (first_digit s b) (element_of e) onto)
         (ap (λ (w : NodeRecord). taken_of n r o.depth (low_of o) (first_digit s b) e w x.at x.context) (sym record-here))
         (subst (λ (d : ℕ). let z = taken_of n r d (low_of o) (first_digit s b) e (record_in r t e) x.at x.context in
@@ -688,16 +690,47 @@ module _ (n : ℕ) (bytes : List ℕ) (r : Run) (o : Opens) (t : List NodeRecord
 
 -- ---- An iteration of the loop ----------------------------------------------------------------------
 
+-- what an iteration comes to: whether it went on, and if not, whether at a fault, and which
+pub record IterationView : Type 0 where
+  pub run : Run
+  pub depth : ℕ
+  pub low : Open
+  pub went : Bool
+  pub faulty : Bool
+  pub cause : Cause
+  pub byte : ℕ
+
 -- nothing was read. f: it is a fault
-abbrev pub stayed : Run → ℕ → Open → Bool → Cause → ℕ → Iteration
+abbrev pub stayed : Run → ℕ → Open → Bool → Cause → ℕ → IterationView
 stayed r d low f c b = record { run = r; depth = d; low = low; went = false; faulty = f; cause = c; byte = b }
 
--- an element was taken, after the token x
-abbrev pub went_by : Taken → NextToken → Iteration
-went_by y x = record { run = y.run; depth = x.depth; low = x.low; went = not y.faulty; faulty = y.faulty; cause = y.cause; byte = y.byte }
+abbrev pub went_to : Run → ℕ → Open → IterationView
+went_to r d low = record { run = r; depth = d; low = low; went = true; faulty = false; cause = WrongByte; byte = 0 }
+
+-- as code has it, one that went on; and one inside d open nodes, low the innermost, of which r is the run before
+abbrev pub went_view : Iteration → IterationView
+went_view y = went_to y.run y.depth y.low
+
+abbrev pub iteration_view : Run → ℕ → Open → Result Iteration (Option Fault) → IterationView
+iteration_view r d low (Ok y) = went_view y
+iteration_view r d low (Err f) = stayed r d low (faulty_in f) (cause_in f) (byte_in f)
+
+-- an element was taken, after which d' nodes are open, low' the innermost before it; y: what was taken
+abbrev pub went_by : Run → ℕ → Open → TakenView → ℕ → Open → IterationView
+went_by r d low y d' low' = cond y.faulty (stayed r d low true y.cause y.byte) (went_to y.run d' low')
+
+-- one that went on is no fault
+pub went-by : (r : Run) (d : ℕ) (low : Open) (y : TakenView) (d' : ℕ) (low' : Open) → (went_by r d low y d' low').went ≡ true
+    → (y.faulty ≡ false) × (went_by r d low y d' low' ≡ went_to y.run d' low')
+went-by r d low y d' low' = go y.faulty
+  where
+    go : (b : Bool) → (cond b (stayed r d low true y.cause y.byte) (went_to y.run d' low')).went ≡ true
+        → (b ≡ false) × (cond b (stayed r d low true y.cause y.byte) (went_to y.run d' low') ≡ went_to y.run d' low')
+    go true w = absurd (false≢true w)
+    go false w = (refl, refl)
 
 -- d: how many nodes are open, low: the innermost; y: what the iteration comes to, u: the lent table after it
-pub data Iterates (n : ℕ) (bytes : List ℕ) (r : Run) (d : ℕ) (low : Open) (t : List NodeRecord) (y : Iteration) (u : List NodeRecord) : Type 0 where
+pub data Iterates (n : ℕ) (bytes : List ℕ) (r : Run) (d : ℕ) (low : Open) (t : List NodeRecord) (y : IterationView) (u : List NodeRecord) : Type 0 where
   past : length bytes ≤ r.at → y ≡ stayed r d low false WrongByte 0 → u ≡ t → Iterates n bytes r d low t y u
   barred : barred_by t r (get_or bytes r.at 0) ≡ true → y ≡ stayed r d low true NotStorable r.at → u ≡ t → Iterates n bytes r d low t y u
   out : barred_by t r (get_or bytes r.at 0) ≡ false → (x : NextToken) → next_token_view x
@@ -705,10 +738,10 @@ pub data Iterates (n : ℕ) (bytes : List ℕ) (r : Run) (d : ℕ) (low : Open) 
       → outcome_in x ≡ RanOut → y ≡ stayed r d low false WrongByte 0 → u ≡ t → Iterates n bytes r d low t y u
   fault : barred_by t r (get_or bytes r.at 0) ≡ false → (x : NextToken) → next_token_view x
       ≡ next_token kind_table bytes r.at (context_of r.context) r.last d low
-      → (c : Cause) (i : ℕ) → outcome_in x ≡ Fault c i → y ≡ stayed r d low true c i → u ≡ t → Iterates n bytes r d low t y u
+      → (c : Cause) (i : ℕ) → outcome_in x ≡ O.Fault (record { cause = c; byte = i }) → y ≡ stayed r d low true c i → u ≡ t → Iterates n bytes r d low t y u
   took : r.at < length bytes → barred_by t r (get_or bytes r.at 0) ≡ false → (x : NextToken) → next_token_view x
       ≡ next_token kind_table bytes r.at (context_of r.context) r.last d low
-      → (e : Element) → outcome_in x ≡ Got e → y ≡ went_by (taken_at n bytes r d low t x e) x → u ≡ updated_at n bytes r d low t x e
+      → (e : Element) → outcome_in x ≡ Got e → y ≡ went_by r d low (taken_at n bytes r d low t x e) x.depth x.low → u ≡ updated_at n bytes r d low t x e
       → Iterates n bytes r d low t y u
 
 -- reading halts at s: at a fault, or since the bytes ran out
@@ -717,7 +750,7 @@ HaltsAt n bytes s true c b = advance n bytes s ≡ fails s (cause_of c) b
 HaltsAt n bytes s false c b = advance n bytes s ≡ goes s
 
 -- what an iteration comes to: it goes on, or halts
-abbrev pub Comes : ℕ → List ℕ → Run → Opens → List NodeRecord → Iteration → List NodeRecord → Bool → Type 0
+abbrev pub Comes : ℕ → List ℕ → Run → Opens → List NodeRecord → IterationView → List NodeRecord → Bool → Type 0
 Comes n bytes r o t y u true =
     (advance n bytes (state_at r o t) ≡ goes (state_at y.run (opens_to o y.depth y.low) u))
     × (Kept y.run (opens_to o y.depth y.low) u × ((r.at < length bytes)
@@ -725,7 +758,7 @@ Comes n bytes r o t y u true =
 Comes n bytes r o t y u false = (u ≡ t) × HaltsAt n bytes (state_at r o t) y.faulty y.cause y.byte
 
 module _ (n : ℕ) (bytes : List ℕ) (r : Run) (o : Opens) (t : List NodeRecord) (kept : Kept r o t) (young : Young r t) where
-  abbrev ComesBy : Iteration → List NodeRecord → Type 0
+  abbrev ComesBy : IterationView → List NodeRecord → Type 0
   ComesBy y u = Comes n bytes r o t y u y.went
 
   free : barred_by t r (get_or bytes r.at 0) ≡ false → barred_colon (state_at r o t) (byte_at bytes (state_at r o t)) ≡ false
@@ -734,16 +767,16 @@ module _ (n : ℕ) (bytes : List ℕ) (r : Run) (o : Opens) (t : List NodeRecord
   comes-took : (x : NextToken) → next_token_view x ≡ next_token kind_table bytes r.at (context_of r.context) r.last o.depth (low_of o)
       → (e : Element) → outcome_in x ≡ Got e
       → r.at < length bytes → barred_by t r (get_or bytes r.at 0) ≡ false
-      → ComesBy (went_by (taken_at n bytes r o.depth (low_of o) t x e) x) (updated_at n bytes r o.depth (low_of o) t x e)
+      → ComesBy (went_by r o.depth (low_of o) (taken_at n bytes r o.depth (low_of o) t x e) x.depth x.low)
+      (updated_at n bytes r o.depth (low_of o) t x e)
   comes-took x seen e got l h = go (taken_at n bytes r o.depth (low_of o) t x e).faulty refl
     where
-      y : Taken
+      y : TakenView
       y = taken_at n bytes r o.depth (low_of o) t x e
 
-      go : (f : Bool) → y.faulty ≡ f → Comes n bytes r o t (went_by y x) (updated_at n bytes r o.depth (low_of o) t x e) (not f)
-      go true i =
-          let k = advance-refused n bytes r o t kept x seen e got young i (free h) in
-          (k.1, subst (λ (f : Bool). HaltsAt n bytes (state_at r o t) f y.cause y.byte) (sym i) k.0)
+      go : (f : Bool) → y.faulty ≡ f → ComesBy (cond f (stayed r o.depth (low_of o) true y.cause y.byte) (went_to y.run x.depth x.low))
+          (updated_at n bytes r o.depth (low_of o) t x e)
+      go true i = let k = advance-refused n bytes r o t kept x seen e got young i (free h) in (k.1, k.0)
       go false i = (
         advance-element n bytes r o t kept x seen e got young i (free h),
         (
@@ -756,21 +789,21 @@ module _ (n : ℕ) (bytes : List ℕ) (r : Run) (o : Opens) (t : List NodeRecord
       )
 
   -- WHAT AN ITERATION COMES TO
-  comes : (y : Iteration) (u : List NodeRecord) → Iterates n bytes r o.depth (low_of o) t y u → ComesBy y u
-  comes y u (past h e k) = subst (λ (z : Iteration). ComesBy z u) (sym e) (k, advance-past n bytes (state_at r o t) h)
-  comes y u (barred h e k) = subst (λ (z : Iteration). ComesBy z u) (sym e)
+  comes : (y : IterationView) (u : List NodeRecord) → Iterates n bytes r o.depth (low_of o) t y u → ComesBy y u
+  comes y u (past h e k) = subst (λ (z : IterationView). ComesBy z u) (sym e) (k, advance-past n bytes (state_at r o t) h)
+  comes y u (barred h e k) = subst (λ (z : IterationView). ComesBy z u) (sym e)
       (k, advance-barred n bytes r o t (barred-records r o t (byte_at bytes (state_at r o t)) ∙ h))
-  comes y u (out h x seen i e k) = subst (λ (z : Iteration). ComesBy z u) (sym e) (k, advance-out n bytes r o t kept x seen i (free h))
-  comes y u (fault h x seen c j i e k) = subst (λ (z : Iteration). ComesBy z u) (sym e) (k, advance-fault n bytes r o t kept x seen c j i (free h))
-  comes y u (took l h x seen el i e k) = subst (λ (z : Iteration). ComesBy z u) (sym e)
-      (subst (ComesBy (went_by (taken_at n bytes r o.depth (low_of o) t x el) x)) (sym k) (comes-took x seen el i l h))
+  comes y u (out h x seen i e k) = subst (λ (z : IterationView). ComesBy z u) (sym e) (k, advance-out n bytes r o t kept x seen i (free h))
+  comes y u (fault h x seen c j i e k) = subst (λ (z : IterationView). ComesBy z u) (sym e) (k, advance-fault n bytes r o t kept x seen c j i (free h))
+  comes y u (took l h x seen el i e k) = subst (λ (z : IterationView). ComesBy z u) (sym e)
+      (subst (ComesBy (went_by r o.depth (low_of o) (taken_at n bytes r o.depth (low_of o) t x el) x.depth x.low)) (sym k) (comes-took x seen el i l h))
 
   -- An iteration that goes on is an element more.
-  pub iteration-went : (y : Iteration) (u : List NodeRecord) → Iterates n bytes r o.depth (low_of o) t y u → y.went ≡ true
+  pub iteration-went : (y : IterationView) (u : List NodeRecord) → Iterates n bytes r o.depth (low_of o) t y u → y.went ≡ true
       → Comes n bytes r o t y u true
   iteration-went y u h e = subst (Comes n bytes r o t y u) e (comes y u h)
 
   -- Another halts.
-  pub iteration-halts : (y : Iteration) (u : List NodeRecord) → Iterates n bytes r o.depth (low_of o) t y u → y.went ≡ false
+  pub iteration-halts : (y : IterationView) (u : List NodeRecord) → Iterates n bytes r o.depth (low_of o) t y u → y.went ≡ false
       → Comes n bytes r o t y u false
   iteration-halts y u h e = subst (Comes n bytes r o t y u) e (comes y u h)

@@ -1,10 +1,10 @@
 -- An iteration of the loop as a function of what was before it: `Iterates` leaves nothing free, and holds of what the function comes to.
 -- An iteration that goes on moves ahead in the bytes, whatever the state. Assumes nothing.
-use Rattle.std.specs.Prelude.{◌≡◌, refl, Bool, false, not, List, ℕ, ◌<◌, ◌≤◌, length, get_or}
+use Rattle.std.specs.Prelude.{◌≡◌, refl, Bool, false, List, ℕ, ◌<◌, ◌≤◌, length, get_or}
 use Rattle.std.proofs.Common.{sym, ap₂, ◌∙◌, subst, ⊎_elim, arith}
 use Rattle.std.proofs.Math.Path.{ap}
 use Rattle.std.proofs.Math.Bool.{true, cond}
-use Rattle.std.proofs.lemmas.Bool.{false≢true, not-true}
+use Rattle.std.proofs.lemmas.Bool.{false≢true}
 use Rattle.std.proofs.Math.Option.{Option}
 use Rattle.std.proofs.Math.ListN.{get_or-eq_default}
 use Rattle.theory_lists.specs.Lists.{decide-le}
@@ -34,11 +34,9 @@ use Rattle.elements.specs.declared.Outcome.TheVariants.{Got, Fault, RanOut}
 use Rattle.cursors.specs.declared.Run.{Run}
 use Rattle.scanner.specs.declared.Token.{Token}
 use Rattle.scanner.specs.declared.Token.TheVariants as S
-use Rattle.reader.specs.declared.Taken.{Taken}
-use Rattle.reader.specs.declared.Iteration.{Iteration}
-use Rattle.reader.specs.Taking.{taken_of}
+use Rattle.reader.specs.Taking.{TakenView, taken_of}
 use Rattle.work_table.specs.Table.{get_in}
-use Rattle.reader.specs.Advance.{barred_by, updated_to, taken_at, stayed, token-ahead, taken_at_lem, Iterates, past, barred, out, fault, took}
+use Rattle.reader.specs.Advance.{barred_by, updated_to, taken_at, IterationView, stayed, went_by, went-by, token-ahead, taken_at_lem, Iterates, past, barred, out, fault, took}
 use Rattle.reader.specs.Iteration.{barred-other}
 use Rattle.node_records.specs.declared.NodeRecord.{NodeRecord}
 
@@ -137,7 +135,7 @@ element-back E.End = refl
 
 abbrev outcome_back : T.Outcome → Outcome
 outcome_back (T.got e) = Got (element_back e)
-outcome_back (T.fault c b) = Fault (cause_back c) b
+outcome_back (T.fault c b) = Fault (record { cause = cause_back c; byte = b })
 outcome_back T.ran_out = RanOut
 
 back-outcome : (o : T.Outcome) → outcome_of (outcome_back o) ≡ o
@@ -201,7 +199,7 @@ next_token_back x = record {
 
 -- what an iteration comes to, and the lent table after it
 pub record Iterated : Type 0 where
-  pub iteration : Iteration
+  pub iteration : IterationView
   pub table : List NodeRecord
 
 module _ (n : ℕ) (bytes : List ℕ) (r : Run) (d : ℕ) (low : Open) (t : List NodeRecord) where
@@ -217,21 +215,12 @@ module _ (n : ℕ) (bytes : List ℕ) (r : Run) (d : ℕ) (low : Open) (t : List
   stays f c b = record { iteration = stayed r d low f c b; table = t }
 
   -- what is taken for the element e, after the token x to the context m
-  abbrev takes : NextTokenView → Context → Element → Taken
+  abbrev takes : NextTokenView → Context → Element → TakenView
   takes x m e = taken_of n r d low (digit_place r.at byte) e (get_in t r.size x.number) x.at m
 
   abbrev goes_by : NextTokenView → Context → Element → Iterated
   goes_by x m e = record {
-    iteration = record {
-      run = (takes x m e).run;
-      depth = x.depth;
-      low = x.low;
-      went = not (takes x m e).faulty;
-      faulty = (takes x m e).faulty;
-      cause
-          = (takes x m e).cause;
-      byte = (takes x m e).byte;
-    };
+    iteration = went_by r d low (takes x m e) x.depth x.low;
     table = updated_to r d x.number (get_in t r.size x.number) (takes x m e) t;
   }
 
@@ -265,18 +254,18 @@ module _ (n : ℕ) (bytes : List ℕ) (r : Run) (d : ℕ) (low : Open) (t : List
   iteration-past : length bytes ≤ r.at → iteration_in ≡ stays false WrongByte 0
   iteration-past h = iteration-free (past-free h) T.ran_out (past-out h)
 
-  abbrev made : Iteration → List NodeRecord → Iterated
+  abbrev made : IterationView → List NodeRecord → Iterated
   made y u = record { iteration = y; table = u }
 
   token-outcome : (x : NextToken) → next_token_view x ≡ seen → (o : Outcome) → outcome_in x ≡ o → seen.outcome ≡ outcome_of o
   token-outcome x e o i = sym (ap (λ (z : NextTokenView). z.outcome) e) ∙ ap outcome_of i
 
   -- An iteration comes to what the function says.
-  pub iteration-in : (y : Iteration) (u : List NodeRecord) → Iterates n bytes r d low t y u → made y u ≡ iteration_in
+  pub iteration-in : (y : IterationView) (u : List NodeRecord) → Iterates n bytes r d low t y u → made y u ≡ iteration_in
   iteration-in y u (past h e k) = ap₂ made e k ∙ sym (iteration-past h)
   iteration-in y u (barred h e k) = ap₂ made e k ∙ sym (iteration-barred h)
   iteration-in y u (out h x s i e k) = ap₂ made e k ∙ sym (iteration-free h T.ran_out (token-outcome x s RanOut i))
-  iteration-in y u (fault h x s c j i e k) = ap₂ made e k ∙ sym (iteration-free h (T.fault (cause_of c) j) (token-outcome x s (Fault c j) i)
+  iteration-in y u (fault h x s c j i e k) = ap₂ made e k ∙ sym (iteration-free h (T.fault (cause_of c) j) (token-outcome x s (Fault (record { cause = c; byte = j })) i)
       ∙ ap (λ (a : Cause). stays true a j) (cause-back c))
   iteration-in y u (took l h x s a i e k) =
       ap₂ made e k
@@ -326,20 +315,20 @@ module _ (n : ℕ) (bytes : List ℕ) (r : Run) (d : ℕ) (low : Open) (t : List
 -- ---- Onward ----------------------------------------------------------------------------------
 
 -- AN ITERATION THAT GOES ON moves ahead in the bytes, and no more nodes are open after it than may be.
-pub iteration-ahead : (n : ℕ) (bytes : List ℕ) (r : Run) (d : ℕ) (low : Open) (t : List NodeRecord) (y : Iteration) (u : List NodeRecord)
+pub iteration-ahead : (n : ℕ) (bytes : List ℕ) (r : Run) (d : ℕ) (low : Open) (t : List NodeRecord) (y : IterationView) (u : List NodeRecord)
     → Iterates n bytes r d low t y u
     → y.went ≡ true → (r.at < length bytes) × ((r.at < y.run.at) × (y.depth ≤ open_limit))
-iteration-ahead n bytes r d low t y u (past h e k) w = absurd (false≢true (sym (ap (λ (z : Iteration). z.went) e) ∙ w))
-iteration-ahead n bytes r d low t y u (barred h e k) w = absurd (false≢true (sym (ap (λ (z : Iteration). z.went) e) ∙ w))
-iteration-ahead n bytes r d low t y u (out h x s i e k) w = absurd (false≢true (sym (ap (λ (z : Iteration). z.went) e) ∙ w))
-iteration-ahead n bytes r d low t y u (fault h x s c j i e k) w = absurd (false≢true (sym (ap (λ (z : Iteration). z.went) e) ∙ w))
+iteration-ahead n bytes r d low t y u (past h e k) w = absurd (false≢true (sym (ap (λ (z : IterationView). z.went) e) ∙ w))
+iteration-ahead n bytes r d low t y u (barred h e k) w = absurd (false≢true (sym (ap (λ (z : IterationView). z.went) e) ∙ w))
+iteration-ahead n bytes r d low t y u (out h x s i e k) w = absurd (false≢true (sym (ap (λ (z : IterationView). z.went) e) ∙ w))
+iteration-ahead n bytes r d low t y u (fault h x s c j i e k) w = absurd (false≢true (sym (ap (λ (z : IterationView). z.went) e) ∙ w))
 iteration-ahead n bytes r d low t y u (took l h x s a i e k) w =
-    let f : (taken_at n bytes r d low t x a).faulty ≡ false = not-true _ (sym (ap (λ (z : Iteration). z.went) e) ∙ w) in
-    let j = taken_at_lem n r d low (digit_place r.at (get_or bytes r.at 0)) (get_in t r.size x.number) x.at x.context a f in (
+    let v = went-by r d low (taken_at n bytes r d low t x a) x.depth x.low (sym (ap (λ (z : IterationView). z.went) e) ∙ w) in
+    let j = taken_at_lem n r d low (digit_place r.at (get_or bytes r.at 0)) (get_in t r.size x.number) x.at x.context a v.0 in (
       l,
       (
-        subst (λ (q : ℕ). r.at < q) (sym (ap (λ (z : Iteration). z.run.at) e ∙ j)) (token-ahead bytes r d low x s a i l),
-        subst (λ (q : ℕ). q ≤ open_limit) (sym (ap (λ (z : Iteration). z.depth) e ∙ ap (λ (z : NextTokenView). z.depth) s))
+        subst (λ (q : ℕ). r.at < q) (sym (ap (λ (z : IterationView). z.run.at) (e ∙ v.1) ∙ j)) (token-ahead bytes r d low x s a i l),
+        subst (λ (q : ℕ). q ≤ open_limit) (sym (ap (λ (z : IterationView). z.depth) (e ∙ v.1) ∙ ap (λ (z : NextTokenView). z.depth) s))
             (token-depth kind_table bytes r.at (context_of r.context) r.last d low),
       ),
     )

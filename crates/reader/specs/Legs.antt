@@ -7,13 +7,11 @@ use Rattle.theory_lists.specs.Lists.{decide-le}
 use Rattle.theory_reading.specs.Limits.{word_limit}
 use Rattle.elements.specs.declared.Opens.{Opens}
 use Rattle.cursors.specs.declared.Run.{Run}
-use Rattle.reader.specs.declared.Goal.{Goal}
-use Rattle.reader.specs.declared.Iteration.{Iteration}
-use Rattle.reader.specs.Advance.{low_of, opens_to, Iterates}
+use Rattle.reader.specs.Advance.{IterationView, low_of, opens_to, Iterates}
 use Rattle.reader.specs.Iterating.{iteration-ahead}
 use Rattle.reader.specs.Iterating.{Iterated, iteration_in, iteration-made}
 use Rattle.reader.specs.ReadOn.{ReadTo, read_on, read_past, read_goes, read-halts}
-use Rattle.reader.specs.RunOn.{goal_to, goal-fits, run_on, run_past, run-goes, run-halts}
+use Rattle.reader.specs.RunOn.{GoalView, goal_to, goal-fits, run_on, run_past, run-goes, run-halts}
 use Rattle.node_records.specs.declared.NodeRecord.{NodeRecord}
 
 -- what is reached, but for what the last element passed
@@ -38,7 +36,7 @@ module _ (n : ℕ) (bytes : List ℕ) (r : Run) (o : Opens) (t : List NodeRecord
   abbrev iterated : Iterated
   iterated = iteration_in n bytes r o.depth (low_of o) t
 
-  abbrev y : Iteration
+  abbrev y : IterationView
   y = iterated.iteration
 
   abbrev u : List NodeRecord
@@ -87,7 +85,7 @@ pub record Leg (n : ℕ) (bytes : List ℕ) (z w : ReadTo) : Type 0 where
       → bare (read_on f n bytes word_limit z.reached.run z.reached.opens 0 0 z.table) ≡ bare w
 
 -- EVERY LEG IS, with a search or without.
-pub run-leg : (f n : ℕ) (bytes : List ℕ) (seeks : Bool) (g : Goal) (r : Run) (o : Opens) (from deep : ℕ) (t : List NodeRecord) → g.stop ≤ word_limit
+pub run-leg : (f n : ℕ) (bytes : List ℕ) (seeks : Bool) (g : GoalView) (r : Run) (o : Opens) (from deep : ℕ) (t : List NodeRecord) → g.stop ≤ word_limit
     → length bytes - r.at < f → Leg n bytes (run_on f n bytes seeks g r o from deep t) (read_on f n bytes word_limit r o from deep t)
 run-leg zero n bytes seeks g r o from deep t h k = absurd (omega (arith, k))
 run-leg (suc f) n bytes seeks g r o from deep t h k =
@@ -95,7 +93,7 @@ run-leg (suc f) n bytes seeks g r o from deep t h k =
     (decide-le r.covered g.stop)
   where
     Again : Type 0
-    Again = (g : Goal) (r : Run) (o : Opens) (from deep : ℕ) (t : List NodeRecord) → g.stop ≤ word_limit → length bytes - r.at < f
+    Again = (g : GoalView) (r : Run) (o : Opens) (from deep : ℕ) (t : List NodeRecord) → g.stop ≤ word_limit → length bytes - r.at < f
         → Leg n bytes (run_on f n bytes seeks g r o from deep t) (read_on f n bytes word_limit r o from deep t)
 
     Here : ReadTo → Type 0

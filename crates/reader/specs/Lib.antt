@@ -5,7 +5,7 @@ pub mod CappedElement
 pub mod Advance
 pub mod Iteration
 pub mod Iterating
-pub mod OpenCells
+pub mod OpenNodes
 pub mod Loop
 pub mod ReadOn
 pub mod RunOn

@@ -12,11 +12,10 @@ use Rattle.elements.specs.declared.Opens.{Opens}
 use Rattle.elements.specs.declared.Context.{Context}
 use Rattle.cursors.specs.Cursors.{first_run}
 use Rattle.cursors.specs.declared.Run.{Run}
-use Rattle.reader.specs.declared.Iteration.{Iteration}
 use Rattle.work_table.specs.Table.{get_in}
-use Rattle.reader.specs.Advance.{state_at, Kept, Young, taken_at, low_of, opens_to, Iterates, past, barred, out, fault, took, HaltsAt, Comes}
+use Rattle.reader.specs.Advance.{IterationView, state_at, Kept, Young, taken_at, low_of, opens_to, Iterates, past, barred, out, fault, took, HaltsAt, Comes}
 use Rattle.reader.specs.Advance.{iteration-went, iteration-halts, list_length, length-updated}
-use Rattle.reader.specs.OpenCells.{ReadReached}
+use Rattle.reader.specs.OpenNodes.{ReadReached}
 use Rattle.node_records.specs.declared.NodeRecord.{NodeRecord}
 
 -- ---- The first state -------------------------------------------------------------------------
@@ -87,7 +86,7 @@ module _ (n : ℕ) (bytes : List ℕ) (few : n ≤ option_limit) (r : Run) (o : 
   stands-covered = at-covered n bytes h.steps (state_at r o t) few h.here
 
   -- the iteration's result y, with the lent table u
-  module _ (y : Iteration) (u : List NodeRecord) (made : Iterates n bytes r o.depth (low_of o) t y u) where
+  module _ (y : IterationView) (u : List NodeRecord) (made : Iterates n bytes r o.depth (low_of o) t y u) where
     -- An iteration that does not go on halts, and lends nothing.
     pub halts-here : y.went ≡ false → (u ≡ t) × HaltsAt n bytes (state_at r o t) y.faulty y.cause y.byte
     halts-here = iteration-halts n bytes r o t h.kept young y u made
@@ -132,7 +131,7 @@ module _ (n : ℕ) (bytes : List ℕ) (few : n ≤ option_limit) (r : Run) (o : 
 -- ---- The ends of the loop ---------------------------------------------------------------------
 
 -- An iteration keeps the length of the lent table.
-pub iteration-length : (n : ℕ) (bytes : List ℕ) (r : Run) (d : ℕ) (low : Open) (t : List NodeRecord) (y : Iteration) (u : List NodeRecord)
+pub iteration-length : (n : ℕ) (bytes : List ℕ) (r : Run) (d : ℕ) (low : Open) (t : List NodeRecord) (y : IterationView) (u : List NodeRecord)
     → Iterates n bytes r d low t y u → length u ≡ length t
 iteration-length n bytes r d low t y u (past h e k) = ap length k
 iteration-length n bytes r d low t y u (barred h e k) = ap length k

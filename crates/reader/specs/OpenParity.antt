@@ -15,8 +15,7 @@ use Rattle.scanner.specs.ScannedToken as G
 use Rattle.scanner.specs.TokenView.{depth_by, side_of, NextTokenView}
 use Rattle.cursors.specs.declared.Run.{Run}
 use Rattle.node_records.specs.declared.NodeRecord.{NodeRecord}
-use Rattle.reader.specs.declared.Iteration.{Iteration}
-use Rattle.reader.specs.Advance.{Iterates, past, barred, out, fault, took, low_of, nodes_to, opens_to}
+use Rattle.reader.specs.Advance.{IterationView, went-by, taken_at, Iterates, past, barred, out, fault, took, low_of, nodes_to, opens_to}
 use Rattle.reader.specs.RunOn.{complement_in, parity_to}
 
 -- ---- One opened or closed --------------------------------------------------------------------
@@ -29,16 +28,17 @@ change-near G.second_push d = (omega arith, omega arith)
 change-near (G.second t) d = (omega arith, omega arith)
 
 -- An iteration that goes on opens a node, or closes one, or neither.
-iteration-near : (n : ℕ) (bytes : List ℕ) (r : Run) (d : ℕ) (low : Open) (t : List NodeRecord) (y : Iteration) (u : List NodeRecord)
+iteration-near : (n : ℕ) (bytes : List ℕ) (r : Run) (d : ℕ) (low : Open) (t : List NodeRecord) (y : IterationView) (u : List NodeRecord)
     → Iterates n bytes r d low t y u → y.went ≡ true → d ≤ open_limit → (d ≤ suc y.depth) × (y.depth ≤ suc d)
-iteration-near n bytes r d low t y u (past h e k) w l = absurd (false≢true (sym (ap (λ (z : Iteration). z.went) e) ∙ w))
-iteration-near n bytes r d low t y u (barred h e k) w l = absurd (false≢true (sym (ap (λ (z : Iteration). z.went) e) ∙ w))
-iteration-near n bytes r d low t y u (out h x s i e k) w l = absurd (false≢true (sym (ap (λ (z : Iteration). z.went) e) ∙ w))
-iteration-near n bytes r d low t y u (fault h x s c j i e k) w l = absurd (false≢true (sym (ap (λ (z : Iteration). z.went) e) ∙ w))
+iteration-near n bytes r d low t y u (past h e k) w l = absurd (false≢true (sym (ap (λ (z : IterationView). z.went) e) ∙ w))
+iteration-near n bytes r d low t y u (barred h e k) w l = absurd (false≢true (sym (ap (λ (z : IterationView). z.went) e) ∙ w))
+iteration-near n bytes r d low t y u (out h x s i e k) w l = absurd (false≢true (sym (ap (λ (z : IterationView). z.went) e) ∙ w))
+iteration-near n bytes r d low t y u (fault h x s c j i e k) w l = absurd (false≢true (sym (ap (λ (z : IterationView). z.went) e) ∙ w))
 iteration-near n bytes r d low t y u (took m h x s a i e k) w l =
     let c = (G.scan_token kind_table bytes r.at (context_of r.context) (side_of (deep_of d) low) (deep_of d)).change in
     subst (λ (z : ℕ). (d ≤ suc z) × (z ≤ suc d))
-    (sym (ap (λ (z : Iteration). z.depth) e ∙ ap (λ (z : NextTokenView). z.depth) s ∙ ap (depth_by c) (deep-self d l))) (change-near c d)
+    (sym (ap (λ (z : IterationView). z.depth) (e ∙ (went-by r d low (taken_at n bytes r d low t x a) x.depth x.low
+    (sym (ap (λ (z : IterationView). z.went) e) ∙ w)).1) ∙ ap (λ (z : NextTokenView). z.depth) s ∙ ap (depth_by c) (deep-self d l))) (change-near c d)
 
 -- ---- The innermost ---------------------------------------------------------------------------
 
@@ -50,11 +50,11 @@ parity-head e l = go e.second
     go true = refl
     go false = refl
 
-parity-none : (ns : List Open) → parity (opens_of ns 0) ≡ false
+pub parity-none : (ns : List Open) → parity (opens_of ns 0) ≡ false
 unfolding parity opens_of
 parity-none ns = refl
 
-parity-more : (ns : List Open) (d : ℕ) → parity (opens_of ns (suc d)) ≡ differ (complement_in (get_or ns d inside_open)) (parity (opens_of ns d))
+pub parity-more : (ns : List Open) (d : ℕ) → parity (opens_of ns (suc d)) ≡ differ (complement_in (get_or ns d inside_open)) (parity (opens_of ns d))
 unfolding opens_of
 parity-more ns d = parity-head (get_or ns d inside_open) (opens_of ns d)
 
@@ -115,7 +115,7 @@ module _ (ns : List Open) (long : length ns ≡ open_limit) (e : Open) where
       ∙ get_or-set_same ns 0 inside_open inside_open (omega (arith, long))) (parity-none (nodes_to ns 0 e))
 
 -- After an iteration y, of which one knows how deep it goes.
-parity-step : (ns : List Open) → length ns ≡ open_limit → (y : Iteration) (d : ℕ) → d ≤ open_limit → y.depth ≤ open_limit
+parity-step : (ns : List Open) → length ns ≡ open_limit → (y : IterationView) (d : ℕ) → d ≤ open_limit → y.depth ≤ open_limit
     → (d ≤ suc y.depth) × (y.depth ≤ suc d)
     → parity (opens_of (nodes_to ns d y.low) y.depth) ≡ parity_to (parity (opens_of ns d)) d (get_or ns (low_at d) inside_open) y
 parity-step ns long y zero h k near = go y.depth near.1
@@ -151,7 +151,7 @@ parity-step ns long y (suc d) h k near =
         (decide-le (suc (suc d)) y.depth)
 
 -- AN ITERATION THAT GOES ON: what its open nodes turn about is what code has for them.
-pub iteration-parity : (n : ℕ) (bytes : List ℕ) (r : Run) (o : Opens) (t : List NodeRecord) (y : Iteration) (u : List NodeRecord)
+pub iteration-parity : (n : ℕ) (bytes : List ℕ) (r : Run) (o : Opens) (t : List NodeRecord) (y : IterationView) (u : List NodeRecord)
     → Iterates n bytes r o.depth (low_of o) t y u → y.went ≡ true → length o.nodes ≡ open_limit → o.depth ≤ open_limit → y.depth ≤ open_limit
     → parity (open_list (opens_to o y.depth y.low)) ≡ parity_to (parity (open_list o)) o.depth (low_of o) y
 iteration-parity n bytes r o t y u made w long deep shallow =

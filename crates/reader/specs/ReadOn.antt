@@ -7,15 +7,15 @@ use Rattle.std.proofs.Math.Bool.{cond}
 use Rattle.std.proofs.lemmas.Bool.{false≢true}
 use Rattle.theory_lists.specs.Lists.{decide-le}
 use Rattle.theory_reading.specs.Limits.{option_limit, open_limit, table_limit, word_limit}
+use Rattle.elements.specs.Abstraction.{inside_open}
 use Rattle.elements.specs.declared.Cause.{Cause}
 use Rattle.elements.specs.declared.Cause.TheVariants.{WrongByte}
 use Rattle.cursors.specs.declared.Cursor.{Cursor}
 use Rattle.elements.specs.declared.Opens.{Opens}
 use Rattle.cursors.specs.declared.Run.{Run}
-use Rattle.reader.specs.declared.Iteration.{Iteration}
-use Rattle.reader.specs.Advance.{low_of, opens_to, Iterates}
+use Rattle.reader.specs.Advance.{IterationView, low_of, opens_to, Iterates}
 use Rattle.reader.specs.Iterating.{Iterated, iteration_in, iteration-in, iteration-made}
-use Rattle.reader.specs.OpenCells.{ReadReached, ReadCursor, cursor_in}
+use Rattle.reader.specs.OpenNodes.{ReadReached, ReadCursor, cursor_in}
 use Rattle.cursors.specs.Cursors.{first_run, start_cursor}
 use Rattle.reader.specs.Loop.{first_opens, Stands, stands-first, ReachedBy, Running, goes-here, halts-here, ahead-here}
 use Rattle.reader.specs.Loop.{iteration-length, loop-past}
@@ -69,7 +69,7 @@ module _ (f n : ℕ) (bytes : List ℕ) (stop : ℕ) (r : Run) (o : Opens) (from
   read-iteration h = ap (λ (b : Bool). cond b (record { reached = passed_at r o from deep; table = t })
       (iterated (iteration_in n bytes r o.depth (low_of o) t))) (le-ltb stop r.covered h)
 
-  module _ (y : Iteration) (u : List NodeRecord) (made : Iterates n bytes r o.depth (low_of o) t y u) (l : r.covered ≤ stop) where
+  module _ (y : IterationView) (u : List NodeRecord) (made : Iterates n bytes r o.depth (low_of o) t y u) (l : r.covered ≤ stop) where
     read-correct : read_on (suc f) n bytes stop r o from deep t ≡ iterated (record { iteration = y; table = u })
     read-correct = read-iteration l ∙ ap iterated (sym (iteration-in n bytes r o.depth (low_of o) t y u made))
 
@@ -132,7 +132,7 @@ read-running (suc f) n bytes few stop r o from deep t h l = ⊎_elim (on (λ a b
     Again = (r : Run) (o : Opens) (from deep : ℕ) (t : List NodeRecord) → Running n bytes stop r o from deep t → length bytes - r.at < f
         → Reaches n bytes stop (read_on f n bytes stop r o from deep t)
 
-    y : Iteration
+    y : IterationView
     y = (iteration_in n bytes r o.depth (low_of o) t).iteration
 
     u : List NodeRecord
@@ -171,8 +171,8 @@ read-reaches n bytes few stop r o t h l = read-running (suc (length bytes)) n by
 abbrev pub first_cursor : ReadCursor
 first_cursor = record { run = first_run; opens = first_opens }
 
--- It is that beside cells that are all zero.
-pub cursor-first : cursor_in start_cursor (replicate open_limit (replicate 4 0)) ≡ first_cursor
+-- It is that beside open nodes that are in their first children.
+pub cursor-first : cursor_in start_cursor (replicate open_limit inside_open) ≡ first_cursor
 cursor-first = refl
 
 -- more options, open nodes or words than any reading has
@@ -193,12 +193,7 @@ module _ (n : ℕ) (bytes : List ℕ) (stop : ℕ) (c : ReadCursor) (t : List No
   abbrev by : Bool → ReadTo
   by b = cond b (record { reached = resting_at c; table = t }) (read_all n bytes stop c.run c.opens t)
 
-  -- So past the limits,
-  pub read_off : off_by n c.opens.depth stop ≡ true → record { reached = resting_at c; table = t } ≡ read_from n bytes stop c t
-  unfolding read_from
-  read_off h = sym (ap by h)
-
-  -- and within them.
+  -- Within the limits it is the loop.
   pub read-on : off_by n c.opens.depth stop ≡ false → read_from n bytes stop c t ≡ read_all n bytes stop c.run c.opens t
   unfolding read_from
   read-on h = ap by h
@@ -235,7 +230,7 @@ read-called n bytes few stop most c t h l y u e =
 pub read-begun : (n : ℕ) (bytes : List ℕ) → n ≤ option_limit → (stop : ℕ) → stop ≤ word_limit → (c : Cursor) (t : List NodeRecord) → table_limit ≤ length t
     → c ≡ start_cursor
     → (y : ReadReached) (u : List NodeRecord) → record { reached = y; table = u }
-    ≡ read_from n bytes stop (cursor_in c (replicate open_limit (replicate 4 0))) t → ReachedBy n bytes stop y u
+    ≡ read_from n bytes stop (cursor_in c (replicate open_limit inside_open)) t → ReachedBy n bytes stop y u
 read-begun n bytes few stop most c t room ce y u e =
     read-called n bytes few stop most first_cursor t (stands-first n bytes t room) (omega arith) y u
-    (e ∙ ap (λ (c : Cursor). read_from n bytes stop (cursor_in c (replicate open_limit (replicate 4 0))) t) ce)
+    (e ∙ ap (λ (c : Cursor). read_from n bytes stop (cursor_in c (replicate open_limit inside_open)) t) ce)

@@ -1,27 +1,25 @@
 -- The code's loop as a function, with fuel for its iterations. Reading on, its stop stays; searching on, the stop moves behind words of which none is
 -- sought, and what the open nodes turn about is kept from iteration to iteration. Assumes nothing.
-use Rattle.std.specs.Prelude.{◌≡◌, Bool, true, false, List, ℕ, zero, suc, ◌-◌, ◌<◌, ◌≤◌, ltb, eqb, length}
+use Rattle.std.specs.Prelude.{◌≡◌, Bool, true, false, List, ℕ, zero, suc, ◌-◌, ◌<◌, ◌≤◌, ltb, eqb, length, Option, Some, None}
 use Rattle.std.proofs.Math.Path.{refl, sym, ap}
-use Rattle.std.proofs.Common.{ap₂, ◌∙◌, subst, arith, eq-eqb, ne_eqb, lt-ltb, le-ltb, ltb-false}
+use Rattle.std.proofs.Common.{◌∙◌, subst, arith, lt-ltb, le-ltb, ltb-false}
 use Rattle.std.proofs.Math.Bool.{cond}
 use Rattle.theory_lists.specs.Lists.{differ}
 use Rattle.theory_reading.specs.Limits.{open_limit, word_limit}
 use Rattle.elements.specs.declared.Cause.TheVariants.{WrongByte}
 use Rattle.elements.specs.declared.Open.{Open}
 use Rattle.elements.specs.declared.Opens.{Opens}
-use Rattle.cursors.specs.declared.Cursor.{Cursor}
 use Rattle.cursors.specs.declared.Run.{Run}
 use Rattle.node_records.specs.Words.{some_yes}
 use Rattle.node_records.specs.declared.Edge.{Edge}
 use Rattle.node_records.specs.declared.NodeRecord.{NodeRecord}
 use Rattle.work_table.specs.Table.{get_in}
 use Rattle.reader.specs.declared.Goal.{Goal}
-use Rattle.reader.specs.declared.Iteration.{Iteration}
-use Rattle.reader.specs.declared.Reached.{Reached}
-use Rattle.reader.specs.Advance.{low_of, nodes_to, opens_to, Iterates}
+use Rattle.reader.specs.declared.Search.{Search}
+use Rattle.reader.specs.Advance.{IterationView, low_of, nodes_to, opens_to, Iterates}
 use Rattle.reader.specs.Iterating.{Iterated, iteration_in, iteration-in, iteration-ahead}
-use Rattle.reader.specs.OpenCells.{ReadCursor}
-use Rattle.reader.specs.ReadOn.{ReadTo, halted_at, passed_at, read_on, read_all, off_by, resting_at}
+use Rattle.reader.specs.OpenNodes.{ReadCursor}
+use Rattle.reader.specs.ReadOn.{ReadTo, halted_at, passed_at, read_on, read_all, read_from, off_by, resting_at}
 
 -- ---- Definitions -----------------------------------------------------------------------------
 
@@ -30,7 +28,7 @@ abbrev pub complement_in : Open → Bool
 complement_in e = cond e.second e.complement false
 
 -- whether an odd number of open nodes turns about, after an iteration y; p: before it; d, low: how many are open before it, and the innermost
-abbrev pub parity_to : Bool → ℕ → Open → Iteration → Bool
+abbrev pub parity_to : Bool → ℕ → Open → IterationView → Bool
 parity_to p d low y = cond (eqb d 0) false (cond (ltb y.depth d) (differ (complement_in low) p)
     (differ (complement_in y.low) (differ (complement_in low) p)))
 
@@ -46,17 +44,39 @@ some_at t r p = some_yes (get_in t r.size r.last.number) (last_edge r p)
 abbrev pub stop_to : List NodeRecord → Run → ℕ → Bool → ℕ
 stop_to t r stop p = cond (ltb stop r.covered) (cond (ltb word_limit r.covered) stop (cond (some_at t r p) stop r.covered)) stop
 
--- noes: words that are no are sought, which are yes turned about
-abbrev pub goal_of : ℕ → Bool → Bool → Goal
+-- what the loop goes by beside its stop, if it seeks. odd: an odd number of open nodes turns about; noes: words that are no are sought, which are yes turned
+-- about
+pub record GoalView : Type 0 where
+  pub stop : ℕ
+  pub odd : Bool
+  pub noes : Bool
+
+-- as code has it
+abbrev pub seeks_in : Option Search → Bool
+seeks_in None = false
+seeks_in (Some x) = true
+
+abbrev odd_in : Option Search → Bool
+odd_in None = false
+odd_in (Some x) = x.odd
+
+abbrev noes_in : Option Search → Bool
+noes_in None = false
+noes_in (Some x) = x.noes
+
+abbrev pub goal_view : Goal → GoalView
+goal_view g = record { stop = g.stop; odd = odd_in g.search; noes = noes_in g.search }
+
+abbrev pub goal_of : ℕ → Bool → Bool → GoalView
 goal_of stop odd noes = record { stop = stop; odd = odd; noes = noes }
 
 -- the goal after an iteration y, with the lent table t after it
-abbrev pub goal_to : Bool → List NodeRecord → Goal → ℕ → Open → Iteration → Goal
+abbrev pub goal_to : Bool → List NodeRecord → GoalView → ℕ → Open → IterationView → GoalView
 goal_to seeks t g d low y =
     cond seeks (goal_of (stop_to t y.run g.stop (differ g.noes (parity_to g.odd d low y))) (parity_to g.odd d low y) g.noes) g
 
 -- the loop, at most so many iterations
-unfoldable pub run_on : ℕ → ℕ → List ℕ → Bool → Goal → Run → Opens → ℕ → ℕ → List NodeRecord → ReadTo
+unfoldable pub run_on : ℕ → ℕ → List ℕ → Bool → GoalView → Run → Opens → ℕ → ℕ → List NodeRecord → ReadTo
 unfolding iteration_in
 run_on zero n bytes seeks g r o from deep t = record { reached = halted_at r o from deep false WrongByte 0; table = t }
 run_on (suc f) n bytes seeks g r o from deep t =
@@ -67,12 +87,13 @@ run_on (suc f) n bytes seeks g r o from deep t =
     (record { reached = halted_at r o from deep x.iteration.faulty x.iteration.cause x.iteration.byte; table = x.table }))
 
 -- with fuel for every byte: every iteration that goes on takes one
-abbrev pub run_all : ℕ → List ℕ → Bool → Goal → Run → Opens → List NodeRecord → ReadTo
+abbrev pub run_all : ℕ → List ℕ → Bool → GoalView → Run → Opens → List NodeRecord → ReadTo
 run_all n bytes seeks g r o t = run_on (suc (length bytes)) n bytes seeks g r o 0 0 t
 
--- where nothing is read
-abbrev pub resting_of : Cursor → Reached
-resting_of c = record { run = c.run; depth = c.depth; from = 0; deep = 0; halted = true; faulty = false; cause = WrongByte; byte = 0 }
+-- from a cursor; past the limits nothing is read
+abbrev pub run_from : ℕ → List ℕ → Bool → GoalView → ReadCursor → List NodeRecord → ReadTo
+run_from n bytes seeks g c t = cond (off_by n c.opens.depth g.stop) (record { reached = resting_at c; table = t })
+    (run_all n bytes seeks g c.run c.opens t)
 
 -- SEARCHING ON from a cursor, until words are passed of which some is yes or, if `noes`, some is no; past the limits nothing is read. odd: whether an odd
 -- number of open nodes turns about
@@ -83,34 +104,13 @@ search_from n bytes c odd noes t = cond (off_by n c.opens.depth c.run.covered) (
 
 -- ---- As code goes ----------------------------------------------------------------------------
 
--- The parity with no node open; where the innermost is closed; elsewhere.
-module _ (p : Bool) (d : ℕ) (low : Open) (y : Iteration) where
-  pub parity-outside : d ≡ 0 → false ≡ parity_to p d low y
-  parity-outside h = rw (eq-eqb d 0 h) refl
-
-  module _ (h : d ≡ 0 → ⊥) (c : Bool) (ce : c ≡ complement_in low) (q : Bool) (qe : q ≡ differ c p) where
-    pub parity-closed : y.depth < d → q ≡ parity_to p d low y
-    parity-closed l = qe ∙ ap (λ (c : Bool). differ c p) ce ∙ rw (ne_eqb d 0 h, lt-ltb y.depth d l) refl
-
-    pub parity-open : d ≤ y.depth → (e : Bool) → e ≡ complement_in y.low → (z : Bool) → z ≡ differ e q → z ≡ parity_to p d low y
-    parity-open l e ee z ze =
-        ze ∙ ap₂ differ ee (qe ∙ ap (λ (c : Bool). differ c p) ce) ∙ rw (ne_eqb d 0 h, le-ltb y.depth d l) refl
-
--- The stop where no words were passed; too many; some that may be yes.
+-- The stop where no words were passed; and some, of which one may be yes.
 module _ (t : List NodeRecord) (r : Run) (stop : ℕ) (p : Bool) where
   pub stop-none : r.covered ≤ stop → stop ≡ stop_to t r stop p
   stop-none h = rw (le-ltb stop r.covered h) refl
 
-  pub stop-most : stop < r.covered → word_limit < r.covered → stop ≡ stop_to t r stop p
-  stop-most h l = rw (lt-ltb stop r.covered h, lt-ltb word_limit r.covered l) refl
-
   pub stop-by : stop < r.covered → r.covered ≤ word_limit → (b : Bool) → some_at t r p ≡ b → cond b stop r.covered ≡ stop_to t r stop p
   stop-by h l b e = rw (lt-ltb stop r.covered h, le-ltb word_limit r.covered l, e) refl
-
-  -- b: whether some is, by the record x of the edge e
-  pub some-called : (e : Edge) → e ≡ last_edge r p → (x : NodeRecord) → x ≡ get_in t r.size e.number → (b : Bool) → b ≡ some_yes x e
-      → some_at t r p ≡ b
-  some-called e ee x xe b be = sym (be ∙ ap (λ (y : NodeRecord). some_yes y e) xe ∙ ap (λ (f : Edge). some_yes (get_in t r.size f.number) f) ee)
 
   -- It fits if it did.
   stop-fits : stop ≤ word_limit → stop_to t r stop p ≤ word_limit
@@ -122,18 +122,8 @@ module _ (t : List NodeRecord) (r : Run) (stop : ℕ) (p : Bool) where
       go true false e true = h
       go true false e false = ltb-false word_limit r.covered e
 
--- The goal, where the loop does not seek, and where it does.
-module _ (t : List NodeRecord) (g : Goal) (d : ℕ) (low : Open) (y : Iteration) (seeks : Bool) where
-  pub goal-stays : seeks ≡ false → g ≡ goal_to seeks t g d low y
-  goal-stays e = rw e refl
-
-  pub goal-moves : seeks ≡ true → (p : Bool) → p ≡ parity_to g.odd d low y → (q : Bool) → q ≡ differ g.noes p → (v : ℕ)
-      → v ≡ stop_to t y.run g.stop q → goal_of v p g.noes ≡ goal_to seeks t g d low y
-  goal-moves e p pe q qe v ve =
-      ap (λ (v : ℕ). goal_of v p g.noes) (ve ∙ ap (stop_to t y.run g.stop) qe)
-      ∙ ap (λ (p : Bool). goal_of (stop_to t y.run g.stop (differ g.noes p)) p g.noes) pe
-      ∙ rw e refl
-
+-- The goal's stop fits if it did.
+module _ (t : List NodeRecord) (g : GoalView) (d : ℕ) (low : Open) (y : IterationView) (seeks : Bool) where
   pub goal-fits : g.stop ≤ word_limit → (goal_to seeks t g d low y).stop ≤ word_limit
   goal-fits h = go seeks
     where
@@ -143,7 +133,7 @@ module _ (t : List NodeRecord) (g : Goal) (d : ℕ) (low : Open) (y : Iteration)
 
 -- ---- Reading on ------------------------------------------------------------------------------
 
-reads_on : (f n : ℕ) (bytes : List ℕ) (g : Goal) (r : Run) (o : Opens) (from deep : ℕ) (t : List NodeRecord)
+reads_on : (f n : ℕ) (bytes : List ℕ) (g : GoalView) (r : Run) (o : Opens) (from deep : ℕ) (t : List NodeRecord)
     → run_on f n bytes false g r o from deep t ≡ read_on f n bytes g.stop r o from deep t
 unfolding run_on read_on
 reads_on zero n bytes g r o from deep t = refl
@@ -155,19 +145,19 @@ reads_on (suc f) n bytes g r o from deep t =
     (reads_on f n bytes g x.iteration.run (opens_to o x.iteration.depth x.iteration.low) r.covered o.depth x.table)
 
 -- A loop that does not seek reads on to its stop.
-pub reads_all : (n : ℕ) (bytes : List ℕ) (g : Goal) (r : Run) (o : Opens) (t : List NodeRecord)
+pub reads_all : (n : ℕ) (bytes : List ℕ) (g : GoalView) (r : Run) (o : Opens) (t : List NodeRecord)
     → run_all n bytes false g r o t ≡ read_all n bytes g.stop r o t
 reads_all n bytes g r o t = reads_on (suc (length bytes)) n bytes g r o 0 0 t
 
 -- ---- One iteration more ----------------------------------------------------------------------
 
-module _ (f n : ℕ) (bytes : List ℕ) (seeks : Bool) (g : Goal) (r : Run) (o : Opens) (from deep : ℕ) (t : List NodeRecord) where
+module _ (f n : ℕ) (bytes : List ℕ) (seeks : Bool) (g : GoalView) (r : Run) (o : Opens) (from deep : ℕ) (t : List NodeRecord) where
   -- past the stop it is done
   pub run_past : g.stop < r.covered → run_on (suc f) n bytes seeks g r o from deep t ≡ record { reached = passed_at r o from deep; table = t }
   unfolding run_on
   run_past h = rw (lt-ltb g.stop r.covered h) refl
 
-  module _ (y : Iteration) (u : List NodeRecord) (made : Iterates n bytes r o.depth (low_of o) t y u) (l : r.covered ≤ g.stop) where
+  module _ (y : IterationView) (u : List NodeRecord) (made : Iterates n bytes r o.depth (low_of o) t y u) (l : r.covered ≤ g.stop) where
     abbrev iterated : Iterated → ReadTo
     iterated x =
         cond x.iteration.went (run_on f n bytes seeks (goal_to seeks x.table g o.depth (low_of o) x.iteration) x.iteration.run
@@ -199,7 +189,7 @@ module _ (f n : ℕ) (bytes : List ℕ) (seeks : Bool) (g : Goal) (r : Run) (o :
 -- ---- The code's loop -------------------------------------------------------------------------
 
 -- What the loop keeps, whatever the state: it leads to what the function comes to.
-pub record Leads (z : ReadTo) (n : ℕ) (bytes : List ℕ) (seeks : Bool) (g : Goal) (r : Run) (o : Opens) (from deep : ℕ) (t : List NodeRecord)
+pub record Leads (z : ReadTo) (n : ℕ) (bytes : List ℕ) (seeks : Bool) (g : GoalView) (r : Run) (o : Opens) (from deep : ℕ) (t : List NodeRecord)
     : Type 0 where
   pub fuel : ℕ
   pub enough : length bytes - r.at < suc fuel
@@ -207,19 +197,14 @@ pub record Leads (z : ReadTo) (n : ℕ) (bytes : List ℕ) (seeks : Bool) (g : G
   pub shallow : o.depth ≤ open_limit
   pub stops : g.stop ≤ word_limit
 
--- So at the start.
-pub leads-first : (n : ℕ) (bytes : List ℕ) (seeks : Bool) (g : Goal) (r : Run) (o : Opens) (t : List NodeRecord) → o.depth ≤ open_limit
-    → g.stop ≤ word_limit → Leads (run_all n bytes seeks g r o t) n bytes seeks g r o 0 0 t
-leads-first n bytes seeks g r o t h k = record { fuel = length bytes; enough = omega arith; same = refl; shallow = h; stops = k }
-
-module _ (z : ReadTo) (n : ℕ) (bytes : List ℕ) (seeks : Bool) (g : Goal) (r : Run) (o : Opens) (from deep : ℕ) (t : List NodeRecord)
+module _ (z : ReadTo) (n : ℕ) (bytes : List ℕ) (seeks : Bool) (g : GoalView) (r : Run) (o : Opens) (from deep : ℕ) (t : List NodeRecord)
     (h : Leads z n bytes seeks g r o from deep t) where
   -- Past its stop the loop is done.
   pub leads-past : g.stop < r.covered → record { reached = passed_at r o from deep; table = t } ≡ z
   leads-past l = sym (run_past h.fuel n bytes seeks g r o from deep t l) ∙ h.same
 
   -- low: the innermost entry, as code reads it
-  module _ (l : r.covered ≤ g.stop) (low : Open) (lowest : low ≡ low_of o) (y : Iteration) (u : List NodeRecord)
+  module _ (l : r.covered ≤ g.stop) (low : Open) (lowest : low ≡ low_of o) (y : IterationView) (u : List NodeRecord)
       (made : Iterates n bytes r o.depth low t y u) where
     iterates-low : Iterates n bytes r o.depth (low_of o) t y u
     iterates-low = subst (λ (x : Open). Iterates n bytes r o.depth x t y u) lowest made
@@ -248,11 +233,11 @@ module _ (z : ReadTo) (n : ℕ) (bytes : List ℕ) (seeks : Bool) (g : Goal) (r 
       }
 
       -- and leads on; ns: the entries, as code stores them, j: the goal, as it has it.
-      pub leads_goes : (ns : List Open) → ns ≡ nodes_to o.nodes o.depth y.low → (j : Goal) → j ≡ goal_to seeks u g o.depth low y
+      pub leads_goes : (ns : List Open) → ns ≡ nodes_to o.nodes o.depth y.low → (j : GoalView) → j ≡ goal_to seeks u g o.depth low y
           → Leads z n bytes seeks j y.run (record { nodes = ns; depth = y.depth }) r.covered o.depth u
       leads_goes ns k j je =
           subst (λ (ns : List Open). Leads z n bytes seeks j y.run (record { nodes = ns; depth = y.depth }) r.covered o.depth u) (sym k)
-          (subst (λ (j : Goal). Leads z n bytes seeks j y.run (opens_to o y.depth y.low) r.covered o.depth u)
+          (subst (λ (j : GoalView). Leads z n bytes seeks j y.run (opens_to o y.depth y.low) r.covered o.depth u)
           (sym (je ∙ ap (λ (x : Open). goal_to seeks u g o.depth x y) lowest))
           (leads-on h.fuel h.enough h.same))
 
@@ -262,13 +247,20 @@ module _ (n : ℕ) (bytes : List ℕ) (c : ReadCursor) (odd noes : Bool) (t : Li
   abbrev choose : Bool → ReadTo
   choose b = cond b (record { reached = resting_at c; table = t }) (run_all n bytes true (goal_of c.run.covered odd noes) c.run c.opens t)
 
-  -- So past the limits,
-  pub search-off : off_by n c.opens.depth c.run.covered ≡ true → record { reached = resting_at c; table = t } ≡ search_from n bytes c odd noes t
-  unfolding search_from
-  search-off h = sym (ap choose h)
-
-  -- and within them.
+  -- Within the limits it is the loop.
   pub search-within : off_by n c.opens.depth c.run.covered ≡ false
       → search_from n bytes c odd noes t ≡ run_all n bytes true (goal_of c.run.covered odd noes) c.run c.opens t
   unfolding search_from
   search-within h = ap choose h
+
+-- Reading on and searching on are the loop from a cursor, each with its goal.
+pub reads_from : (n : ℕ) (bytes : List ℕ) (stop : ℕ) (c : ReadCursor) (t : List NodeRecord)
+    → run_from n bytes false (goal_of stop false false) c t ≡ read_from n bytes stop c t
+unfolding read_from
+reads_from n bytes stop c t = ap (λ (z : ReadTo). cond (off_by n c.opens.depth stop) (record { reached = resting_at c; table = t }) z)
+    (reads_all n bytes (goal_of stop false false) c.run c.opens t)
+
+pub searches_from : (n : ℕ) (bytes : List ℕ) (c : ReadCursor) (odd noes : Bool) (t : List NodeRecord)
+    → run_from n bytes true (goal_of c.run.covered odd noes) c t ≡ search_from n bytes c odd noes t
+unfolding search_from
+searches_from n bytes c odd noes t = refl

@@ -9,10 +9,9 @@ use Rattle.elements.specs.Abstraction.{open_list}
 use Rattle.elements.specs.declared.Opens.{Opens}
 use Rattle.cursors.specs.declared.Run.{Run}
 use Rattle.node_records.specs.declared.NodeRecord.{NodeRecord}
-use Rattle.reader.specs.declared.Iteration.{Iteration}
-use Rattle.reader.specs.Advance.{low_of, opens_to, Iterates}
+use Rattle.reader.specs.Advance.{IterationView, low_of, opens_to, Iterates}
 use Rattle.reader.specs.Iterating.{iteration_in, iteration-made}
-use Rattle.reader.specs.OpenCells.{ReadReached, ReadCursor}
+use Rattle.reader.specs.OpenNodes.{ReadReached, ReadCursor}
 use Rattle.reader.specs.Loop.{Stands, stands-covered, ReachedBy, Running, goes-here, grows-here, halts-here, ahead-here, loop-past}
 use Rattle.reader.specs.ReadOn.{ReadTo, halted_at, passed_at, not-off}
 use Rattle.reader.specs.OpenParity.{iteration-parity}
@@ -47,7 +46,7 @@ module _ (n : ℕ) (bytes : List ℕ) (few : n ≤ option_limit) (noes : Bool) (
 
   -- after an iteration that goes on; y, u: what it comes to, and the table after it
   module _ (stop : ℕ) (p : Bool) (r : Run) (o : Opens) (from deep : ℕ) (t : List NodeRecord) (h : Seeking stop p r o from deep t)
-      (y : Iteration) (u : List NodeRecord) (made : Iterates n bytes r o.depth (low_of o) t y u) (l : r.covered ≤ stop) (w : y.went ≡ true) where
+      (y : IterationView) (u : List NodeRecord) (made : Iterates n bytes r o.depth (low_of o) t y u) (l : r.covered ≤ stop) (w : y.went ≡ true) where
     abbrev os : Opens
     os = opens_to o y.depth y.low
 
@@ -130,7 +129,7 @@ module _ (n : ℕ) (bytes : List ℕ) (few : n ≤ option_limit) (noes : Bool) (
         here = λ _. h.here l;
       })
 
-      y : Iteration
+      y : IterationView
       y = (iteration_in n bytes r o.depth (low_of o) t).iteration
 
       u : List NodeRecord

@@ -25,9 +25,8 @@ use Rattle.cursors.specs.declared.Pair.{Pair}
 use Rattle.cursors.specs.declared.Run.{Run}
 use Rattle.node_records.specs.declared.NodeRecord.{NodeRecord}
 use Rattle.work_table.specs.TableLaws.{record_node}
-use Rattle.reader.specs.declared.Taken.{Taken}
 use Rattle.cursors.specs.Cursors.{is_kept_of}
-use Rattle.reader.specs.Taking.{goes_of, fails_of, moved_to, passed_to, sized_to, found_to, closed_two, closed_to, is_bad_of, next_stamp}
+use Rattle.reader.specs.Taking.{TakenView, goes_of, fails_of, moved_to, passed_to, sized_to, found_to, closed_two, closed_to, is_bad_of, next_stamp}
 use Rattle.reader.specs.Taking.{stored_run, stored_to, taken_of}
 
 -- ---- The records as the theory's -------------------------------------------------------------
@@ -39,10 +38,10 @@ pair_of p = children (ref_of p.first) p.complement (ref_of p.second)
 abbrev pub state_of : Run → List T.Open → List Node → State
 state_of r os t = state (T.place r.at (context_of r.context) os (ref_of r.last)) r.size r.covered r.complement t (pair_of r.pair)
 
-abbrev pub fault_of : Taken → Option Fault
+abbrev pub fault_of : TakenView → Option Fault
 fault_of y = cond y.faulty (some (record { cause = cause_of y.cause; byte = y.byte })) none
 
-abbrev pub reading_of : Taken → List T.Open → List Node → Reading
+abbrev pub reading_of : TakenView → List T.Open → List Node → Reading
 reading_of y os t = record { state = state_of y.run os t; fault = fault_of y }
 
 -- The record that a storing writes, d nodes being open. x: the row of the number before
@@ -50,7 +49,7 @@ abbrev pub node_to : Run → ℕ → NodeRecord → Node
 node_to r d x = new_node (d + 1) r.pair.first.number r.pair.second.number r.pair.complement (next_stamp x.stamp)
 
 -- The table after an element: a size makes a new one, a storing writes one record. r: the run before; y: what was taken
-abbrev pub table_to : Run → ℕ → Element → NodeRecord → Taken → List Node → List Node
+abbrev pub table_to : Run → ℕ → Element → NodeRecord → TakenView → List Node → List Node
 table_to r d Opening x y t = t
 table_to r d (Number v) x y t = cond (is_start (context_of r.context)) (cond y.faulty t (replicate (suc v) no_node)) t
 table_to r d Constant x y t = t
@@ -115,7 +114,7 @@ module _ (n : ℕ) (r : Run) (os os' : List T.Open) (t : List Node) (at : ℕ) (
   onto = next r os' at m
 
   -- at a fault the open nodes stay
-  abbrev taken : Taken → List Node → Reading
+  abbrev taken : TakenView → List Node → Reading
   taken y u = reading_of y (cond y.faulty os os') u
 
   take-opening : (b : Bool) → taken (cond b (fails_of r TooDeep r.at) (goes_of (moved_to r at m))) t

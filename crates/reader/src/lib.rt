@@ -1,81 +1,58 @@
+// One element more, the loop over elements, and reading on from a cursor. The stream, its table and its open nodes are three parameters: a struct of `&mut`, as the
+// stream of `operands`, would owe in each contract that its references are the same ones, and three calls pass them on: no plainer.
 #![tactic(auto)]
 
-ghost use Rattle.std.specs.Prelude.{◌≡◌, ◌+◌, ◌-◌, ◌<◌, ◌≤◌, ◌^◌};
+ghost use Rattle.std.specs.Prelude.{◌≡◌, ◌+◌, ◌-◌, ◌<◌, ◌≤◌, ◌^◌, Ok};
 ghost use Rattle.theory_reading.specs.Limits.{option_limit, open_limit, word_limit};
 ghost use Rattle.theory_reading.specs.StepLaws.{digit_place};
-ghost use Rattle.kinds.specs.Kinds.{kind_table};
+ghost use Rattle.scanner.specs.TokenView.{outcome_in};
+ghost use Rattle.cursors.specs.declared.Run.{Run};
 ghost use Rattle.reader.specs.Taking.{goes_of, fails_of, moved_to, passed_to, turned_to, sized_to, found_to, closed_two, closed_to, is_bad_of};
-ghost use Rattle.reader.specs.Taking.{next_stamp, stored_to, taken_of};
-ghost use Rattle.reader.specs.Advance.{barred_by, record_to, updated_to, low_of, nodes_to, stayed, went_by, Iterates};
-ghost use Rattle.reader.specs.OpenCells.{nodes_in, opens_in, reached_in, cursor_in};
+ghost use Rattle.reader.specs.Taking.{WithinLimits, next_stamp, stored_to, taken_of, taken_view};
+ghost use Rattle.reader.specs.Advance.{bars_by, barred_by, record_to, updated_to, nodes_to, Iterates, iteration_view, went_view};
+ghost use Rattle.reader.specs.OpenNodes.{opens_in, reached_in, cursor_in};
 ghost use Rattle.reader.specs.ReadOn.{off_by, read_from};
-ghost use Rattle.reader.specs.RunOn.{complement_in, parity_to, last_edge, stop_to, goal_to, goal_of, resting_of, run_all, search_from};
-ghost use Rattle.reader.specs.Tokens.{element_in, is_fault, is_out};
+ghost use Rattle.reader.specs.RunOn.{complement_in, parity_to, last_edge, stop_to, seeks_in, goal_view, goal_to, run_all, run_from, search_from};
+ghost use Rattle.reader.specs.Tokens.{outcome_as};
 
 use cursors::{Cursor, Pair, Run, is_kept};
-use elements::{Cause, Context, Element, OPEN_LIMIT, Open, Ref, is_context, spots_of};
+use elements::{Cause, Context, Element, Fault, OPEN_LIMIT, Open, Outcome, Ref, spots_of};
 use kinds::kinds;
-use node_records::{
-    Edge, NodeRecord, OPTION_LIMIT, TABLE_LIMIT, WORD_LIMIT, bit, differs, some_yes,
-};
+use node_records::{Edge, NodeRecord, OPTION_LIMIT, Record, TABLE_LIMIT, WORD_LIMIT, some_yes};
 use record_tables::clear_records;
-use scanner::{BLANK, COLON, NextToken, Token, next_token};
+use scanner::{BLANK, COLON, NextToken, next_token};
 use work_table::{get, store};
 
 // ---- One element more
 
-// An element taken: what reading has come to; the fault, if there is one; whether its number is the size, or is stored.
+// What an element changes in the table: nothing, or its number is the size, or is stored.
+#[derive(Clone, Copy)]
+enum Change {
+    Nothing,
+    Size,
+    Node,
+}
+
+// An element taken: what reading has come to, but for the place, and what changes in the table.
 #[derive(Clone, Copy)]
 struct Taken {
     run: Run,
-    byte: usize,
-    faulty: bool,
-    cause: Cause,
-    sizes: bool,
-    stores: bool,
+    change: Change,
 }
 
-fn goes(r: Run) -> Taken
-    ensures { result ≡ goes_of r }
+fn goes(run: Run) -> Result<Taken, Fault>
+    ensures { (r : Run) → taken_view r result ≡ goes_of run }
 {
-    Taken {
-        run: r,
-        faulty: false,
-        cause: Cause::WrongByte,
-        byte: 0,
-        sizes: false,
-        stores: false,
-    }
+    Ok(Taken {
+        run,
+        change: Change::Nothing,
+    })
 }
 
-fn fails(r: Run, c: Cause, b: usize) -> Taken
-    ensures { result ≡ fails_of r c b }
+fn fails(cause: Cause, byte: usize) -> Result<Taken, Fault>
+    ensures { (r : Run) → taken_view r result ≡ fails_of r cause byte }
 {
-    Taken {
-        run: r,
-        faulty: true,
-        cause: c,
-        byte: b,
-        sizes: false,
-        stores: false,
-    }
-}
-
-// The place moves on.
-fn moved(r: Run, at: usize, m: Context) -> Run
-    ensures { result ≡ moved_to r at m }
-{
-    let x = r.last;
-    let p = r.pair;
-    Run {
-        at: at,
-        context: m,
-        last: x,
-        size: r.size,
-        covered: r.covered,
-        complement: r.complement,
-        pair: p,
-    }
+    Err(Fault { cause, byte })
 }
 
 // The words of a node with d open nodes around it.
@@ -83,187 +60,127 @@ fn words(n: u32, d: u32) -> u64
     requires { n ≤ option_limit }
     ensures { (result ≡ 2 ^ (n - d)) × (result ≤ word_limit) }
 {
-    if n < d {
-        return 1;
-    }
-    1u64 << (n - d)
+    1u64 << n.saturating_sub(d)
 }
 
 // A node that refers to x passes its words.
-fn passed(n: u32, r: Run, d: u32, x: Ref, at: usize, m: Context) -> Run
-    requires { (n ≤ option_limit) × (r.covered ≤ word_limit) }
-    ensures { result ≡ passed_to n r d x at m }
+fn passed(n: u32, r: Run, d: u32, x: Ref) -> Run
+    requires { WithinLimits n r d }
+    ensures { result ≡ passed_to n r d x r.at r.context }
 {
-    let p = r.pair;
-    let c = r.covered + words(n, d);
     Run {
-        at: at,
-        context: m,
         last: x,
-        size: r.size,
-        covered: c,
-        complement: r.complement,
-        pair: p,
+        covered: r.covered + words(n, d),
+        ..r
     }
 }
 
-fn turned(r: Run, at: usize, m: Context) -> Run
-    ensures { result ≡ turned_to r at m }
+fn turned(r: Run) -> Run
+    ensures { result ≡ turned_to r r.at r.context }
 {
-    let k = r.context;
-    let mut q = moved(r, at, m);
-    if is_context(k, Context::Lead) {
-        q.complement = true;
+    Run {
+        complement: r.context == Context::Lead || r.complement,
+        ..r
     }
-    q
 }
 
 // The size v, whose first digit stands at g.
-fn sized(r: Run, g: usize, v: u32, at: usize, m: Context) -> Taken
-    ensures { result ≡ sized_to r g v at m }
+fn sized(r: Run, g: usize, v: u32) -> Result<Taken, Fault>
+    ensures { taken_view r result ≡ sized_to r g v r.at r.context }
 {
     if TABLE_LIMIT < v as usize {
-        return fails(r, Cause::DeclaredSize, g);
+        return fails(Cause::DeclaredSize, g);
     }
-    let mut q = moved(r, at, m);
-    q.size = v;
-    Taken {
-        run: q,
-        faulty: false,
-        cause: Cause::WrongByte,
-        byte: 0,
-        sizes: true,
-        stores: false,
-    }
+    Ok(Taken {
+        run: Run { size: v, ..r },
+        change: Change::Size,
+    })
 }
 
 // The number v, with its record x.
-fn found(n: u32, r: Run, d: u32, g: usize, v: u32, x: NodeRecord, at: usize, m: Context) -> Taken
-    requires { (n ≤ option_limit) × ((r.covered ≤ word_limit) × (d ≤ open_limit)) }
-    ensures { result ≡ found_to n r d g v x at m }
+fn found(n: u32, r: Run, d: u32, g: usize, v: u32, x: NodeRecord) -> Result<Taken, Fault>
+    requires { WithinLimits n r d }
+    ensures { taken_view r result ≡ found_to n r d g v x r.at r.context }
 {
     if x.level == 0 {
-        return fails(r, Cause::NotInTable, g);
+        return fails(Cause::NotInTable, g);
     }
     if x.level != d + 1 {
-        return fails(r, Cause::OtherLevel, g);
+        return fails(Cause::OtherLevel, g);
     }
     let e = Ref {
         number: v,
         stamp: x.stamp,
     };
-    goes(passed(n, r, d, e, at, m))
+    goes(passed(n, r, d, e))
 }
 
 // The second child of the open node o has ended.
-fn paired(r: Run, o: Open, at: usize, m: Context) -> Run
-    ensures { result ≡ closed_two r o at m }
+fn paired(r: Run, o: Open) -> Run
+    ensures { result ≡ closed_two r o r.at r.context }
 {
-    let a = o.first;
-    let b = r.last;
-    let p = Pair {
-        first: a,
-        complement: o.complement,
-        second: b,
-    };
-    let t = Ref {
-        number: 0,
-        stamp: 1,
-    };
     Run {
-        at: at,
-        context: m,
-        last: t,
-        size: r.size,
-        covered: r.covered,
-        complement: r.complement,
-        pair: p,
+        last: Ref::TEMPORARY,
+        pair: Pair {
+            first: o.first,
+            complement: o.complement,
+            second: r.last,
+        },
+        ..r
     }
 }
 
 // The innermost open node, o, is closed.
-fn closed(n: u32, r: Run, d: u32, o: Open, at: usize, m: Context) -> Taken
-    requires { (n ≤ option_limit) × (r.covered ≤ word_limit) }
-    ensures { result ≡ closed_to n r d o at m }
+fn closed(n: u32, r: Run, d: u32, o: Open) -> Result<Taken, Fault>
+    requires { WithinLimits n r d }
+    ensures { taken_view r result ≡ closed_to n r d o r.at r.context }
 {
     if d == 0 {
-        return goes(moved(r, at, m));
+        return goes(r);
     }
-    let last = r.last;
-    let two = o.second;
-    if two {
-        return goes(paired(r, o, at, m));
+    if o.second {
+        return goes(paired(r, o));
     }
-    if is_kept(last) {
-        return goes(passed(n, r, d, last, at, m));
+    if is_kept(r.last) {
+        return goes(passed(n, r, d, r.last));
     }
-    fails(r, Cause::NotStorable, r.at)
+    fails(Cause::NotStorable, r.at)
 }
 
 // The number k, with its record x, may not be stored.
 fn is_bad(r: Run, k: u32, x: NodeRecord) -> bool
     ensures { result ≡ is_bad_of r k x }
 {
-    if k == 0 {
-        return true;
-    }
-    if r.size < k {
-        return true;
-    }
-    if x.parents != 0 {
-        return true;
-    }
-    let p = r.pair;
-    let a = p.first;
-    if a.number == k {
-        return true;
-    }
-    let b = p.second;
-    b.number == k
+    k == 0 || r.size < k || x.parents != 0 || r.pair.first.number == k || r.pair.second.number == k
 }
 
 // A stamp that does not fit stays at the largest; none comes so far.
 fn next_stamp(g: u32) -> u32
     ensures { result ≡ next_stamp g }
 {
-    if g < 4294967295 { g + 1 } else { g }
+    g.saturating_add(1)
 }
 
 // The node that ended last is given the number k, with its record x.
-fn stored(r: Run, k: u32, x: NodeRecord, at: usize, m: Context) -> Taken
+fn stored(r: Run, k: u32, x: NodeRecord) -> Result<Taken, Fault>
     requires { r.at < 18446744073709551615 }
-    ensures { result ≡ stored_to r k x at m }
+    ensures { taken_view r result ≡ stored_to r k x r.at r.context }
 {
     if is_bad(r, k, x) {
-        return fails(r, Cause::BadNumber, r.at + 1);
+        return fails(Cause::BadNumber, r.at + 1);
     }
-    let g = next_stamp(x.stamp);
-    let p = r.pair;
     let e = Ref {
         number: k,
-        stamp: g,
+        stamp: next_stamp(x.stamp),
     };
-    let q = Run {
-        at: at,
-        context: m,
-        last: e,
-        size: r.size,
-        covered: r.covered,
-        complement: r.complement,
-        pair: p,
-    };
-    Taken {
-        run: q,
-        faulty: false,
-        cause: Cause::WrongByte,
-        byte: 0,
-        sizes: false,
-        stores: true,
-    }
+    Ok(Taken {
+        run: Run { last: e, ..r },
+        change: Change::Node,
+    })
 }
 
-// One element more. n: the option count; d: how many nodes are open, and o the innermost; g: where the first digit of a number stands; x: the
-// record of the number, if it has one; at, m: the place after it.
+// One element more, but that the place moves on. n: the option count; d: how many nodes are open, and o the innermost; g: where the first digit of a
+// number stands; x: the record of the number, if it has one.
 fn take_element(
     n: u32,
     r: Run,
@@ -272,62 +189,38 @@ fn take_element(
     g: usize,
     e: Element,
     x: NodeRecord,
-    at: usize,
-    m: Context,
-) -> Taken
-    requires { (n ≤ option_limit) × ((r.covered ≤ word_limit) × ((d ≤ open_limit) × (r.at < 18446744073709551615))) }
-    ensures { result ≡ taken_of n r d o g e x at m }
+) -> Result<Taken, Fault>
+    requires { WithinLimits n r d × (r.at < 18446744073709551615) }
+    ensures { taken_view r result ≡ taken_of n r d o g e x r.at r.context }
 {
     match e {
-        Element::Opening => {
-            if n < d + 1 {
-                return fails(r, Cause::TooDeep, r.at);
-            }
-            goes(moved(r, at, m))
-        }
-        Element::Number(v) => {
-            let k = r.context;
-            if is_context(k, Context::Start) {
-                return sized(r, g, v, at, m);
-            }
-            found(n, r, d, g, v, x, at, m)
-        }
-        Element::Constant => {
-            let z = Ref {
-                number: 0,
-                stamp: 0,
-            };
-            goes(passed(n, r, d, z, at, m))
-        }
-        Element::Turn => goes(turned(r, at, m)),
-        Element::Closing => closed(n, r, d, o, at, m),
-        Element::Storing(k) => stored(r, k, x, at, m),
-        Element::End => goes(moved(r, at, m)),
+        Element::Opening if n < d + 1 => fails(Cause::TooDeep, r.at),
+        Element::Opening | Element::End => goes(r),
+        Element::Number(v) if r.context == Context::Start => sized(r, g, v),
+        Element::Number(v) => found(n, r, d, g, v, x),
+        Element::Constant => goes(passed(n, r, d, Ref::TERMINAL)),
+        Element::Turn => goes(turned(r)),
+        Element::Closing => closed(n, r, d, o),
+        Element::Storing(k) => stored(r, k, x),
     }
 }
 
 // ---- One iteration
 
+// The record of the child a has another stamp: its number was given out again, or it has none.
+fn is_stale(t: &[NodeRecord], z: u32, a: Ref) -> bool
+    ensures { result ≡ bars_by t.now z a }
+{
+    get(t, z, a.number).stamp != a.stamp
+}
+
 // A `:` at the place is barred by a child, whose number was given out again. b: the byte there
 fn barred(t: &[NodeRecord], r: Run, b: u8) -> bool
     ensures { result ≡ barred_by t.now r b }
 {
-    let m = r.context;
-    if b != COLON {
-        return false;
-    }
-    if !is_context(m, Context::AfterTwo) {
-        return false;
-    }
-    let p = r.pair;
-    let a = p.first;
-    let x = get(t, r.size, a.number);
-    if x.stamp != a.stamp {
-        return true;
-    }
-    let c = p.second;
-    let y = get(t, r.size, c.number);
-    y.stamp != c.stamp
+    b == COLON
+        && r.context == Context::AfterTwo
+        && (is_stale(t, r.size, r.pair.first) || is_stale(t, r.size, r.pair.second))
 }
 
 // The record that a storing puts, d nodes being open; `store` has what it says of the words below. x: the record before
@@ -335,79 +228,35 @@ fn record_of(r: Run, d: u32, x: NodeRecord) -> NodeRecord
     requires { d ≤ open_limit }
     ensures { result ≡ record_to r d x }
 {
-    let p = r.pair;
-    let a = p.first;
-    let b = p.second;
     NodeRecord {
         level: d + 1,
-        first: a.number,
-        second: b.number,
-        complement: bit(p.complement),
+        first: r.pair.first.number,
+        second: r.pair.second.number,
+        complement: u32::from(r.pair.complement),
         stamp: next_stamp(x.stamp),
         parents: x.parents,
-        admits: 0,
-        refuses: 0,
+        ..NodeRecord::empty()
     }
 }
 
 // The table after an element of the number k: a size clears its records, a storing puts one.
 fn update_table(t: &mut [NodeRecord], r: Run, d: u32, k: u32, x: NodeRecord, y: Taken)
     requires { d ≤ open_limit }
-    ensures { t.new ≡ updated_to r d k x y t.old }
+    ensures { t.new ≡ updated_to r d k x (taken_view r (Ok y)) t.old }
 {
-    let s = y.stores;
-    if s {
-        store(t, r.size, k, record_of(r, d, x));
-        return;
-    }
-    let z = y.sizes;
-    if z {
-        clear_records(t, k as usize);
+    match y.change {
+        Change::Nothing => {}
+        Change::Size => clear_records(t, k as usize),
+        Change::Node => store(t, r.size, k, record_of(r, d, x)),
     }
 }
 
-// An iteration of the loop: what reading has come to, how many nodes are open, the entry of the innermost before it, whether it went on, and the fault if
-// there is one.
+// An iteration of the loop that went on: what reading has come to, how many nodes are open, and the entry of the innermost before it.
 #[derive(Clone, Copy)]
 struct Iteration {
     run: Run,
     depth: usize,
-    byte: usize,
     low: Open,
-    went: bool,
-    faulty: bool,
-    cause: Cause,
-}
-
-fn halted(r: Run, d: usize, low: Open, f: bool, c: Cause, b: usize) -> Iteration
-    ensures { result ≡ stayed r d low f c b }
-{
-    Iteration {
-        run: r,
-        depth: d,
-        low: low,
-        went: false,
-        faulty: f,
-        cause: c,
-        byte: b,
-    }
-}
-
-fn went_on(y: Taken, x: NextToken) -> Iteration
-    ensures { result ≡ went_by y x }
-{
-    let q = y.run;
-    let l = x.low;
-    let c = y.cause;
-    Iteration {
-        run: q,
-        depth: x.depth,
-        low: l,
-        went: !y.faulty,
-        faulty: y.faulty,
-        cause: c,
-        byte: y.byte,
-    }
 }
 
 // Where the first digit of a number stands. b: the byte at the place
@@ -418,99 +267,59 @@ fn digit_place(b: u8, at: usize) -> usize
     if b == BLANK { at + 1 } else { at }
 }
 
-fn is_fault(w: Token) -> bool
-    ensures { result ≡ is_fault w }
+// The element of the token x. Err: there is none, with the fault if there is one
+fn element_of(x: NextToken) -> Result<Element, Option<Fault>>
+    ensures { outcome_as result ≡ outcome_in x }
 {
-    match w {
-        Token::Opening => false,
-        Token::Number => false,
-        Token::Constant => false,
-        Token::Turn => false,
-        Token::Closing => false,
-        Token::Storing => false,
-        Token::End => false,
-        Token::Fault => true,
-        Token::Out => false,
+    match Outcome::from(x) {
+        Outcome::Got(e) => Ok(e),
+        Outcome::Fault(f) => Err(Some(f)),
+        Outcome::RanOut => Err(None),
     }
 }
 
-fn is_out(w: Token) -> bool
-    ensures { result ≡ is_out w }
-{
-    match w {
-        Token::Opening => false,
-        Token::Number => false,
-        Token::Constant => false,
-        Token::Turn => false,
-        Token::Closing => false,
-        Token::Storing => false,
-        Token::End => false,
-        Token::Fault => false,
-        Token::Out => true,
-    }
-}
-
-// The element, with its number v.
-fn element_of(w: Token, v: u32) -> Element
-    ensures { result ≡ element_in w v }
-{
-    match w {
-        Token::Opening => Element::Opening,
-        Token::Number => Element::Number(v),
-        Token::Constant => Element::Constant,
-        Token::Turn => Element::Turn,
-        Token::Closing => Element::Closing,
-        Token::Storing => Element::Storing(v),
-        Token::End => Element::End,
-        Token::Fault => Element::End,
-        Token::Out => Element::End,
-    }
-}
-
-// One iteration of the loop. d: how many nodes are open, low: the innermost
+// One iteration of the loop. d: how many nodes are open, low: the innermost. Err: the loop halts, with the fault if there is one
 fn iterate(
-    k: &[u8; 256],
     n: u32,
     s: &[u8],
     t: &mut [NodeRecord],
     r: Run,
     d: usize,
     low: Open,
-) -> Iteration
-    requires { (k.now ≡ kind_table) × ((n ≤ option_limit) × ((r.covered ≤ word_limit) × (d ≤ open_limit))) }
-    ensures { Iterates n s.now r d low t.old result t.new }
+) -> Result<Iteration, Option<Fault>>
+    requires { WithinLimits n r d }
+    ensures { Iterates n s.now r d low t.old (iteration_view r d low result) t.new }
 {
-    let at = r.at;
-    if s.len() <= at {
-        return halted(r, d, low, false, Cause::WrongByte, 0);
-    }
-    let b = s[at];
+    let Some(&b) = s.get(r.at) else {
+        return Err(None);
+    };
     if barred(t, r, b) {
-        return halted(r, d, low, true, Cause::NotStorable, at);
+        return Err(Some(Fault {
+            cause: Cause::NotStorable,
+            byte: r.at,
+        }));
     }
-    let m = r.context;
-    let last = r.last;
-    let x = next_token(k, s, at, m, last, d, low);
-    let w = x.token;
-    if is_fault(w) {
-        let c = x.cause;
-        return halted(r, d, low, true, c, x.byte);
-    }
-    if is_out(w) {
-        return halted(r, d, low, false, Cause::WrongByte, 0);
-    }
-    let e = element_of(w, x.number);
+    let x = next_token(kinds(), s, r.at, r.context, r.last, d, low);
+    let e = element_of(x)?;
     let row = get(t, r.size, x.number);
-    let m1 = x.context;
-    let y = take_element(n, r, d as u32, low, digit_place(b, at), e, row, x.at, m1);
+    let y = take_element(n, r, d as u32, low, digit_place(b, r.at), e, row)?;
     update_table(t, r, d as u32, x.number, row, y);
-    went_on(y, x)
+    let run = Run {
+        at: x.at,
+        context: x.context,
+        ..y.run
+    };
+    Ok(Iteration {
+        run,
+        depth: x.depth,
+        low: x.low,
+    })
 }
 
 // ---- The loop
 
 // What the loop has reached: what reading has come to, and how many nodes are open; the covered count and the open nodes before the last element;
-// whether it halted, and the fault if there is one.
+// whether it halted, and the fault if there is one. (Both: reading may halt with no fault, and `ReadReached` of the clauses has both.)
 #[derive(Clone, Copy)]
 pub struct Reached {
     pub run: Run,
@@ -518,85 +327,62 @@ pub struct Reached {
     pub from: u64,
     pub deep: usize,
     pub halted: bool,
-    pub faulty: bool,
-    pub cause: Cause,
-    pub byte: usize,
+    pub fault: Option<Fault>,
 }
 
-// The innermost of d open nodes. o: the open nodes, the outermost first: the number and the stamp of what the first child was, then 1 or 0 for whether
-// the second child has begun, and whether a `~` stands before it.
-fn open_at(o: &[[u32; 4]; OPEN_LIMIT], d: usize) -> Open
-    ensures { result ≡ low_of (opens_in o.now d) }
+// The innermost of d open nodes becomes e, and one that opens after it is in its first child. o: the open nodes, the outermost first
+fn put_open(o: &mut [Open; OPEN_LIMIT], d: usize, e: Open)
+    ensures { o.new ≡ nodes_to o.old d e }
 {
     let p = spots_of(d);
-    let i = p.low;
-    let a = o[i];
-    let r = Ref {
-        number: a[0],
-        stamp: a[1],
-    };
-    Open {
-        first: r,
-        second: a[2] != 0,
-        complement: a[3] != 0,
-    }
-}
-
-// The innermost of d open nodes becomes e, and one that opens after it is in its first child.
-fn put_open(o: &mut [[u32; 4]; OPEN_LIMIT], d: usize, e: Open)
-    ensures { nodes_in o.new ≡ nodes_to (nodes_in o.old) d e }
-{
-    let p = spots_of(d);
-    let i = p.low;
-    let j = p.high;
-    let r = e.first;
-    let a = [r.number, r.stamp, bit(e.second), bit(e.complement)];
-    o[j] = [0; 4];
-    o[i] = a;
+    o[p.high] = Open::INSIDE;
+    o[p.low] = e;
 }
 
 // ---- The loop's goal
 
-// The loop reads on while no more than `stop` words are covered. If it seeks words, odd: whether an odd number of open nodes turns about; noes: it seeks
-// words that are no, not words that are yes
+// What a search keeps. odd: whether an odd number of open nodes turns about; noes: words that are no are sought, not words that are yes
 #[derive(Clone, Copy)]
-struct Goal {
-    stop: u64,
+struct Search {
     odd: bool,
     noes: bool,
 }
 
+// The loop reads on while no more than `stop` words are covered; a search moves the stop behind words of which none is sought.
+#[derive(Clone, Copy)]
+struct Goal {
+    stop: u64,
+    search: Option<Search>,
+}
+
 // The place is in the second child, and the edge to it is complemented.
-fn complements(e: Open) -> bool
+pub fn complements(e: Open) -> bool
     ensures { result ≡ complement_in e }
 {
-    let two = e.second;
-    if two { e.complement } else { false }
+    e.second && e.complement
 }
 
 // Whether an odd number of open nodes turns about, after the iteration x. p: before it; d, low: how many are open before it, and the innermost
 fn parity_on(p: bool, d: usize, low: Open, x: Iteration) -> bool
-    ensures { result ≡ parity_to p d low x }
+    ensures { result ≡ parity_to p d low (went_view x) }
 {
     if d == 0 {
         return false;
     }
-    let q = differs(complements(low), p);
+    let q = complements(low) != p;
     if x.depth < d {
         return q;
     }
-    let l = x.low;
-    differs(complements(l), q)
+    complements(x.low) != q
 }
 
 // What ended last, turned about if p.
 fn last_edge(r: Run, p: bool) -> Edge
     ensures { result ≡ last_edge r p }
 {
-    let l = r.last;
     Edge {
-        number: l.number,
-        complement: differs(p, r.complement),
+        number: r.last.number,
+        complement: p != r.complement,
     }
 }
 
@@ -604,94 +390,76 @@ fn last_edge(r: Run, p: bool) -> Edge
 fn stop_after(t: &[NodeRecord], r: Run, stop: u64, p: bool) -> u64
     ensures { result ≡ stop_to t.now r stop p }
 {
-    if r.covered <= stop {
-        return stop;
-    }
-    if WORD_LIMIT < r.covered {
+    if r.covered <= stop || WORD_LIMIT < r.covered {
         return stop;
     }
     let e = last_edge(r, p);
     if some_yes(get(t, r.size, e.number), e) {
-        return stop;
+        stop
+    } else {
+        r.covered
     }
-    r.covered
 }
 
 // The goal after the iteration x, which stays unless the loop seeks. d, low: how many nodes are open before it, and the innermost
-fn goal_after(t: &[NodeRecord], seeks: bool, g: Goal, d: usize, low: Open, x: Iteration) -> Goal
-    ensures { result ≡ goal_to seeks t.now g d low x }
+fn goal_after(t: &[NodeRecord], g: Goal, d: usize, low: Open, x: Iteration) -> Goal
+    ensures { (goal_view result ≡ goal_to (seeks_in g.search) t.now (goal_view g) d low (went_view x))
+        × (seeks_in result.search ≡ seeks_in g.search) }
 {
-    if !seeks {
-        return g;
-    }
-    let p = parity_on(g.odd, d, low, x);
-    let r = x.run;
-    let v = stop_after(t, r, g.stop, differs(g.noes, p));
+    let Some(search) = g.search else { return g };
+    let odd = parity_on(search.odd, d, low, x);
     Goal {
-        stop: v,
-        odd: p,
-        noes: g.noes,
+        stop: stop_after(t, x.run, g.stop, search.noes != odd),
+        search: Some(Search { odd, ..search }),
     }
 }
 
-// Reads on to the goal, inside the open nodes o, of which there are `around`.
+// Reads on to the goal, from a cursor inside the open nodes o.
 fn run_on(
-    k: &[u8; 256],
     n: u32,
     s: &[u8],
     t: &mut [NodeRecord],
-    o: &mut [[u32; 4]; OPEN_LIMIT],
-    first: Run,
-    around: usize,
-    seeks: bool,
+    o: &mut [Open; OPEN_LIMIT],
+    c: Cursor,
     goal: Goal,
 ) -> Reached
-    requires { (k.now ≡ kind_table) × ((n ≤ option_limit) × ((around ≤ open_limit) × (goal.stop ≤ word_limit))) }
+    requires { (n ≤ option_limit) × ((c.depth ≤ open_limit) × (goal.stop ≤ word_limit)) }
     ensures { record { reached = reached_in result o.new; table = t.new }
-        ≡ run_all n s.now seeks goal first (opens_in o.old around) t.old }
+        ≡ run_all n s.now (seeks_in goal.search) (goal_view goal) c.run (opens_in o.old c.depth) t.old }
 {
-    let mut run = first;
-    let mut depth = around;
-    let mut from = 0;
-    let mut deep = 0;
     let mut g = goal;
-    while run.covered <= g.stop {
-        let d = depth;
-        let low = open_at(o, d);
-        let x = iterate(k, n, s, t, run, d, low);
-        let w = x.went;
-        if !w {
-            let c = x.cause;
-            return Reached {
-                run: run,
-                depth: depth,
-                from: from,
-                deep: deep,
-                halted: true,
-                faulty: x.faulty,
-                cause: c,
-                byte: x.byte,
-            };
-        }
-        g = goal_after(t, seeks, g, d, low, x);
-        from = run.covered;
-        deep = d;
-        let q = x.run;
-        run = q;
-        let l = x.low;
-        put_open(o, d, l);
-        depth = x.depth;
-    }
-    Reached {
-        run: run,
-        depth: depth,
-        from: from,
-        deep: deep,
+    let mut r = Reached {
+        run: c.run,
+        depth: c.depth,
+        from: 0,
+        deep: 0,
         halted: false,
-        faulty: false,
-        cause: Cause::WrongByte,
-        byte: 0,
+        fault: None,
+    };
+    // It counts no index: it reads on until words are covered.
+    while r.run.covered <= g.stop {
+        let low = o[spots_of(r.depth).low];
+        let x = match iterate(n, s, t, r.run, r.depth, low) {
+            Ok(x) => x,
+            Err(fault) => {
+                return Reached {
+                    halted: true,
+                    fault,
+                    ..r
+                };
+            }
+        };
+        g = goal_after(t, g, r.depth, low, x);
+        put_open(o, r.depth, x.low);
+        r = Reached {
+            run: x.run,
+            depth: x.depth,
+            from: r.run.covered,
+            deep: r.depth,
+            ..r
+        };
     }
+    r
 }
 
 // ---- Reading on from a cursor
@@ -700,40 +468,32 @@ fn run_on(
 fn is_off(n: u32, d: usize, stop: u64) -> bool
     ensures { result ≡ off_by n d stop }
 {
-    if OPTION_LIMIT < n {
-        return true;
-    }
-    if OPEN_LIMIT < d {
-        return true;
-    }
-    WORD_LIMIT < stop
+    OPTION_LIMIT < n || OPEN_LIMIT < d || WORD_LIMIT < stop
 }
 
-fn goal_of(stop: u64, odd: bool, noes: bool) -> Goal
-    ensures { result ≡ goal_of stop odd noes }
+// Reads on to the goal, from a cursor; past the limits nothing is read.
+fn run_from(
+    n: u32,
+    s: &[u8],
+    t: &mut [NodeRecord],
+    o: &mut [Open; OPEN_LIMIT],
+    c: Cursor,
+    goal: Goal,
+) -> Reached
+    ensures { record { reached = reached_in result o.new; table = t.new }
+        ≡ run_from n s.now (seeks_in goal.search) (goal_view goal) (cursor_in c o.old) t.old }
 {
-    Goal {
-        stop: stop,
-        odd: odd,
-        noes: noes,
+    if is_off(n, c.depth, goal.stop) {
+        return Reached {
+            run: c.run,
+            depth: c.depth,
+            from: 0,
+            deep: 0,
+            halted: true,
+            fault: None,
+        };
     }
-}
-
-// Where nothing is read.
-fn resting(c: Cursor) -> Reached
-    ensures { result ≡ resting_of c }
-{
-    let q = c.run;
-    Reached {
-        run: q,
-        depth: c.depth,
-        from: 0,
-        deep: 0,
-        halted: true,
-        faulty: false,
-        cause: Cause::WrongByte,
-        byte: 0,
-    }
+    run_on(n, s, t, o, c, goal)
 }
 
 // READING ON while no more than `stop` words are covered. o: the open nodes, as reading left them
@@ -741,20 +501,14 @@ pub fn read_on(
     n: u32,
     s: &[u8],
     t: &mut [NodeRecord],
-    o: &mut [[u32; 4]; OPEN_LIMIT],
+    o: &mut [Open; OPEN_LIMIT],
     c: Cursor,
     stop: u64,
 ) -> Reached
     ensures { record { reached = reached_in result o.new; table = t.new }
         ≡ read_from n s.now stop (cursor_in c o.old) t.old }
 {
-    let q = c.run;
-    if is_off(n, c.depth, stop) {
-        return resting(c);
-    }
-    let k = kinds();
-    let g = goal_of(stop, false, false);
-    run_on(&k, n, s, t, o, q, c.depth, false, g)
+    run_from(n, s, t, o, c, Goal { stop, search: None })
 }
 
 // SEARCHING ON: reads on until words are passed of which some is yes or, if `noes`, some is no. o: the open nodes, as reading left them; odd: an odd number
@@ -763,7 +517,7 @@ pub fn search_on(
     n: u32,
     s: &[u8],
     t: &mut [NodeRecord],
-    o: &mut [[u32; 4]; OPEN_LIMIT],
+    o: &mut [Open; OPEN_LIMIT],
     c: Cursor,
     odd: bool,
     noes: bool,
@@ -771,11 +525,9 @@ pub fn search_on(
     ensures { record { reached = reached_in result o.new; table = t.new }
         ≡ search_from n s.now (cursor_in c o.old) odd noes t.old }
 {
-    let q = c.run;
-    if is_off(n, c.depth, q.covered) {
-        return resting(c);
-    }
-    let k = kinds();
-    let g = goal_of(q.covered, odd, noes);
-    run_on(&k, n, s, t, o, q, c.depth, true, g)
+    let goal = Goal {
+        stop: c.run.covered,
+        search: Some(Search { odd, noes }),
+    };
+    run_from(n, s, t, o, c, goal)
 }

@@ -2,87 +2,39 @@
 #![tactic(auto)]
 
 ghost use Rattle.std.specs.Prelude.{◌≡◌, length};
-ghost use Rattle.node_records.specs.Records.{no_record, no_writer_record};
 ghost use Rattle.record_tables.specs.Entries.{entry_at, put_entry, clear_to};
 
-use node_records::{NodeRecord, WriterRecord, least, no_record, no_writer_record};
+use node_records::Record;
 
-// The record of the number k stands at place k - 1; 0 and numbers past the end have none.
+// The record of the number k stands at place k - 1; 0 and numbers past the end have none. The place before 0 is past the end of every row.
 
-pub fn get_record(t: &[NodeRecord], k: u32) -> NodeRecord
-    ensures { result ≡ entry_at no_record t.now k }
+pub fn get_record<R: Record>(t: &[R], k: u32) -> R
+    ensures { result ≡ entry_at R.empty t.now k }
 {
-    if k == 0 {
-        return no_record();
-    }
-    let i = (k - 1) as usize;
-    if t.len() <= i {
-        return no_record();
-    }
-    t[i]
+    let i = (k as usize).wrapping_sub(1);
+    if i < t.len() { t[i] } else { R::empty() }
 }
 
-pub fn put_record(t: &mut [NodeRecord], k: u32, x: NodeRecord)
+pub fn put_record<R: Record>(t: &mut [R], k: u32, x: R)
     ensures { t.new ≡ put_entry t.old k x }
 {
-    if k == 0 {
-        return;
+    let i = (k as usize).wrapping_sub(1);
+    if i < t.len() {
+        t[i] = x;
     }
-    let i = (k - 1) as usize;
-    if t.len() <= i {
-        return;
-    }
-    t[i] = x;
 }
 
 // The first m records become zero.
-pub fn clear_records(t: &mut [NodeRecord], m: usize)
-    ensures { t.new ≡ clear_to no_record t.old m }
+pub fn clear_records<R: Record>(t: &mut [R], m: usize)
+    ensures { t.new ≡ clear_to R.empty t.old m }
 {
-    let e = least(m, t.len());
-    let x = no_record();
-    let mut i = 0;
-    while i < e {
-        t[i] = x;
-        i += 1;
-    }
-}
-
-pub fn get_writer_record(t: &[WriterRecord], k: u32) -> WriterRecord
-    ensures { result ≡ entry_at no_writer_record t.now k }
-{
-    if k == 0 {
-        return no_writer_record();
-    }
-    let i = (k - 1) as usize;
-    if t.len() <= i {
-        return no_writer_record();
-    }
-    t[i]
-}
-
-pub fn put_writer_record(t: &mut [WriterRecord], k: u32, x: WriterRecord)
-    ensures { t.new ≡ put_entry t.old k x }
-{
-    if k == 0 {
-        return;
-    }
-    let i = (k - 1) as usize;
-    if t.len() <= i {
-        return;
-    }
-    t[i] = x;
+    let e = m.min(t.len());
+    t[..e].fill(R::empty());
 }
 
 // All records become zero.
-pub fn clear_writer_records(t: &mut [WriterRecord])
-    ensures { t.new ≡ clear_to no_writer_record t.old (length t.old) }
+pub fn clear_all<R: Record>(t: &mut [R])
+    ensures { t.new ≡ clear_to R.empty t.old (length t.old) }
 {
-    let e = t.len();
-    let x = no_writer_record();
-    let mut i = 0;
-    while i < e {
-        t[i] = x;
-        i += 1;
-    }
+    t.fill(R::empty());
 }

@@ -76,15 +76,6 @@ refused_text r = line (text "refused" ∷ decimal (cause_row r.cause).number ∷
 abbrev pub words_text : ℕ → Answer → List ℕ
 words_text n a = line_feed ∷ line (text "words" ∷ decimal a.covered ∷ text "of" ∷ decimal (2 ^ n) ∷ text (ending_name a.ending) ∷ [])
 
--- what stands after the output, and how much of an output of k bytes there is
-abbrev pub last_text : ℕ → Result Answer → List ℕ
-last_text n (refused r) = refused_text r
-last_text n (done a) = words_text n a
-
-abbrev pub output_part : Result Answer → ℕ → ℕ
-output_part (refused r) k = 0
-output_part (done a) k = min a.written k
-
 -- THE REPORT, for more options than the limit as for the limit; and what it leaves of a lent row
 unfoldable pub report_text : ℕ → Result Answer → List ℕ → List ℕ
 report_text n a output = report (min n option_limit) a output
@@ -92,7 +83,17 @@ report_text n a output = report (min n option_limit) a output
 unfoldable pub report_in : ℕ → Result Answer → List ℕ → List ℕ → Waiting
 report_in n a output w = push_all w 0 (report_text n a output)
 
--- both parts are the report
+-- of what was refused it is one line, as long as that
+pub report-refused : (n : ℕ) (r : Refusal) (output w : List ℕ) → push_all w 0 (refused_text r) ≡ report_in n (refused r) output w
+unfolding report_in report_text report
+report-refused n r output w = refl
+
+pub refused-room : (n : ℕ) (r : Refusal) (output : List ℕ) → length (refused_text r) ≤ line_limit
+    → length (report_text n (refused r) output) ≤ length output + line_limit
+unfolding report_text report
+refused-room n r output h = omega (arith, h)
+
+-- else the output as far as it was written, and a last line
 take-least : (k : ℕ) (l : List ℕ) → take (min k (length l)) l ≡ take k l
 take-least k l = ⊎_elim
     (λ (h : length l ≤ k).
@@ -101,78 +102,59 @@ take-least k l = ⊎_elim
     (λ (h : k < length l). let e : min k (length l) ≡ k = omega (arith, h) in ap (λ (i : ℕ). take i l) e)
     (decide-le (length l) k)
 
-report-parts : (n : ℕ) (a : Result Answer) (output : List ℕ) → take (output_part a (length output)) output ++ last_text n a ≡ report n a output
-unfolding report
-report-parts n (refused r) output = refl
-report-parts n (done a) output = ap (λ (l : List ℕ). l ++ words_text n a) (take-least a.written output)
+module _ (n : ℕ) (a : Answer) (output : List ℕ) where
+  abbrev part : List ℕ
+  part = take (min a.written (length output)) output
 
--- the output's part and then the last line make the report, which has few bytes more than the output
-module _ (n : ℕ) (a : Result Answer) (output w : List ℕ) {k : ℕ} {last : List ℕ} (e : k ≡ output_part a (length output))
-    (f : last ≡ last_text (min n option_limit) a) where
-  text-parts : take k output ++ last ≡ report_text n a output
-  unfolding report_text
-  text-parts = ap₂ (λ (i : ℕ) (l : List ℕ). take i output ++ l) e f ∙ report-parts (min n option_limit) a output
+  abbrev words : List ℕ
+  words = words_text (min n option_limit) a
 
-  pub report-correct : {u v : List ℕ} {x y : ℕ} → waiting u x ≡ push_all w 0 (take k output) → waiting v y ≡ push_all u x last
-      → waiting v y ≡ report_in n a output w
+  text-parts : part ++ words ≡ report_text n (done a) output
+  unfolding report_text report
+  text-parts = ap (λ (l : List ℕ). l ++ words) (take-least a.written output)
+
+  pub report-words : (w : List ℕ) {u v : List ℕ} {x y : ℕ} → waiting u x ≡ push_all w 0 part → waiting v y ≡ push_all u x words
+      → waiting v y ≡ report_in n (done a) output w
   unfolding report_in
-  report-correct p q = push-then w 0 (take k output) last p q ∙ ap (push_all w 0) text-parts
+  report-words w p q = push-then w 0 part words p q ∙ ap (push_all w 0) text-parts
 
-  pub report-length : length last ≤ line_limit → length (report_text n a output) ≤ length output + line_limit
-  report-length h =
-      omega (arith, ap length (sym text-parts), length-append (take k output) last, length-take k output, h)
-
--- of an output of k bytes no more than there are
-pub part-within : (a : Result Answer) (k : ℕ) → output_part a k ≤ k
-part-within (refused r) k = omega arith
-part-within (done a) k = omega arith
-
-pub part-less : (a : Result Answer) (x : Answer) (k : ℕ) → a ≡ done x → x.written < k → x.written ≡ output_part a k
-part-less a x k e h =
-    let f : x.written ≡ min x.written k = omega (arith, h) in
-    f ∙ ap (λ (b : Result Answer). output_part b k) (sym e)
-
-pub part-whole : (a : Result Answer) (x : Answer) (k : ℕ) → a ≡ done x → k ≤ x.written → k ≡ output_part a k
-part-whole a x k e h =
-    let f : k ≡ min x.written k = omega (arith, h) in
-    f ∙ ap (λ (b : Result Answer). output_part b k) (sym e)
+  pub words-room : length words ≤ line_limit → length (report_text n (done a) output) ≤ length output + line_limit
+  words-room h =
+      omega (arith, ap length (sym text-parts), length-append part words, length-take (min a.written (length output)) output, h)
 
 -- ---- The last line ---------------------------------------------------------------------------
 
--- `refused` and three numbers: each text after those before it, and then all is there
-module _ (r : Refusal) (w : List ℕ) (room : length w ≡ line_limit) (k : ℕ) (e : k ≡ (cause_row r.cause).number)
-    (h : length (decimal k) ≤ 20) (i : length (decimal r.stream) ≤ 20) (j : length (decimal r.byte) ≤ 20) where
+-- `refused` and three numbers: each text after those before it
+module _ (r : Refusal) (k : ℕ) (e : k ≡ (cause_row r.cause).number) where
   abbrev refused_as : List ℕ → List ℕ
   refused_as x = line (text "refused" ∷ x ∷ decimal r.stream ∷ decimal r.byte ∷ [])
 
-  refused-length : length (refused_as (decimal k)) ≤ line_limit
+  line-length : length (decimal k) ≤ 20 → length (decimal r.stream) ≤ 20 → length (decimal r.byte) ≤ 20 → length (refused_as (decimal k)) ≤ line_limit
   unfolding line text
-  refused-length = simp length-append (omega (arith, h, i, j))
+  line-length h i j = simp length-append (omega (arith, h, i, j))
 
-  pub refused-there : {a b c d f g m : List ℕ} {p q s t u v x : ℕ}
-      → waiting a p ≡ push_all w 0 (text "refused ") → waiting b q ≡ push_all a p (decimal k) → waiting c s ≡ push_all b q (blank ∷ [])
+  pub refused-length : length (decimal k) ≤ 20 → length (decimal r.stream) ≤ 20 → length (decimal r.byte) ≤ 20 → length (refused_text r) ≤ line_limit
+  refused-length h i j =
+      let f : length (refused_as (decimal k)) ≡ length (refused_text r) = ap (λ (x : ℕ). length (refused_as (decimal x))) e in
+      omega (arith, f, line-length h i j)
+
+  pub refused-put : (w : List ℕ) (m : ℕ) {a b c d f g o : List ℕ} {p q s t u v x : ℕ}
+      → waiting a p ≡ push_all w m (text "refused ") → waiting b q ≡ push_all a p (decimal k) → waiting c s ≡ push_all b q (blank ∷ [])
       → waiting d t ≡ push_all c s (decimal r.stream) → waiting f u ≡ push_all d t (blank ∷ []) → waiting g v ≡ push_all f u (decimal r.byte)
-      → waiting m x ≡ push_all g v (line_feed ∷ []) → (take x m ≡ refused_text r) × (x ≤ line_limit) × (length m ≡ line_limit)
+      → waiting o x ≡ push_all g v (line_feed ∷ []) → waiting o x ≡ push_all w m (refused_text r)
   unfolding line text
-  refused-there {a = a} {b = b} {c = c} {d = d} {f = f} {g = g} {p = p} {q = q} {s = s} {t = t} {u = u} {v = v} p1 p2 p3 p4 p5 p6 p7 =
+  refused-put w m {a = a} {b = b} {c = c} {d = d} {f = f} {p = p} {q = q} {s = s} {t = t} {u = u} p1 p2 p3 p4 p5 p6 p7 =
       let q6 = push-then f u (decimal r.byte) (line_feed ∷ []) p6 p7 in
       let q5 = push-then d t (blank ∷ []) (decimal r.byte ++ (line_feed ∷ [])) p5 q6 in
       let q4 = push-then c s (decimal r.stream) (blank ∷ (decimal r.byte ++ (line_feed ∷ []))) p4 q5 in
       let rest = blank ∷ (decimal r.stream ++ (blank ∷ (decimal r.byte ++ (line_feed ∷ [])))) in
       let q3 = push-then b q (blank ∷ []) (decimal r.stream ++ (blank ∷ (decimal r.byte ++ (line_feed ∷ [])))) p3 q4 in
       let q2 = push-then a p (decimal k) rest p2 q3 in
-      let q1 = push-then w 0 (text "refused ") (decimal k ++ rest) p1 q2 in
-      let there = text-there w (refused_as (decimal k)) q1 (omega (arith, refused-length, room)) in
-      (there.0 ∙ ap (λ (x : ℕ). refused_as (decimal x)) e, omega (arith, there.1, refused-length), there.2 ∙ room)
+      push-then w m (text "refused ") (decimal k ++ rest) p1 q2 ∙ ap (λ (x : ℕ). push_all w m (refused_as (decimal x))) e
 
 -- a shift gives the count of words
-pub all_words : (n : ℕ) → n ≤ option_limit → 1 * 2 ^ n % 18446744073709551616 ≡ 2 ^ min n option_limit
-all_words n h =
-    let e : min n option_limit ≡ n = omega (arith, h) in
-    shifted n (omega (arith, h)) ∙ ap (λ (i : ℕ). 2 ^ i) (sym e)
-
-pub limit-words : (n : ℕ) → option_limit < n → 2 ^ option_limit ≡ 2 ^ min n option_limit
-limit-words n h = let e : min n option_limit ≡ option_limit = omega (arith, h) in ap (λ (i : ℕ). 2 ^ i) (sym e)
+pub all_words : (n : ℕ) → 1 * 2 ^ min n option_limit % 18446744073709551616 ≡ 2 ^ min n option_limit
+all_words n = shifted (min n option_limit) (omega arith)
 
 ending-length : (e : Ending) → length (text (ending_name e)) ≤ 11
 unfolding text
@@ -181,21 +163,26 @@ ending-length input_ended = omega arith
 ending-length output_full = omega arith
 
 -- LF, covered words, all words and the ending
-module _ (n : ℕ) (x : Answer) (w : List ℕ) (room : length w ≡ line_limit) (k : ℕ) (e : k ≡ 2 ^ n)
-    (h : length (decimal x.covered) ≤ 20) (i : length (decimal k) ≤ 20) where
-  abbrev words_as : List ℕ → List ℕ → List ℕ
-  words_as z y = line_feed ∷ line (text "words" ∷ decimal x.covered ∷ text "of" ∷ z ∷ y ∷ [])
+module _ (n : ℕ) (x : Answer) (k : ℕ) (e : k ≡ 2 ^ n) where
+  abbrev words_as : ℕ → List ℕ
+  words_as z = line_feed ∷ line (text "words" ∷ decimal x.covered ∷ text "of" ∷ decimal z ∷ text (ending_name x.ending) ∷ [])
 
-  words-length : (y : List ℕ) → length y ≤ 11 → length (words_as (decimal k) y) ≤ line_limit
+  as-length : (y : List ℕ) → length (decimal x.covered) ≤ 20 → length (decimal k) ≤ 20 → length y ≤ 11
+      → length (line_feed ∷ line (text "words" ∷ decimal x.covered ∷ text "of" ∷ decimal k ∷ y ∷ [])) ≤ line_limit
   unfolding line text
-  words-length y j = simp length-append (omega (arith, h, i, j))
+  as-length y h i j = simp length-append (omega (arith, h, i, j))
 
-  words-then : (y : List ℕ) {a b c d f g o : List ℕ} {p q s t u v z : ℕ}
-      → waiting a p ≡ push_all w 0 (text "\nwords ") → waiting b q ≡ push_all a p (decimal x.covered) → waiting c s ≡ push_all b q (text " of ")
+  pub words-length : length (decimal x.covered) ≤ 20 → length (decimal k) ≤ 20 → length (words_text n x) ≤ line_limit
+  words-length h i =
+      let f : length (words_as k) ≡ length (words_text n x) = ap (λ (z : ℕ). length (words_as z)) e in
+      omega (arith, f, as-length (text (ending_name x.ending)) h i (ending-length x.ending))
+
+  pub words-put : (w : List ℕ) (m : ℕ) {y a b c d f g o : List ℕ} {p q s t u v z : ℕ} → y ≡ text (ending_name x.ending)
+      → waiting a p ≡ push_all w m (text "\nwords ") → waiting b q ≡ push_all a p (decimal x.covered) → waiting c s ≡ push_all b q (text " of ")
       → waiting d t ≡ push_all c s (decimal k) → waiting f u ≡ push_all d t (blank ∷ []) → waiting g v ≡ push_all f u y
-      → waiting o z ≡ push_all g v (line_feed ∷ []) → waiting o z ≡ push_all w 0 (words_as (decimal k) y)
+      → waiting o z ≡ push_all g v (line_feed ∷ []) → waiting o z ≡ push_all w m (words_text n x)
   unfolding line text
-  words-then y {a = a} {b = b} {c = c} {d = d} {f = f} {p = p} {q = q} {s = s} {t = t} {u = u} p1 p2 p3 p4 p5 p6 p7 =
+  words-put w m {y = y} {a = a} {b = b} {c = c} {d = d} {f = f} {p = p} {q = q} {s = s} {t = t} {u = u} i p1 p2 p3 p4 p5 p6 p7 =
       let q6 = push-then f u y (line_feed ∷ []) p6 p7 in
       let q5 = push-then d t (blank ∷ []) (y ++ (line_feed ∷ [])) p5 q6 in
       let r4 = blank ∷ (y ++ (line_feed ∷ [])) in
@@ -203,17 +190,9 @@ module _ (n : ℕ) (x : Answer) (w : List ℕ) (room : length w ≡ line_limit) 
       let q3 = push-then b q (text " of ") (decimal k ++ r4) p3 q4 in
       let r2 = text " of " ++ (decimal k ++ r4) in
       let q2 = push-then a p (decimal x.covered) r2 p2 q3 in
-      push-then w 0 (text "\nwords ") (decimal x.covered ++ r2) p1 q2
-
-  pub words-there : {a b c d f g o : List ℕ} {p q s t u v z : ℕ}
-      → waiting a p ≡ push_all w 0 (text "\nwords ") → waiting b q ≡ push_all a p (decimal x.covered) → waiting c s ≡ push_all b q (text " of ")
-      → waiting d t ≡ push_all c s (decimal k) → waiting f u ≡ push_all d t (blank ∷ []) → waiting g v ≡ push_all f u (text (ending_name x.ending))
-      → waiting o z ≡ push_all g v (line_feed ∷ []) → (take z o ≡ words_text n x) × (z ≤ line_limit) × (length o ≡ line_limit)
-  words-there p1 p2 p3 p4 p5 p6 p7 =
-      let y = text (ending_name x.ending) in
-      let there = text-there w (words_as (decimal k) y) (words-then y p1 p2 p3 p4 p5 p6 p7)
-      (omega (arith, words-length y (ending-length x.ending), room)) in
-      (there.0 ∙ ap (λ (j : ℕ). words_as (decimal j) y) e, omega (arith, there.1, words-length y (ending-length x.ending)), there.2 ∙ room)
+      push-then w m (text "\nwords ") (decimal x.covered ++ r2) p1 q2
+      ∙ ap (λ (y : List ℕ). push_all w m (line_feed ∷ line (text "words" ∷ decimal x.covered ∷ text "of" ∷ decimal k ∷ y ∷ []))) i
+      ∙ ap (λ (z : ℕ). push_all w m (words_as z)) e
 
 pub bad-text : text "bad job\n" ≡ bad_job
 unfolding text bad_job line

@@ -1,168 +1,93 @@
 // The report of the program `join`: into a lent buffer, as far as it has room.
 #![tactic(auto)]
 
-ghost use Rattle.std.specs.Prelude.{◌≡◌, [], ◌∷◌, length, min, ◌+◌, ◌^◌, ◌≤◌};
+ghost use Rattle.std.specs.Prelude.{◌≡◌, length, min, ◌+◌, ◌^◌, ◌≤◌};
 ghost use Rattle.theory_reading.specs.Limits.{option_limit};
 ghost use Rattle.theory_reading.specs.Bytes.{text};
 ghost use Rattle.answers.specs.Answers.{refusal_of};
-ghost use Rattle.theory_writing.specs.Texts.{decimal};
 ghost use Rattle.theory_writing.specs.Join.{ending_name, bad_job};
 ghost use Rattle.theory_engine.specs.Pending.{push_all};
 ghost use Rattle.meeting.specs.Abstraction.{endings_of, written_of, writing_of};
-ghost use Rattle.report.specs.Printing.{line_limit, refused_text, words_text, last_text, output_part, report_text, report_in};
-ghost use Rattle.report.specs.Lines.{line_of, empty_line, Holds};
+ghost use Rattle.report.specs.Printing.{line_limit, refused_text, words_text, report_text, report_in};
 
 use answers::Refusal;
-use meeting::{Ending, Writing, Written};
+use meeting::{Ending, Written};
 use node_records::OPTION_LIMIT;
+use pending_text::{push, push_digits};
 
 // The last line has room.
 pub const LINE_LIMIT: usize = 80;
 
-// ---- The last line, made apart: its first bytes count
+// ---- Texts, after m bytes of w
 
-#[derive(Clone, Copy)]
-struct Line {
-    bytes: [u8; LINE_LIMIT],
-    count: usize,
-}
-
-fn empty() -> Line
-    ensures { result ≡ empty_line }
+fn put(w: &mut [u8], m: usize, s: &[u8]) -> usize
+    ensures { record { bytes = w.new; count = result } ≡ push_all w.old m s.now }
 {
-    Line {
-        bytes: [0; LINE_LIMIT],
-        count: 0,
-    }
-}
-
-fn push(l: Line, b: u8) -> Line
-    ensures { line_of result ≡ push_all l.bytes l.count (b ∷ []) }
-{
-    let mut t = l;
-    let m = t.count;
-    if LINE_LIMIT <= m {
-        return t;
-    }
-    t.bytes[m] = b;
-    t.count = m + 1;
-    t
-}
-
-fn push_text(l: Line, s: &[u8]) -> Line
-    ensures { line_of result ≡ push_all l.bytes l.count s.now }
-{
-    let mut x = l;
-    let mut j = 0;
-    while j < s.len() {
-        x = push(x, s[j]);
-        j += 1;
+    let mut x = m;
+    for b in s {
+        x = push(w, x, *b);
     }
     x
 }
 
-fn push_number(l: Line, k: u64) -> Line
-    ensures result_value { line_of result ≡ push_all l.bytes l.count (decimal k) }
-    ensures k_len_bound { length (decimal k) ≤ 20 }
-{
-    if k < 10 {
-        return push(l, b'0' + k as u8);
-    }
-    let x = push_number(l, k / 10);
-    push(x, b'0' + (k % 10) as u8)
-}
-
-fn push_ending(l: Line, e: Ending) -> Line
-    ensures { line_of result ≡ push_all l.bytes l.count (text (ending_name (endings_of e))) }
+fn ending_name(e: Ending) -> &'static [u8]
+    ensures { result.now ≡ text (ending_name (endings_of e)) }
 {
     match e {
-        Ending::Whole => push_text(l, b"whole"),
-        Ending::InputEnded => push_text(l, b"input ended"),
-        Ending::OutputFull => push_text(l, b"output full"),
+        Ending::Whole => b"whole",
+        Ending::InputEnded => b"input ended",
+        Ending::OutputFull => b"output full",
     }
 }
 
-fn refused_line(f: Refusal) -> Line
-    ensures { Holds result (refused_text (refusal_of f)) }
+fn put_refused(w: &mut [u8], m: usize, f: Refusal) -> usize
+    ensures put { record { bytes = w.new; count = result } ≡ push_all w.old m (refused_text (refusal_of f)) }
+    ensures room { length (refused_text (refusal_of f)) ≤ line_limit }
 {
-    let c = f.cause;
-    let a = push_text(empty(), b"refused ");
-    let b = push_number(a, c_answers::cause_number(c) as u64);
-    let d = push(b, b' ');
-    let e = push_number(d, f.stream as u64);
-    let g = push(e, b' ');
-    let h = push_number(g, f.byte as u64);
-    push(h, b'\n')
+    let a = put(w, m, b"refused ");
+    let b = push_digits(w, a, u64::from(u32::from(f.cause)));
+    let c = push(w, b, b' ');
+    let d = push_digits(w, c, u64::from(f.stream));
+    let e = push(w, d, b' ');
+    let g = push_digits(w, e, f.byte as u64);
+    push(w, g, b'\n')
 }
 
 // All words, of no more options than the limit
 fn all_words(n: u32) -> u64
     ensures { result ≡ 2 ^ min n option_limit }
 {
-    if OPTION_LIMIT < n {
-        return 1u64 << OPTION_LIMIT;
-    }
-    1u64 << n
+    1u64 << n.min(OPTION_LIMIT)
 }
 
 // LF after the output; covered words, all words, the ending
-fn words_line(n: u32, x: Written) -> Line
-    ensures { Holds result (words_text (min n option_limit) (written_of x)) }
+fn put_words(w: &mut [u8], m: usize, n: u32, x: Written) -> usize
+    ensures put { record { bytes = w.new; count = result } ≡ push_all w.old m (words_text (min n option_limit) (written_of x)) }
+    ensures room { length (words_text (min n option_limit) (written_of x)) ≤ line_limit }
 {
-    let e = x.ending;
-    let a = push_text(empty(), b"\nwords ");
-    let b = push_number(a, x.covered);
-    let c = push_text(b, b" of ");
-    let d = push_number(c, all_words(n));
-    let f = push(d, b' ');
-    let g = push_ending(f, e);
-    push(g, b'\n')
-}
-
-fn last_line(n: u32, a: Writing) -> Line
-    ensures { Holds result (last_text (min n option_limit) (writing_of a)) }
-{
-    match a {
-        Writing::Refused(f) => refused_line(f),
-        Writing::Done(x) => words_line(n, x),
-    }
+    let a = put(w, m, b"\nwords ");
+    let b = push_digits(w, a, x.covered);
+    let c = put(w, b, b" of ");
+    let d = push_digits(w, c, all_words(n));
+    let e = push(w, d, b' ');
+    let f = put(w, e, ending_name(x.ending));
+    push(w, f, b'\n')
 }
 
 // ---- The whole
 
-// Of an output of k bytes so many are in the report
-fn output_part(a: Writing, k: usize) -> usize
-    ensures { result ≡ output_part (writing_of a) k }
-{
-    match a {
-        Writing::Refused(_) => 0,
-        Writing::Done(x) => if x.bytes < k { x.bytes } else { k },
-    }
-}
-
-fn put(w: &mut [u8], m: usize, s: &[u8]) -> usize
-    ensures { record { bytes = w.new; count = result } ≡ push_all w.old m s.now }
-{
-    let mut x = m;
-    let mut j = 0;
-    while j < s.len() {
-        x = pending_text::push(w, x, s[j]);
-        j += 1;
-    }
-    x
-}
-
 // THE REPORT on an answer and its output. Options past the limit count as the limit: no output comes with them.
-pub fn print(n: u32, a: Writing, out: &[u8], w: &mut [u8]) -> usize
+pub fn print(n: u32, a: Result<Written, Refusal>, out: &[u8], w: &mut [u8]) -> usize
     ensures result_after { record { bytes = w.new; count = result } ≡ report_in n (writing_of a) out.now w.old }
     ensures out_in_bounds { length (report_text n (writing_of a) out.now) ≤ length out.now + line_limit }
 {
-    let k = output_part(a, out.len());
-    let l = last_line(n, a);
-    let b = l.bytes;
-    let c = l.count;
-    let m = put(w, 0, &out[..k]);
-    put(w, m, &b[..c])
+    match a {
+        Ok(x) => {
+            let m = put(w, 0, &out[..x.bytes.min(out.len())]);
+            put_words(w, m, n, x)
+        }
+        Err(f) => put_refused(w, 0, f),
+    }
 }
 
 // The report on what is no job

@@ -12,6 +12,7 @@ use Rattle.theory_reading.specs.Element.{Element, opening, number, constant, tur
 use Rattle.theory_reading.specs.Element.{ran_out, Step}
 use Rattle.kinds.specs.Kinds.{digit_in, digits_by, number_by}
 use Rattle.scanner.specs.ScannedToken.{ScannedToken}
+use Rattle.kinds.specs.declared.Kind.{Kind}
 
 -- the largest number that code holds
 abbrev pub number_most : ℕ
@@ -50,11 +51,11 @@ pub cap-more : (v x : ℕ) → cap (cap v * 10 + x) ≡ cap (v * 10 + x)
 cap-more v x = omega arith
 
 -- the digits by a table k of kinds, capped at each
-unfoldable pub capped_on : List ℕ → List ℕ → ℕ → ℕ → Scan
+unfoldable pub capped_on : List Kind → List ℕ → ℕ → ℕ → Scan
 capped_on k [] v at = unread
 capped_on k (b ∷ bs) v at = elim (digit_in k b) [ true ↦ capped_on k bs (cap (v * 10 + (b - digit_zero))) (at + 1) | false ↦ read v at ]
 
-digits-capped : (k bs : List ℕ) (v at : ℕ) → capped_on k bs (cap v) at ≡ cap_scan (digits_by k bs v at)
+digits-capped : (k : List Kind) (bs : List ℕ) (v at : ℕ) → capped_on k bs (cap v) at ≡ cap_scan (digits_by k bs v at)
 unfolding digits_by capped_on
 digits-capped k [] v at = refl
 digits-capped k (b ∷ bs) v at = go (digit_in k b) (ap (λ (y : ℕ). capped_on k bs y (at + 1)) (cap-more v (b - digit_zero))
@@ -67,7 +68,7 @@ digits-capped k (b ∷ bs) v at = go (digit_in k b) (ap (λ (y : ℕ). capped_on
     go false h = refl
 
 -- the number at a place, capped
-module _ (k s : List ℕ) where
+module _ (k : List Kind) (s : List ℕ) where
   on-cons : (i v at : ℕ) → i < length s → capped_on k (drop i s) v at
       ≡ elim (digit_in k (get_or s i 0)) as (λ _. Scan) [
         | true ↦ capped_on k (drop (i + 1) s) (cap (v * 10 + (get_or s i 0 - digit_zero))) (at + 1)

@@ -25,6 +25,7 @@ use Rattle.scanner.specs.TokenView.{complement_by}
 use Rattle.elements.specs.declared.Open.{Open}
 use Rattle.elements.specs.declared.Ref.{Ref}
 use Rattle.elements.specs.OpenLaws.{opens-set, opens-last, low-suc, set_back}
+use Rattle.kinds.specs.declared.Kind.{Kind}
 
 side-top : (e : Open) (l : List T.Open) → top_of (open_of e ∷ l) ≡ cond e.second outer inner
 side-top e l = go e.second
@@ -134,7 +135,7 @@ module _ (ns : List Open) (long : length ns ≡ open_limit) (r : Ref) where
 abbrev Roomy : ℕ → ScannedToken → Type 0
 Roomy depth g = Pushes g.change → depth < open_limit
 
-module _ (k : List ℕ) (depth : ℕ) where
+module _ (k : List Kind) (depth : ℕ) where
   room-cond : (t : Bool) (x y : ScannedToken) → (t ≡ true → Roomy depth x) → (t ≡ false → Roomy depth y) → Roomy depth (cond t x y)
   room-cond true x y a b = a refl
   room-cond false x y a b = b refl
@@ -194,7 +195,7 @@ module _ (k : List ℕ) (depth : ℕ) where
   room_by bytes at T.after_one top b = room-end bytes at T.after_one top false b
   room_by bytes at T.over top b = λ p. absurd p
 
-pub scan-room : (k bytes : List ℕ) (at : ℕ) (m : T.Context) (top : Top) (depth : ℕ) → Pushes (scan_token k bytes at m top depth).change
+pub scan-room : (k : List Kind) (bytes : List ℕ) (at : ℕ) (m : T.Context) (top : Top) (depth : ℕ) → Pushes (scan_token k bytes at m top depth).change
     → depth < open_limit
 unfolding scan_token
 scan-room k bytes at m top depth = go (get_elem? bytes at)
@@ -221,7 +222,7 @@ Firm m (T.got e) k = (is_start k ≡ false) × Begun m e
 Firm m (T.fault c b) k = Unit {0}
 Firm m T.ran_out k = Unit {0}
 
-module _ (k : List ℕ) (m : T.Context) where
+module _ (k : List Kind) (m : T.Context) where
   abbrev FirmBy : ScannedToken → Type 0
   FirmBy g = Firm m g.outcome g.context
 
@@ -266,7 +267,7 @@ module _ (k : List ℕ) (m : T.Context) where
         (firm-node bytes at depth true b))))
     firm-end bytes at outer depth d b = firm-cond (closer_in k b) _ _ (refl, later) tt
 
-firm-colon : (k bytes : List ℕ) (at : ℕ) (x : Option ℕ) → FirmBy k T.after_two (scan_colon k bytes at T.after_two x)
+firm-colon : (k : List Kind) (bytes : List ℕ) (at : ℕ) (x : Option ℕ) → FirmBy k T.after_two (scan_colon k bytes at T.after_two x)
 firm-colon k bytes at none = tt
 firm-colon k bytes at (some b) = firm-cond k T.after_two (digit_in k b) _ _ (go (number_by k bytes (at + 1) b)) tt
   where
@@ -274,7 +275,7 @@ firm-colon k bytes at (some b) = firm-cond k T.after_two (digit_in k b) _ _ (go 
     go (T.read v e) = (refl, refl)
     go T.unread = tt
 
-firm-by : (k bytes : List ℕ) (at : ℕ) (m : T.Context) (top : Top) (depth b : ℕ) → FirmBy k m (scan_token_by k bytes at m top depth b)
+firm-by : (k : List Kind) (bytes : List ℕ) (at : ℕ) (m : T.Context) (top : Top) (depth b : ℕ) → FirmBy k m (scan_token_by k bytes at m top depth b)
 firm-by k bytes at T.start top depth b = firm-cond k T.start (digit_in k b) _ _ (firm-size k T.start bytes at (number_by k bytes at b)) tt
 firm-by k bytes at T.lead top depth b = firm-cond k T.lead (tilde_in k b) _ _ (refl, refl) (firm-node k T.lead refl bytes at depth false b)
 firm-by k bytes at T.begins top depth b = firm-node k T.begins refl bytes at depth false b
@@ -295,7 +296,7 @@ firm-capped m k (T.got T.end) h = h
 firm-capped m k (T.fault c b) h = h
 firm-capped m k T.ran_out h = h
 
-pub scan-firm : (k bytes : List ℕ) (at : ℕ) (m : T.Context) (top : Top) (depth : ℕ)
+pub scan-firm : (k : List Kind) (bytes : List ℕ) (at : ℕ) (m : T.Context) (top : Top) (depth : ℕ)
     → Firm m (cap_outcome (scan_token k bytes at m top depth).outcome) (scan_token k bytes at m top depth).context
 unfolding scan_token
 scan-firm k bytes at m top depth = firm-capped m (scan_token k bytes at m top depth).context (scan_token k bytes at m top depth).outcome

@@ -1,5 +1,5 @@
 -- One step of a place by little: the byte's place, what stands before it, the innermost open node and how many are open. What it comes to says how
--- the open nodes change, so that code changes one entry and copies none. It is defined for any table k of kinds, since code has one lent.
+-- the open nodes change, so that code changes one entry and copies none. It is defined for any table k of kinds; code has `kind_table`.
 -- `step-scan`: with the table of kinds it is document 01's step. Numbers are capped, since code holds them in 32 bits. Assumes nothing.
 use Rattle.std.specs.Prelude.{◌≡◌, refl, Bool, true, false, cond, ◌&&◌, List, [], ◌∷◌, ℕ, ◌+◌, ltb, eqb, length}
 use Rattle.std.proofs.Common.{sym, ap, subst}
@@ -16,6 +16,7 @@ use Rattle.theory_reading.specs.Element.{Element, opening, number, constant, tur
 use Rattle.theory_reading.specs.Element.{lead, begins, after_digit, after_two, after_one, over, Place, place, moved, Scan, read, unread, number_at}
 use Rattle.theory_reading.specs.Element.{Outcome, got, fault, ran_out, Step, gives, fails, size_ends, size_read, number_read, storing_read, node_begins}
 use Rattle.theory_reading.specs.Element.{after_space, after_colon, node_ended, step_by, step_on, step}
+use Rattle.kinds.specs.declared.Kind.{Kind}
 
 -- ---- What a step comes to --------------------------------------------------------------------
 
@@ -69,11 +70,11 @@ waited at m = record { outcome = ran_out; at = at; context = m; change = same }
 
 -- ---- The scan ------------------------------------------------------------------------------
 
-abbrev pub size_line : List ℕ → ℕ → Context → ℕ → ℕ → Option ℕ → ScannedToken
+abbrev pub size_line : List Kind → ℕ → Context → ℕ → ℕ → Option ℕ → ScannedToken
 size_line k at m v e none = waited at m
 size_line k at m v e (some b) = cond (line_feed_in k b) (gave (number v) (e + 1) lead same) (failed at m wrong_byte e)
 
-abbrev pub scan_size : List ℕ → List ℕ → ℕ → Context → Scan → ScannedToken
+abbrev pub scan_size : List Kind → List ℕ → ℕ → Context → Scan → ScannedToken
 scan_size k bytes at m (read v e) = size_line k at m v e (get_elem? bytes e)
 scan_size k bytes at m unread = waited at m
 
@@ -86,22 +87,22 @@ scan_storing at m (read v e) = gave (storing v) e after_digit same
 scan_storing at m unread = waited at m
 
 -- two: the node that begins is a second child; depth: the nodes that are open; b: the byte at the place
-abbrev pub scan_node : List ℕ → List ℕ → ℕ → Context → ℕ → Bool → ℕ → ScannedToken
+abbrev pub scan_node : List Kind → List ℕ → ℕ → Context → ℕ → Bool → ℕ → ScannedToken
 scan_node k bytes at m depth two b =
     cond (opener_in k b) (cond (ltb depth open_limit) (gave opening (at + 1) begins (cond two second_push push)) (failed at m too_deep at))
     (cond (digit_in k b) (scan_number at m (cond two (second false) same) (number_by k bytes at b))
     (failed at m wrong_byte at))
 
-abbrev pub scan_space : List ℕ → List ℕ → ℕ → Context → Option ℕ → ScannedToken
+abbrev pub scan_space : List Kind → List ℕ → ℕ → Context → Option ℕ → ScannedToken
 scan_space k bytes at m none = waited at m
 scan_space k bytes at m (some b) = cond (digit_in k b) (scan_number at m (second false) (number_by k bytes (at + 1) b)) (failed at m wrong_byte (at + 1))
 
-abbrev pub scan_colon : List ℕ → List ℕ → ℕ → Context → Option ℕ → ScannedToken
+abbrev pub scan_colon : List Kind → List ℕ → ℕ → Context → Option ℕ → ScannedToken
 scan_colon k bytes at m none = waited at m
 scan_colon k bytes at m (some b) = cond (digit_in k b) (scan_storing at m (number_by k bytes (at + 1) b)) (failed at m wrong_byte (at + 1))
 
 -- d: the node that has ended ends in a digit
-abbrev pub scan_inner : List ℕ → List ℕ → ℕ → Context → ℕ → Bool → ℕ → ScannedToken
+abbrev pub scan_inner : List Kind → List ℕ → ℕ → Context → ℕ → Bool → ℕ → ScannedToken
 scan_inner k bytes at m depth d b =
     cond (tilde_in k b) (gave turn (at + 1) begins (second true))
     (cond (closer_in k b) (gave closing (at + 1) after_one pop)
@@ -109,7 +110,7 @@ scan_inner k bytes at m depth d b =
     (cond (d && digit_in k b) (failed at m wrong_byte at)
     (scan_node k bytes at m depth true b))))
 
-abbrev pub scan_end : List ℕ → List ℕ → ℕ → Context → Top → ℕ → Bool → ℕ → ScannedToken
+abbrev pub scan_end : List Kind → List ℕ → ℕ → Context → Top → ℕ → Bool → ℕ → ScannedToken
 scan_end k bytes at m empty depth d b = cond (dot_in k b) (gave end (at + 1) over same) (failed at m wrong_byte at)
 scan_end k bytes at m inner depth d b = scan_inner k bytes at m depth d b
 scan_end k bytes at m outer depth d b = cond (closer_in k b) (gave closing (at + 1) after_two pop) (failed at m wrong_byte at)
@@ -119,15 +120,15 @@ abbrev pub wrong_at : ℕ → Context → ScannedToken
 wrong_at at m = failed at m wrong_byte at
 
 -- where a node begins that is no second child: after the size it may stand behind a `~`
-abbrev pub scan_lead : List ℕ → List ℕ → ℕ → Context → ℕ → ℕ → ScannedToken
+abbrev pub scan_lead : List Kind → List ℕ → ℕ → Context → ℕ → ℕ → ScannedToken
 scan_lead k bytes at m depth b = cond (is_lead m && tilde_in k b) (gave turn (at + 1) begins same) (scan_node k bytes at m depth false b)
 
 -- where a node has ended: one of two children may be stored
-abbrev pub scan_ended : List ℕ → List ℕ → ℕ → Context → Top → ℕ → Bool → ℕ → ScannedToken
+abbrev pub scan_ended : List Kind → List ℕ → ℕ → Context → Top → ℕ → Bool → ℕ → ScannedToken
 scan_ended k bytes at m top depth d b = cond (is_two m && colon_in k b) (scan_colon k bytes at m (get_elem? bytes (at + 1)))
     (scan_end k bytes at m top depth d b)
 
-abbrev pub scan_token_by : List ℕ → List ℕ → ℕ → Context → Top → ℕ → ℕ → ScannedToken
+abbrev pub scan_token_by : List Kind → List ℕ → ℕ → Context → Top → ℕ → ℕ → ScannedToken
 scan_token_by k bytes at start top depth b = cond (digit_in k b) (scan_size k bytes at start (number_by k bytes at b)) (failed at start wrong_byte at)
 scan_token_by k bytes at lead top depth b = cond (tilde_in k b) (gave turn (at + 1) begins same) (scan_node k bytes at lead depth false b)
 scan_token_by k bytes at begins top depth b = scan_node k bytes at begins depth false b
@@ -137,11 +138,11 @@ scan_token_by k bytes at after_two top depth b = cond (colon_in k b) (scan_colon
 scan_token_by k bytes at after_one top depth b = scan_end k bytes at after_one top depth false b
 scan_token_by k bytes at over top depth b = failed at over wrong_byte at
 
-abbrev pub scan_token_on : List ℕ → List ℕ → ℕ → Context → Top → ℕ → Option ℕ → ScannedToken
+abbrev pub scan_token_on : List Kind → List ℕ → ℕ → Context → Top → ℕ → Option ℕ → ScannedToken
 scan_token_on k bytes at m top depth none = waited at m
 scan_token_on k bytes at m top depth (some b) = scan_token_by k bytes at m top depth b
 
-unfoldable pub scan_token : List ℕ → List ℕ → ℕ → Context → Top → ℕ → ScannedToken
+unfoldable pub scan_token : List Kind → List ℕ → ℕ → Context → Top → ℕ → ScannedToken
 scan_token k bytes at m top depth = scan_token_on k bytes at m top depth (get_elem? bytes at)
 
 -- ---- It is the step --------------------------------------------------------------------------

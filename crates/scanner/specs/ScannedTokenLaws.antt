@@ -14,6 +14,7 @@ use Rattle.kinds.specs.Kinds.{digit_in, blank_in, line_feed_in, opener_in, close
 use Rattle.scanner.specs.ScannedToken.{Change, same, push, pop, second_push, second, Top, ScannedToken, gave, failed, waited, size_line, scan_size}
 use Rattle.scanner.specs.ScannedToken.{scan_number, scan_storing, scan_node, scan_space, scan_colon, scan_inner, scan_token_by, scan_token}
 use Rattle.scanner.specs.Capped.{cap, cap_scan, cap_scanned}
+use Rattle.kinds.specs.declared.Kind.{Kind}
 
 cap-zero : (v : ℕ) → eqb v 0 ≡ eqb (cap v) 0
 cap-zero v = ⊎_elim
@@ -33,7 +34,7 @@ storing-capped : (at : ℕ) (m : Context) (x : Scan) → scan_storing at m (cap_
 storing-capped at m (read v e) = refl
 storing-capped at m unread = refl
 
-size-capped : (k bytes : List ℕ) (at : ℕ) (m : Context) (x : Scan) → scan_size k bytes at m (cap_scan x) ≡ cap_scanned (scan_size k bytes at m x)
+size-capped : (k : List Kind) (bytes : List ℕ) (at : ℕ) (m : Context) (x : Scan) → scan_size k bytes at m (cap_scan x) ≡ cap_scanned (scan_size k bytes at m x)
 size-capped k bytes at m (read v e) = go (get_elem? bytes e)
   where
     by : (t : Bool) → cond t (gave (number (cap v)) (e + 1) lead same) (failed at m wrong_byte e)
@@ -46,53 +47,53 @@ size-capped k bytes at m (read v e) = go (get_elem? bytes e)
     go (some b) = by (line_feed_in k b)
 size-capped k bytes at m unread = refl
 
--- t, v, e: whether the number x is read, its value and the place after it, as code holds them
-module _ (t : Bool) (v e : ℕ) (x : Scan) (h : cond t (read v e) unread ≡ cap_scan x) (at : ℕ) (m : Context) where
-  abbrev scan : Scan
-  scan = cond t (read v e) unread
+-- x: the number, which code holds capped
+module _ (x : Scan) (at : ℕ) (m : Context) where
+  by_number_lem : (c : Change) (y : Scan) → y ≡ cap_scan x → scan_number at m c y ≡ cap_scanned (scan_number at m c x)
+  by_number_lem c y h = ap (scan_number at m c) h ∙ number-capped at m c x
 
-  by_number_lem : (c : Change) (g : ScannedToken) → g ≡ scan_number at m c scan → g ≡ cap_scanned (scan_number at m c x)
-  by_number_lem c g k = k ∙ ap (scan_number at m c) h ∙ number-capped at m c x
+  by-storing : (y : Scan) → y ≡ cap_scan x → scan_storing at m y ≡ cap_scanned (scan_storing at m x)
+  by-storing y h = ap (scan_storing at m) h ∙ storing-capped at m x
 
-  by-storing : (g : ScannedToken) → g ≡ scan_storing at m scan → g ≡ cap_scanned (scan_storing at m x)
-  by-storing g k = k ∙ ap (scan_storing at m) h ∙ storing-capped at m x
+  by_size : (k : List Kind) (bytes : List ℕ) (y : Scan) → y ≡ cap_scan x → scan_size k bytes at m y ≡ cap_scanned (scan_size k bytes at m x)
+  by_size k bytes y h = ap (scan_size k bytes at m) h ∙ size-capped k bytes at m x
 
-  by_size : (k bytes : List ℕ) (g : ScannedToken) → g ≡ scan_size k bytes at m scan → g ≡ cap_scanned (scan_size k bytes at m x)
-  by_size k bytes g y = y ∙ ap (scan_size k bytes at m) h ∙ size-capped k bytes at m x
+  pub number-waits : (c : Change) → unread ≡ cap_scan x → waited at m ≡ cap_scanned (scan_number at m c x)
+  number-waits c h = by_number_lem c unread h
 
-  pub number-waits : (c : Change) → t ≡ false → waited at m ≡ cap_scanned (scan_number at m c x)
-  number-waits c k = by_number_lem c (waited at m) (rw k refl)
+  pub storing-waits : unread ≡ cap_scan x → waited at m ≡ cap_scanned (scan_storing at m x)
+  storing-waits h = by-storing unread h
 
-  pub number-zero : (c : Change) → t ≡ true → v ≡ 0 → gave constant e after_digit c ≡ cap_scanned (scan_number at m c x)
-  number-zero c k z = by_number_lem c (gave constant e after_digit c) (rw (k, eq-eqb v 0 z) refl)
+  pub size-waits : (k : List Kind) (bytes : List ℕ) → unread ≡ cap_scan x → waited at m ≡ cap_scanned (scan_size k bytes at m x)
+  size-waits k bytes h = by_size k bytes unread h
 
-  pub number-other : (c : Change) → t ≡ true → (v ≡ 0 → ⊥) → gave (number v) e after_digit c ≡ cap_scanned (scan_number at m c x)
-  number-other c k z = by_number_lem c (gave (number v) e after_digit c) (rw (k, ne_eqb v 0 z) refl)
+  -- v, e: its value and the place after it
+  module _ (v e : ℕ) (h : read v e ≡ cap_scan x) where
+    pub number-zero : (c : Change) → v ≡ 0 → gave constant e after_digit c ≡ cap_scanned (scan_number at m c x)
+    number-zero c z = rw (eq-eqb v 0 z) at (by_number_lem c (read v e) h)
 
-  pub storing-waits : t ≡ false → waited at m ≡ cap_scanned (scan_storing at m x)
-  storing-waits k = by-storing (waited at m) (rw k refl)
+    pub number-other : (c : Change) → (v ≡ 0 → ⊥) → gave (number v) e after_digit c ≡ cap_scanned (scan_number at m c x)
+    number-other c z = rw (ne_eqb v 0 z) at (by_number_lem c (read v e) h)
 
-  pub storing-read : t ≡ true → gave (storing v) e after_digit same ≡ cap_scanned (scan_storing at m x)
-  storing-read k = by-storing (gave (storing v) e after_digit same) (rw k refl)
+    pub storing-read : gave (storing v) e after_digit same ≡ cap_scanned (scan_storing at m x)
+    storing-read = by-storing (read v e) h
 
-  pub size-waits : (k bytes : List ℕ) → t ≡ false → waited at m ≡ cap_scanned (scan_size k bytes at m x)
-  size-waits k bytes r = by_size k bytes (waited at m) (rw r refl)
+    module _ (k : List Kind) (bytes : List ℕ) where
+      pub size-past : length bytes ≤ e → waited at m ≡ cap_scanned (scan_size k bytes at m x)
+      size-past l = rw (lookup-past bytes e l) at (by_size k bytes (read v e) h)
 
-  pub size-past : (k bytes : List ℕ) → t ≡ true → length bytes ≤ e → waited at m ≡ cap_scanned (scan_size k bytes at m x)
-  size-past k bytes r l = by_size k bytes (waited at m) (rw (r, lookup-past bytes e l) refl)
+      pub size-line : e < length bytes → line_feed_in k (get_or bytes e 0) ≡ true → gave (number v) (e + 1) lead same
+          ≡ cap_scanned (scan_size k bytes at m x)
+      size-line l b = rw (lookup-inside bytes e 0 l, b) at (by_size k bytes (read v e) h)
 
-  pub size-line : (k bytes : List ℕ) → t ≡ true → e < length bytes → line_feed_in k (get_or bytes e 0) ≡ true → gave (number v) (e + 1) lead same
-      ≡ cap_scanned (scan_size k bytes at m x)
-  size-line k bytes r l b = by_size k bytes (gave (number v) (e + 1) lead same) (rw (r, lookup-inside bytes e 0 l, b) refl)
-
-  pub size-wrong : (k bytes : List ℕ) → t ≡ true → e < length bytes → line_feed_in k (get_or bytes e 0) ≡ false → failed at m wrong_byte e
-      ≡ cap_scanned (scan_size k bytes at m x)
-  size-wrong k bytes r l b = by_size k bytes (failed at m wrong_byte e) (rw (r, lookup-inside bytes e 0 l, b) refl)
+      pub size-wrong : e < length bytes → line_feed_in k (get_or bytes e 0) ≡ false → failed at m wrong_byte e
+          ≡ cap_scanned (scan_size k bytes at m x)
+      size-wrong l b = rw (lookup-inside bytes e 0 l, b) at (by_size k bytes (read v e) h)
 
 -- ---- The ways of a scan --------------------------------------------------------------------
 
--- k: the table of kinds that code has lent; b: the byte at the place
-module _ (k bytes : List ℕ) (at : ℕ) (m : Context) (depth : ℕ) (b : ℕ) where
+-- k: the table of kinds; b: the byte at the place
+module _ (k : List Kind) (bytes : List ℕ) (at : ℕ) (m : Context) (depth : ℕ) (b : ℕ) where
   pub node-deep : (two : Bool) → opener_in k b ≡ true → open_limit ≤ depth → failed at m too_deep at ≡ cap_scanned (scan_node k bytes at m depth two b)
   node-deep two e l = rw (e, le-ltb depth open_limit l) refl
 
@@ -138,7 +139,7 @@ way-taken t x y e = rw e refl
 pub way-left : (t : Bool) (x y : ScannedToken) → t ≡ false → cap_scanned y ≡ cap_scanned (cond t x y)
 way-left t x y e = rw e refl
 
-module _ (k bytes : List ℕ) (at : ℕ) (m : Context) where
+module _ (k : List Kind) (bytes : List ℕ) (at : ℕ) (m : Context) where
   pub space-past : length bytes ≤ at + 1 → waited at m ≡ cap_scanned (scan_space k bytes at m (get_elem? bytes (at + 1)))
   space-past l = rw (lookup-past bytes (at + 1) l) refl
 

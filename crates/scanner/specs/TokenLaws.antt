@@ -17,6 +17,7 @@ use Rattle.elements.specs.declared.Ref.{Ref}
 use Rattle.scanner.specs.declared.ScannedToken.{ScannedToken}
 use Rattle.scanner.specs.declared.Top.{Top}
 use Rattle.elements.specs.OpenLaws.{deep-most}
+use Rattle.kinds.specs.declared.Kind.{Kind}
 
 -- the depth after a change
 pub depth-after : (c : G.Change) (d : ℕ) → d ≤ open_limit → (Pushes c → d < open_limit) → depth_by c d ≤ open_limit
@@ -27,14 +28,14 @@ depth-after G.second_push d h k = let l : d < open_limit = k tt in omega arith
 depth-after (G.second t) d h k = h
 
 -- The depth after the next token keeps to the limit.
-pub token-depth : (k bytes : List ℕ) (at : ℕ) (m : T.Context) (last : Ref) (depth : ℕ) (low : Open)
+pub token-depth : (k : List Kind) (bytes : List ℕ) (at : ℕ) (m : T.Context) (last : Ref) (depth : ℕ) (low : Open)
     → (next_token k bytes at m last depth low).depth ≤ open_limit
 token-depth k bytes at m last depth low =
     let d = deep_of depth in
     depth-after (G.scan_token k bytes at m (side_of d low) d).change d (deep-most depth) (scan-room k bytes at m (side_of d low) d)
 
 -- THE CODE'S LOOK, from what its callees promise
-pub token-correct : (k bytes : List ℕ) (at : ℕ) (m : T.Context) (last : Ref) (depth : ℕ) (low : Open)
+pub token-correct : (k : List Kind) (bytes : List ℕ) (at : ℕ) (m : T.Context) (last : Ref) (depth : ℕ) (low : Open)
     → (d : ℕ) → d ≡ deep_of depth → (t : Top) → tops_of t ≡ side_of d low
     → (g : ScannedToken) → scanned_view g ≡ plain d (cap_scanned (G.scan_token k bytes at m (tops_of t) d))
     → (e : Open) → e ≡ cond g.second (begun_open last g.complement) low

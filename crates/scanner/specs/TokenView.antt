@@ -1,12 +1,11 @@
 -- How code holds a scan: a token with its number, the change of the open nodes as numbers. Assumes nothing.
-use Rattle.std.specs.Prelude.{Bool, true, false, cond, List, ℕ, ◌+◌, ◌-◌, eqb}
+use Rattle.std.specs.Prelude.{Bool, true, false, cond, List, Option, None, Some, ℕ, ◌+◌, ◌-◌, eqb}
 use Rattle.theory_reading.specs.Element as T
 use Rattle.theory_reading.specs.Reading.{is_context}
 use Rattle.scanner.specs.ScannedToken as G
 use Rattle.scanner.specs.Capped.{cap_scanned}
 use Rattle.elements.specs.declared.Element.TheVariants.{Opening, Number, Constant, Turn, Closing, Storing, End}
 use Rattle.elements.specs.declared.Context.{Context}
-use Rattle.elements.specs.declared.Context.TheVariants.{Start, Lead, Begins, AfterDigit, AfterTwo, AfterOne, Over}
 use Rattle.elements.specs.declared.Ref.{Ref}
 use Rattle.elements.specs.declared.Cause.{Cause}
 use Rattle.elements.specs.declared.Cause.TheVariants.{WrongByte}
@@ -14,8 +13,6 @@ use Rattle.elements.specs.declared.Outcome.{Outcome}
 use Rattle.elements.specs.declared.Outcome.TheVariants.{Got, Fault, RanOut}
 use Rattle.scanner.specs.declared.Top.{Top}
 use Rattle.scanner.specs.declared.Top.TheVariants.{Empty, Inner, Outer}
-use Rattle.scanner.specs.declared.Stage.{Stage}
-use Rattle.scanner.specs.declared.Stage.TheVariants.{First, Node, Ended, Past}
 use Rattle.scanner.specs.declared.Token.{Token}
 use Rattle.scanner.specs.declared.Token.TheVariants as S
 use Rattle.scanner.specs.declared.ScannedToken.{ScannedToken}
@@ -23,21 +20,12 @@ use Rattle.scanner.specs.declared.Num.{Num}
 use Rattle.elements.specs.declared.Open.{Open}
 use Rattle.scanner.specs.declared.NextToken.{NextToken}
 use Rattle.elements.specs.Abstraction.{context_of, outcome_of, begun_open, deep_of}
+use Rattle.kinds.specs.declared.Kind.{Kind}
 
 abbrev pub tops_of : Top → G.Top
 tops_of Empty = G.empty
 tops_of Inner = G.inner
 tops_of Outer = G.outer
-
--- the stage of a context
-abbrev pub stage_of : Context → Stage
-stage_of Start = First
-stage_of Lead = Node
-stage_of Begins = Node
-stage_of AfterDigit = Ended
-stage_of AfterTwo = Ended
-stage_of AfterOne = Ended
-stage_of Over = Past
 
 -- the node that has ended ends in a digit
 abbrev pub is_after : Context → Bool
@@ -89,7 +77,7 @@ outcome_by S.Turn v c b = Got Turn
 outcome_by S.Closing v c b = Got Closing
 outcome_by S.Storing v c b = Got (Storing v)
 outcome_by S.End v c b = Got End
-outcome_by S.Fault v c b = Fault c b
+outcome_by S.Fault v c b = Fault (record { cause = c; byte = b })
 outcome_by S.Out v c b = RanOut
 
 -- a scan as code holds it, the change as numbers
@@ -149,8 +137,9 @@ waited_by at m d = record {
 abbrev pub numbered : Bool → G.Change
 numbered two = cond two (G.second false) G.same
 
-abbrev pub scan_of : Num → T.Scan
-scan_of x = cond x.done (T.read x.value x.next) T.unread
+abbrev pub scan_of : Option Num → T.Scan
+scan_of None = T.unread
+scan_of (Some x) = T.read x.value x.next
 
 -- the innermost of d open nodes, which is e
 abbrev pub side_of : ℕ → Open → G.Top
@@ -177,7 +166,7 @@ next_token_by g last low = record {
 }
 
 -- by a table k of kinds
-abbrev pub next_token : List ℕ → List ℕ → ℕ → T.Context → Ref → ℕ → Open → NextTokenView
+abbrev pub next_token : List Kind → List ℕ → ℕ → T.Context → Ref → ℕ → Open → NextTokenView
 next_token k bytes at m last depth low = next_token_by (plain (deep_of depth)
     (cap_scanned (G.scan_token k bytes at m (side_of (deep_of depth) low) (deep_of depth)))) last low
 

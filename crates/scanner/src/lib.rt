@@ -1,19 +1,19 @@
 #![tactic(auto)]
 
-ghost use Rattle.std.specs.Prelude.{◌≡◌, cond, ◌+◌, ◌*◌, ◌-◌, ◌<◌, ◌≤◌, length, get_or};
+ghost use Rattle.std.specs.Prelude.{◌≡◌, false, cond, ◌+◌, ◌*◌, ◌-◌, ◌<◌, ◌≤◌, length, get_or};
 ghost use Rattle.std.proofs.Math.ListN.{get_elem?};
 ghost use Rattle.theory_reading.specs.Bytes.{digit_zero};
 ghost use Rattle.kinds.specs.Kinds.{digit_in, number_by};
-ghost use Rattle.scanner.specs.ScannedToken.{scan_token, scan_end, scan_inner, scan_colon, scan_space, scan_node, scan_number, scan_storing, scan_size};
-ghost use Rattle.scanner.specs.ScannedToken.{scan_lead, scan_ended, wrong_at};
-ghost use Rattle.scanner.specs.Capped.{cap, cap_scan, cap_scanned};
+ghost use Rattle.scanner.specs.ScannedToken.{scan_token, scan_lead, scan_ended, scan_end, scan_inner, scan_node, scan_space, scan_colon};
+ghost use Rattle.scanner.specs.ScannedToken.{scan_number, scan_storing, scan_size, wrong_at};
+ghost use Rattle.scanner.specs.Capped.{cap, cap_scan, cap_scanned, number_most};
 ghost use Rattle.scanner.specs.TokenView.{scan_of, tops_of, scanned_view, plain, numbered, gave_by, failed_by, waited_by};
-ghost use Rattle.elements.specs.Abstraction.{context_of};
-ghost use Rattle.scanner.specs.TokenView.{stage_of, is_after, side_of, next_token_view, next_token};
-ghost use Rattle.elements.specs.Abstraction.{begun_open, deep_of};
+ghost use Rattle.scanner.specs.TokenView.{is_after, side_of, next_token_view, next_token};
+ghost use Rattle.scanner.specs.declared.Token.TheVariants.{Closing};
+ghost use Rattle.elements.specs.Abstraction.{context_of, begun_open, deep_of};
 
-use elements::{Cause, Context, OPEN_LIMIT, Open, Ref, begun, is_context};
-use kinds::{BRACKET, DIGIT, LINE_END, MARK, POINT, SPACE, is_kind, is_one};
+use elements::{Cause, Context, Element, Fault, OPEN_LIMIT, Open, Outcome, Ref};
+use kinds::{Kind, KindTable, is_kind, is_one};
 
 // Bytes of a stream, named as their definitions are: those whose kind has another byte too, and the space, for the reader.
 const OPENER: u8 = b'(';
@@ -38,16 +38,8 @@ enum Top {
     Outer,
 }
 
-// Where a place stands: at the size, where a node begins, where one has ended, past the point.
-#[derive(Clone, Copy)]
-enum Stage {
-    First,
-    Node,
-    Ended,
-    Past,
-}
-
-// What a step comes to, without its numbers: one of the elements, a fault, or that the bytes ran out.
+// What a step comes to, without its numbers: one of the elements, a fault, or that the bytes ran out. An `Outcome`, which has them, in its place takes
+// 10 % more time for `check`, a `Result` over faults 6 %: so the numbers stand beside it.
 #[derive(Clone, Copy)]
 pub enum Token {
     Opening,
@@ -61,8 +53,8 @@ pub enum Token {
     Out,
 }
 
-// A step by little: what it comes to, with the element's number or the fault, and the place after it: how many nodes are open then, whether the second child of the
-// innermost begins, and after a `~`.
+// A step by little: what it comes to, with the element's number or the fault, and the place after it: how many nodes are open then, whether the second
+// child of the innermost begins, and after a `~`.
 #[derive(Clone, Copy)]
 struct ScannedToken {
     byte: usize,
@@ -76,434 +68,342 @@ struct ScannedToken {
     complement: bool,
 }
 
+impl ScannedToken {
+    // The entry of the innermost open node, whose second child begins or not.
+    fn entry(self, last: Ref, low: Open) -> Open
+        ensures { result ≡ cond self.second (begun_open last self.complement) low }
+    {
+        if self.second {
+            Open::begun(last, self.complement)
+        } else {
+            low
+        }
+    }
+}
+
 // ---- Numbers
 
-// The number whose first digit stands at a place: its value and the place after it, if it is read.
+// A number that is read: its value and the place after it.
 #[derive(Clone, Copy)]
 struct Num {
     value: u32,
     next: usize,
-    done: bool,
 }
 
 fn digit(b: u8) -> u64
     ensures { (result ≡ b - digit_zero) × (result ≤ 255) }
 {
-    if b < DIGIT_ZERO {
-        return 0;
-    }
-    (b - DIGIT_ZERO) as u64
+    u64::from(b.saturating_sub(DIGIT_ZERO))
 }
 
-// One digit more; a number that does not fit stays at the largest.
+// One digit more; a number that does not fit stays at the largest. In 64 bits, since that takes a tenth less time than saturating in 32.
 fn more(v: u64, b: u8) -> u64
+    requires { v ≤ number_most }
     ensures { result ≡ cap (v * 10 + (b - digit_zero)) }
 {
-    if 4294967295 < v {
-        return 4294967295;
-    }
-    let w = v * 10 + digit(b);
-    if w < 4294967295 { w } else { 4294967295 }
+    (v * 10 + digit(b)).min(4294967295)
 }
 
-fn number_at(k: &[u8; 256], s: &[u8], at: usize) -> Num
+// The number whose first digit stands at a place, if it is read.
+fn number_at(k: &KindTable, s: &[u8], at: usize) -> Option<Num>
     ensures { scan_of result ≡ cap_scan (number_by k.now s.now at (get_or s.now at 0)) }
 {
     if s.len() <= at {
-        return Num {
-            value: 0,
-            next: 0,
-            done: false,
-        };
+        return None;
     }
     let b = s[at];
-    let mut i = at + 1;
     if b == DIGIT_ZERO {
-        return Num {
+        return Some(Num {
             value: 0,
-            next: i,
-            done: true,
-        };
+            next: at + 1,
+        });
     }
-    let mut v = digit(b);
-    while i < s.len() {
-        let c = s[i];
-        if !is_kind(k, c, DIGIT) {
-            return Num {
-                value: v as u32,
-                next: i,
-                done: true,
-            };
+    let mut value = digit(b);
+    for next in at + 1..s.len() {
+        if !is_kind(k, s[next], Kind::Digit) {
+            return Some(Num {
+                value: value as u32,
+                next,
+            });
         }
-        v = more(v, c);
-        i += 1;
+        value = more(value, s[next]);
     }
-    Num {
-        value: 0,
-        next: 0,
-        done: false,
-    }
+    None
 }
 
 // ---- A step by little
 
-// The element e, of the number v. two, t: the innermost's second child begins, after a `~`
-fn gave(e: Token, v: u32, at: usize, m: Context, d: usize, two: bool, t: bool) -> ScannedToken
-    ensures { result ≡ gave_by e v at m d two t }
-{
-    ScannedToken {
-        token: e,
-        cause: Cause::WrongByte,
-        byte: 0,
-        number: v,
-        at: at,
-        context: m,
-        depth: d,
-        second: two,
-        complement: t,
-    }
-}
-
-fn failed(at: usize, m: Context, d: usize, c: Cause, b: usize) -> ScannedToken
-    ensures { result ≡ failed_by at m d c b }
-{
-    ScannedToken {
-        token: Token::Fault,
-        cause: c,
-        byte: b,
-        number: 0,
-        at: at,
-        context: m,
-        depth: d,
-        second: false,
-        complement: false,
-    }
-}
-
-fn waited(at: usize, m: Context, d: usize) -> ScannedToken
-    ensures { result ≡ waited_by at m d }
-{
-    ScannedToken {
-        token: Token::Out,
-        cause: Cause::WrongByte,
-        byte: 0,
-        number: 0,
-        at: at,
-        context: m,
-        depth: d,
-        second: false,
-        complement: false,
-    }
-}
-
-// The size, whose first digit stands at the place.
-fn scan_size(k: &[u8; 256], s: &[u8], at: usize, m: Context, d: usize) -> ScannedToken
-    ensures { scanned_view result ≡ plain d (cap_scanned (scan_size k.now s.now at (context_of m)
-        (number_by k.now s.now at (get_or s.now at 0)))) }
-{
-    let x = number_at(k, s, at);
-    let done = x.done;
-    if !done {
-        return waited(at, m, d);
-    }
-    let e = x.next;
-    if s.len() <= e {
-        return waited(at, m, d);
-    }
-    let b = s[e];
-    if is_kind(k, b, LINE_END) {
-        return gave(
-            Token::Number,
-            x.value,
-            e + 1,
-            Context::Lead,
-            d,
-            false,
-            false,
-        );
-    }
-    failed(at, m, d, Cause::WrongByte, e)
-}
-
-// A number or the constant, whose first digit stands at `from`.
-fn scan_number(
-    k: &[u8; 256],
-    s: &[u8],
-    from: usize,
+// Where a step begins: the table of kinds and the stream, the place in it, what stands before it, and how many nodes are open.
+#[derive(Clone, Copy)]
+struct Spot<'a> {
+    kinds: &'a KindTable,
+    stream: &'a [u8],
     at: usize,
-    m: Context,
-    d: usize,
-    two: bool,
-) -> ScannedToken
-    ensures { scanned_view result ≡ plain d (cap_scanned (scan_number at (context_of m) (numbered two)
-        (number_by k.now s.now from (get_or s.now from 0)))) }
-{
-    let x = number_at(k, s, from);
-    let done = x.done;
-    if !done {
-        return waited(at, m, d);
-    }
-    let v = x.value;
-    if v == 0 {
-        return gave(
-            Token::Constant,
-            0,
-            x.next,
-            Context::AfterDigit,
-            d,
-            two,
-            false,
-        );
-    }
-    gave(Token::Number, v, x.next, Context::AfterDigit, d, two, false)
+    context: Context,
+    depth: usize,
 }
 
-// A number to store, whose first digit stands at `from`.
-fn scan_storing(
-    k: &[u8; 256],
-    s: &[u8],
-    from: usize,
-    at: usize,
-    m: Context,
-    d: usize,
-) -> ScannedToken
-    ensures { scanned_view result ≡ plain d (cap_scanned (scan_storing at (context_of m)
-        (number_by k.now s.now from (get_or s.now from 0)))) }
-{
-    let x = number_at(k, s, from);
-    let done = x.done;
-    if !done {
-        return waited(at, m, d);
-    }
-    let v = x.value;
-    gave(
-        Token::Storing,
-        v,
-        x.next,
-        Context::AfterDigit,
-        d,
-        false,
-        false,
-    )
-}
-
-// A node begins, as a second child or not.
-fn scan_node(k: &[u8; 256], s: &[u8], at: usize, m: Context, d: usize, two: bool) -> ScannedToken
-    requires { at < length s.now }
-    ensures { scanned_view result ≡ plain d (cap_scanned (scan_node k.now s.now at (context_of m) d two
-        (get_or s.now at 0))) }
-{
-    let b = s[at];
-    if is_one(k, b, BRACKET, OPENER) {
-        if OPEN_LIMIT <= d {
-            return failed(at, m, d, Cause::TooDeep, at);
-        }
-        return gave(
-            Token::Opening,
-            0,
-            at + 1,
-            Context::Begins,
-            d + 1,
-            two,
-            false,
-        );
-    }
-    if !is_kind(k, b, DIGIT) {
-        return failed(at, m, d, Cause::WrongByte, at);
-    }
-    scan_number(k, s, at, at, m, d, two)
-}
-
-// After the space that belongs to a second child.
-fn scan_space(k: &[u8; 256], s: &[u8], at: usize, m: Context, d: usize) -> ScannedToken
-    requires { at < length s.now }
-    ensures { scanned_view result ≡ plain d (cap_scanned (scan_space k.now s.now at (context_of m)
-        (get_elem? s.now (at + 1)))) }
-{
-    let i = at + 1;
-    if s.len() <= i {
-        return waited(at, m, d);
-    }
-    let b = s[i];
-    if !is_kind(k, b, DIGIT) {
-        return failed(at, m, d, Cause::WrongByte, i);
-    }
-    scan_number(k, s, i, at, m, d, true)
-}
-
-// After the `:` of a storing.
-fn scan_colon(k: &[u8; 256], s: &[u8], at: usize, m: Context, d: usize) -> ScannedToken
-    requires { at < length s.now }
-    ensures { scanned_view result ≡ plain d (cap_scanned (scan_colon k.now s.now at (context_of m)
-        (get_elem? s.now (at + 1)))) }
-{
-    let i = at + 1;
-    if s.len() <= i {
-        return waited(at, m, d);
-    }
-    let b = s[i];
-    if !is_kind(k, b, DIGIT) {
-        return failed(at, m, d, Cause::WrongByte, i);
-    }
-    scan_storing(k, s, i, at, m, d)
-}
-
-// A first child has ended, in a digit or not.
-fn scan_inner(
-    k: &[u8; 256],
-    s: &[u8],
-    at: usize,
-    m: Context,
-    d: usize,
-    digital: bool,
-) -> ScannedToken
-    requires { at < length s.now }
-    ensures { scanned_view result ≡ plain d (cap_scanned (scan_inner k.now s.now at (context_of m) d digital
-        (get_or s.now at 0))) }
-{
-    let b = s[at];
-    if is_one(k, b, MARK, TILDE) {
-        return gave(Token::Turn, 0, at + 1, Context::Begins, d, true, true);
-    }
-    if is_one(k, b, BRACKET, CLOSER) {
-        return gave(
-            Token::Closing,
-            0,
-            at + 1,
-            Context::AfterOne,
-            less(d),
-            false,
-            false,
-        );
-    }
-    if digital {
-        if is_kind(k, b, SPACE) {
-            return scan_space(k, s, at, m, d);
-        }
-        if is_kind(k, b, DIGIT) {
-            return failed(at, m, d, Cause::WrongByte, at);
+impl<'a> Spot<'a> {
+    // The bytes ran out.
+    fn waited(self) -> ScannedToken
+        ensures { result ≡ waited_by self.entry.at self.entry.context self.entry.depth }
+    {
+        ScannedToken {
+            token: Token::Out,
+            cause: Cause::WrongByte,
+            byte: 0,
+            number: 0,
+            at: self.at,
+            context: self.context,
+            depth: self.depth,
+            second: false,
+            complement: false,
         }
     }
-    scan_node(k, s, at, m, d, true)
-}
 
-// One less, if there is one.
-fn less(d: usize) -> usize
-    ensures { result ≡ d - 1 }
-{
-    if d == 0 { 0 } else { d - 1 }
-}
+    fn failed(self, cause: Cause, byte: usize) -> ScannedToken
+        ensures { result ≡ failed_by self.entry.at self.entry.context self.entry.depth cause byte }
+    {
+        ScannedToken {
+            token: Token::Fault,
+            cause,
+            byte,
+            ..self.waited()
+        }
+    }
 
-// A node has ended, in a digit or not.
-fn scan_end(
-    k: &[u8; 256],
-    s: &[u8],
-    at: usize,
-    m: Context,
-    top: Top,
-    d: usize,
-    digital: bool,
-) -> ScannedToken
-    requires { at < length s.now }
-    ensures { scanned_view result ≡ plain d (cap_scanned (scan_end k.now s.now at (context_of m) (tops_of top) d digital
-        (get_or s.now at 0))) }
-{
-    let b = s[at];
-    match top {
-        Top::Empty => {
-            if is_kind(k, b, POINT) {
-                return gave(Token::End, 0, at + 1, Context::Over, d, false, false);
+    // An element, of a number, up to a place and what stands before that. As many nodes are open.
+    fn gave(self, token: Token, number: u32, at: usize, context: Context) -> ScannedToken
+        ensures { result ≡ gave_by token number at context self.entry.depth false false }
+    {
+        ScannedToken {
+            token,
+            number,
+            at,
+            context,
+            ..self.waited()
+        }
+    }
+
+    // The size, whose first digit stands at the place.
+    fn scan_size(self) -> ScannedToken
+        ensures { let p = self.entry in scanned_view result ≡ plain p.depth
+            (cap_scanned (scan_size p.kinds.now p.stream.now p.at (context_of p.context)
+            (number_by p.kinds.now p.stream.now p.at (get_or p.stream.now p.at 0)))) }
+    {
+        let Some(x) = number_at(self.kinds, self.stream, self.at) else {
+            return self.waited();
+        };
+        if self.stream.len() <= x.next {
+            return self.waited();
+        }
+        if is_kind(self.kinds, self.stream[x.next], Kind::LineEnd) {
+            return self.gave(Token::Number, x.value, x.next + 1, Context::Lead);
+        }
+        self.failed(Cause::WrongByte, x.next)
+    }
+
+    // A number or the constant, whose first digit stands at `from`.
+    fn scan_number(self, from: usize, second: bool) -> ScannedToken
+        ensures { let p = self.entry in scanned_view result ≡ plain p.depth
+            (cap_scanned (scan_number p.at (context_of p.context) (numbered second)
+            (number_by p.kinds.now p.stream.now from (get_or p.stream.now from 0)))) }
+    {
+        let Some(x) = number_at(self.kinds, self.stream, from) else {
+            return self.waited();
+        };
+        let number = ScannedToken {
+            second,
+            ..self.gave(Token::Number, x.value, x.next, Context::AfterDigit)
+        };
+        if x.value == 0 {
+            return ScannedToken {
+                token: Token::Constant,
+                ..number
+            };
+        }
+        number
+    }
+
+    // A number to store, whose first digit stands at `from`.
+    fn scan_storing(self, from: usize) -> ScannedToken
+        ensures { let p = self.entry in scanned_view result ≡ plain p.depth
+            (cap_scanned (scan_storing p.at (context_of p.context) (number_by p.kinds.now p.stream.now from (get_or p.stream.now from 0)))) }
+    {
+        let Some(x) = number_at(self.kinds, self.stream, from) else {
+            return self.waited();
+        };
+        self.gave(Token::Storing, x.value, x.next, Context::AfterDigit)
+    }
+
+    // A node begins, as a second child or not.
+    fn scan_node(self, second: bool) -> ScannedToken
+        requires { self.at < length self.stream.now }
+        ensures { let p = self.entry in scanned_view result ≡ plain p.depth
+            (cap_scanned (scan_node p.kinds.now p.stream.now p.at (context_of p.context) p.depth second (get_or p.stream.now p.at 0))) }
+    {
+        let b = self.stream[self.at];
+        if is_one(self.kinds, b, Kind::Bracket, OPENER) {
+            if OPEN_LIMIT <= self.depth {
+                return self.failed(Cause::TooDeep, self.at);
             }
-            failed(at, m, d, Cause::WrongByte, at)
+            return ScannedToken {
+                depth: self.depth + 1,
+                second,
+                ..self.gave(Token::Opening, 0, self.at + 1, Context::Begins)
+            };
         }
-        Top::Inner => scan_inner(k, s, at, m, d, digital),
-        Top::Outer => {
-            if is_one(k, b, BRACKET, CLOSER) {
-                return gave(
-                    Token::Closing,
-                    0,
-                    at + 1,
-                    Context::AfterTwo,
-                    less(d),
-                    false,
-                    false,
-                );
+        if !is_kind(self.kinds, b, Kind::Digit) {
+            return self.failed(Cause::WrongByte, self.at);
+        }
+        self.scan_number(self.at, second)
+    }
+
+    // After the space that belongs to a second child.
+    fn scan_space(self) -> ScannedToken
+        requires { self.at < length self.stream.now }
+        ensures { let p = self.entry in scanned_view result ≡ plain p.depth
+            (cap_scanned (scan_space p.kinds.now p.stream.now p.at (context_of p.context) (get_elem? p.stream.now (p.at + 1)))) }
+    {
+        let i = self.at + 1;
+        if self.stream.len() <= i {
+            return self.waited();
+        }
+        if !is_kind(self.kinds, self.stream[i], Kind::Digit) {
+            return self.failed(Cause::WrongByte, i);
+        }
+        self.scan_number(i, true)
+    }
+
+    // After the `:` of a storing.
+    fn scan_colon(self) -> ScannedToken
+        requires { self.at < length self.stream.now }
+        ensures { let p = self.entry in scanned_view result ≡ plain p.depth
+            (cap_scanned (scan_colon p.kinds.now p.stream.now p.at (context_of p.context) (get_elem? p.stream.now (p.at + 1)))) }
+    {
+        let i = self.at + 1;
+        if self.stream.len() <= i {
+            return self.waited();
+        }
+        if !is_kind(self.kinds, self.stream[i], Kind::Digit) {
+            return self.failed(Cause::WrongByte, i);
+        }
+        self.scan_storing(i)
+    }
+
+    // `)`, after two children or one.
+    fn closed(self, context: Context) -> ScannedToken
+        requires { self.at < length self.stream.now }
+        ensures { result ≡ gave_by Closing 0 (self.entry.at + 1) context (self.entry.depth - 1) false false }
+    {
+        ScannedToken {
+            depth: self.depth.saturating_sub(1),
+            ..self.gave(Token::Closing, 0, self.at + 1, context)
+        }
+    }
+
+    // A first child has ended, in a digit or not.
+    fn scan_inner(self, digital: bool) -> ScannedToken
+        requires { self.at < length self.stream.now }
+        ensures { let p = self.entry in scanned_view result ≡ plain p.depth
+            (cap_scanned (scan_inner p.kinds.now p.stream.now p.at (context_of p.context) p.depth digital (get_or p.stream.now p.at 0))) }
+    {
+        let b = self.stream[self.at];
+        if is_one(self.kinds, b, Kind::Mark, TILDE) {
+            return ScannedToken {
+                second: true,
+                complement: true,
+                ..self.gave(Token::Turn, 0, self.at + 1, Context::Begins)
+            };
+        }
+        if is_one(self.kinds, b, Kind::Bracket, CLOSER) {
+            return self.closed(Context::AfterOne);
+        }
+        if digital && is_kind(self.kinds, b, Kind::Space) {
+            return self.scan_space();
+        }
+        if digital && is_kind(self.kinds, b, Kind::Digit) {
+            return self.failed(Cause::WrongByte, self.at);
+        }
+        self.scan_node(true)
+    }
+
+    // A node has ended, in a digit or not.
+    fn scan_end(self, top: Top, digital: bool) -> ScannedToken
+        requires { self.at < length self.stream.now }
+        ensures { let p = self.entry in scanned_view result ≡ plain p.depth
+            (cap_scanned (scan_end p.kinds.now p.stream.now p.at (context_of p.context) (tops_of top) p.depth digital (get_or p.stream.now p.at 0))) }
+    {
+        let b = self.stream[self.at];
+        match top {
+            Top::Inner => self.scan_inner(digital),
+            Top::Empty if is_kind(self.kinds, b, Kind::Point) => {
+                self.gave(Token::End, 0, self.at + 1, Context::Over)
             }
-            failed(at, m, d, Cause::WrongByte, at)
+            Top::Outer if is_one(self.kinds, b, Kind::Bracket, CLOSER) => self.closed(
+                Context::AfterTwo,
+            ),
+            Top::Empty | Top::Outer => self.failed(Cause::WrongByte, self.at),
         }
     }
-}
 
-fn stage_of(m: Context) -> Stage
-    ensures { result ≡ stage_of m }
-{
-    match m {
-        Context::Start => Stage::First,
-        Context::Lead => Stage::Node,
-        Context::Begins => Stage::Node,
-        Context::AfterDigit => Stage::Ended,
-        Context::AfterTwo => Stage::Ended,
-        Context::AfterOne => Stage::Ended,
-        Context::Over => Stage::Past,
-    }
-}
-
-// At the size.
-fn scan_first(k: &[u8; 256], s: &[u8], at: usize, m: Context, d: usize) -> ScannedToken
-    requires { at < length s.now }
-    ensures { scanned_view result ≡ plain d (cap_scanned (cond (digit_in k.now (get_or s.now at 0))
-        (scan_size k.now s.now at (context_of m) (number_by k.now s.now at (get_or s.now at 0)))
-        (wrong_at at (context_of m)))) }
-{
-    let b = s[at];
-    if is_kind(k, b, DIGIT) {
-        return scan_size(k, s, at, m, d);
-    }
-    failed(at, m, d, Cause::WrongByte, at)
-}
-
-// Where a node begins that is no second child.
-fn scan_begin(k: &[u8; 256], s: &[u8], at: usize, m: Context, d: usize) -> ScannedToken
-    requires { at < length s.now }
-    ensures { scanned_view result ≡ plain d (cap_scanned (scan_lead k.now s.now at (context_of m) d (get_or s.now at 0))) }
-{
-    let b = s[at];
-    if is_one(k, b, MARK, TILDE) {
-        if is_context(m, Context::Lead) {
-            return gave(Token::Turn, 0, at + 1, Context::Begins, d, false, false);
+    // At the size.
+    fn scan_first(self) -> ScannedToken
+        requires { self.at < length self.stream.now }
+        ensures { let p = self.entry in scanned_view result ≡ plain p.depth
+            (cap_scanned (cond (digit_in p.kinds.now (get_or p.stream.now p.at 0))
+            (scan_size p.kinds.now p.stream.now p.at (context_of p.context) (number_by p.kinds.now p.stream.now p.at (get_or p.stream.now p.at 0)))
+            (wrong_at p.at (context_of p.context)))) }
+    {
+        if is_kind(self.kinds, self.stream[self.at], Kind::Digit) {
+            return self.scan_size();
         }
+        self.failed(Cause::WrongByte, self.at)
     }
-    scan_node(k, s, at, m, d, false)
-}
 
-// Where a node has ended that may be stored.
-fn scan_ended(k: &[u8; 256], s: &[u8], at: usize, m: Context, top: Top, d: usize) -> ScannedToken
-    requires { at < length s.now }
-    ensures { scanned_view result ≡ plain d (cap_scanned (scan_ended k.now s.now at (context_of m) (tops_of top) d (is_after m)
-        (get_or s.now at 0))) }
-{
-    let b = s[at];
-    if is_context(m, Context::AfterTwo) {
-        if is_one(k, b, MARK, COLON) {
-            return scan_colon(k, s, at, m, d);
+    // Where a node begins that is no second child.
+    fn scan_begin(self) -> ScannedToken
+        requires { self.at < length self.stream.now }
+        ensures { let p = self.entry in scanned_view result ≡ plain p.depth
+            (cap_scanned (scan_lead p.kinds.now p.stream.now p.at (context_of p.context) p.depth (get_or p.stream.now p.at 0))) }
+    {
+        if is_one(self.kinds, self.stream[self.at], Kind::Mark, TILDE)
+            && self.context == Context::Lead
+        {
+            return self.gave(Token::Turn, 0, self.at + 1, Context::Begins);
         }
+        self.scan_node(false)
     }
-    scan_end(k, s, at, m, top, d, is_context(m, Context::AfterDigit))
-}
 
-// One step, by what stands before the place, the innermost open node and how many are open.
-fn scan_token(k: &[u8; 256], s: &[u8], at: usize, m: Context, top: Top, d: usize) -> ScannedToken
-    ensures { scanned_view result ≡ plain d (cap_scanned (scan_token k.now s.now at (context_of m) (tops_of top) d)) }
-{
-    if s.len() <= at {
-        return waited(at, m, d);
+    // Where a node has ended that may be stored.
+    fn scan_ended(self, top: Top) -> ScannedToken
+        requires { self.at < length self.stream.now }
+        ensures { let p = self.entry in scanned_view result ≡ plain p.depth
+            (cap_scanned (scan_ended p.kinds.now p.stream.now p.at (context_of p.context) (tops_of top) p.depth (is_after p.context)
+            (get_or p.stream.now p.at 0))) }
+    {
+        if self.context == Context::AfterTwo
+            && is_one(self.kinds, self.stream[self.at], Kind::Mark, COLON)
+        {
+            return self.scan_colon();
+        }
+        self.scan_end(top, self.context == Context::AfterDigit)
     }
-    let g = stage_of(m);
-    match g {
-        Stage::First => scan_first(k, s, at, m, d),
-        Stage::Node => scan_begin(k, s, at, m, d),
-        Stage::Ended => scan_ended(k, s, at, m, top, d),
-        Stage::Past => failed(at, m, d, Cause::WrongByte, at),
+
+    // One step, by what stands before the place, the innermost open node and how many are open.
+    fn scan_token(self, top: Top) -> ScannedToken
+        ensures { let p = self.entry in scanned_view result ≡ plain p.depth
+            (cap_scanned (scan_token p.kinds.now p.stream.now p.at (context_of p.context) (tops_of top) p.depth)) }
+    {
+        if self.stream.len() <= self.at {
+            return self.waited();
+        }
+        match self.context {
+            Context::Start => self.scan_first(),
+            Context::Lead | Context::Begins => self.scan_begin(),
+            Context::AfterDigit | Context::AfterTwo | Context::AfterOne => self.scan_ended(top),
+            Context::Over => self.failed(Cause::WrongByte, self.at),
+        }
     }
 }
 
@@ -514,19 +414,18 @@ fn top_of(d: usize, e: Open) -> Top
     ensures { tops_of result ≡ side_of d e }
 {
     if d == 0 {
-        return Top::Empty;
+        Top::Empty
+    } else if e.second {
+        Top::Outer
+    } else {
+        Top::Inner
     }
-    let t = e.second;
-    if t {
-        return Top::Outer;
-    }
-    Top::Inner
 }
 
 fn deep(d: usize) -> usize
     ensures { result ≡ deep_of d }
 {
-    if OPEN_LIMIT < d { OPEN_LIMIT } else { d }
+    d.min(OPEN_LIMIT)
 }
 
 // What a scan of the bytes comes to: the outcome with its number, the place after it, how many nodes are open then, and the entry of the innermost
@@ -543,42 +442,59 @@ pub struct NextToken {
     pub context: Context,
 }
 
-// One element on, by little: the byte's place, what stands before it, what ended last, how many nodes are open and the innermost.
+impl From<NextToken> for Outcome {
+    ghost use Rattle.scanner.specs.TokenView.{outcome_in};
+
+    ghost from_gives = { λ x o. o ≡ outcome_in x };
+
+    fn from(x: NextToken) -> Outcome {
+        match x.token {
+            Token::Opening => Outcome::Got(Element::Opening),
+            Token::Number => Outcome::Got(Element::Number(x.number)),
+            Token::Constant => Outcome::Got(Element::Constant),
+            Token::Turn => Outcome::Got(Element::Turn),
+            Token::Closing => Outcome::Got(Element::Closing),
+            Token::Storing => Outcome::Got(Element::Storing(x.number)),
+            Token::End => Outcome::Got(Element::End),
+            Token::Fault => Outcome::Fault(Fault {
+                cause: x.cause,
+                byte: x.byte,
+            }),
+            Token::Out => Outcome::RanOut,
+        }
+    }
+}
+
+// One element on, by little and a lent table of kinds: the byte's place, what stands before it, what ended last, how many nodes are open and the
+// innermost.
 pub fn next_token(
-    k: &[u8; 256],
+    k: &KindTable,
     s: &[u8],
     at: usize,
-    m: Context,
+    context: Context,
     last: Ref,
     depth: usize,
     low: Open,
 ) -> NextToken
-    ensures { next_token_view result ≡ next_token k.now s.now at (context_of m) last depth low }
+    ensures { next_token_view result ≡ next_token k.now s.now at (context_of context) last depth low }
 {
     let d = deep(depth);
-    let g = scan_token(k, s, at, m, top_of(d, low), d);
-    let e = entry_of(low, last, g.second, g.complement);
-    let w = g.token;
-    let c = g.cause;
-    let m1 = g.context;
+    let spot = Spot {
+        kinds: k,
+        stream: s,
+        at,
+        context,
+        depth: d,
+    };
+    let g = spot.scan_token(top_of(d, low));
     NextToken {
-        token: w,
-        cause: c,
+        token: g.token,
+        cause: g.cause,
         byte: g.byte,
         number: g.number,
         at: g.at,
-        context: m1,
+        context: g.context,
         depth: g.depth,
-        low: e,
+        low: g.entry(last, low),
     }
-}
-
-// The entry of the innermost open node, whose second child begins or not.
-fn entry_of(low: Open, last: Ref, two: bool, t: bool) -> Open
-    ensures { result ≡ cond two (begun_open last t) low }
-{
-    if two {
-        return begun(last, t);
-    }
-    low
 }

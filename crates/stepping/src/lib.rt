@@ -4,13 +4,12 @@
 ghost use Rattle.std.specs.Prelude.{◌≡◌};
 ghost use Rattle.theory_reading.specs.Element.{begin, step};
 ghost use Rattle.scanner.specs.Capped.{cap_step};
-ghost use Rattle.elements.specs.Abstraction.{context_of, element_of, outcome_of};
-ghost use Rattle.places.specs.Abstraction.{place_of};
-ghost use Rattle.stepping.specs.Steps.{context_from, place_from, got_numbers, outcome_numbers, step_numbers, step_given};
+ghost use Rattle.elements.specs.Abstraction.{context_of};
+ghost use Rattle.places.specs.Abstraction.{place_of, stepped_of};
+ghost use Rattle.stepping.specs.Steps.{context_from, place_from, step_numbers, step_given};
 
-use c_answers::cause_number;
-use elements::{Context, Element, Opens, Outcome, Ref, context_number};
-use places::Place;
+use elements::{Context, Element, Opens, Outcome, Ref};
+use places::{Place, Stepped};
 
 #[repr(C)]
 #[derive(Clone, Copy)]
@@ -32,41 +31,98 @@ pub struct RuleStepped {
     pub place: RulePlace,
 }
 
+// A number that is no context's stands for the end.
 fn context_from(k: u32) -> Context
     ensures { context_of result ≡ context_from k }
 {
-    if k == 0 {
-        return Context::Start;
+    match k {
+        0 => Context::Start,
+        1 => Context::Lead,
+        2 => Context::Begins,
+        3 => Context::AfterDigit,
+        4 => Context::AfterTwo,
+        5 => Context::AfterOne,
+        _ => Context::Over,
     }
-    if k == 1 {
-        return Context::Lead;
-    }
-    if k == 2 {
-        return Context::Begins;
-    }
-    if k == 3 {
-        return Context::AfterDigit;
-    }
-    if k == 4 {
-        return Context::AfterTwo;
-    }
-    if k == 5 {
-        return Context::AfterOne;
-    }
-    Context::Over
 }
 
-fn place_numbers(p: Place) -> RulePlace
-    ensures { place_from result ≡ place_of p }
-{
-    let m = p.context;
-    let o = p.opens;
-    let l = p.last;
-    RulePlace {
-        at: p.at,
-        context: context_number(m) as u32,
-        last: l,
-        opens: o,
+impl From<RulePlace> for Place {
+    ghost from_gives = { λ p q. place_of q ≡ place_from p };
+
+    fn from(numbers: RulePlace) -> Place {
+        Place {
+            at: numbers.at,
+            context: context_from(numbers.context),
+            opens: numbers.opens,
+            last: numbers.last,
+        }
+    }
+}
+
+impl From<Place> for RulePlace {
+    ghost from_gives = { λ p q. place_from q ≡ place_of p };
+
+    fn from(place: Place) -> RulePlace {
+        RulePlace {
+            at: place.at,
+            context: u32::from(place.context),
+            opens: place.opens,
+            last: place.last,
+        }
+    }
+}
+
+impl From<Stepped> for RuleStepped {
+    ghost from_gives = { λ x r. step_given r ≡ step_numbers (stepped_of x) };
+
+    fn from(x: Stepped) -> RuleStepped {
+        let opening = RuleStepped {
+            outcome: 0,
+            element: 0,
+            number: 0,
+            cause: 0,
+            byte: 0,
+            place: RulePlace::from(x.place),
+        };
+        match x.outcome {
+            Outcome::Got(Element::Opening) => opening,
+            Outcome::Got(Element::Number(number)) => RuleStepped {
+                element: 1,
+                number,
+                ..opening
+            },
+            Outcome::Got(Element::Constant) => RuleStepped {
+                element: 2,
+                ..opening
+            },
+            Outcome::Got(Element::Turn) => RuleStepped {
+                element: 3,
+                ..opening
+            },
+            Outcome::Got(Element::Closing) => RuleStepped {
+                element: 4,
+                ..opening
+            },
+            Outcome::Got(Element::Storing(number)) => RuleStepped {
+                element: 5,
+                number,
+                ..opening
+            },
+            Outcome::Got(Element::End) => RuleStepped {
+                element: 6,
+                ..opening
+            },
+            Outcome::Fault(f) => RuleStepped {
+                outcome: 1,
+                cause: u32::from(f.cause),
+                byte: f.byte,
+                ..opening
+            },
+            Outcome::RanOut => RuleStepped {
+                outcome: 2,
+                ..opening
+            },
+        }
     }
 }
 
@@ -74,76 +130,12 @@ fn place_numbers(p: Place) -> RulePlace
 pub fn rule_begin() -> RulePlace
     ensures { place_from result ≡ begin }
 {
-    place_numbers(Place::begin())
-}
-
-// The numbers of an outcome, at a place.
-fn stepped_numbers(x: Outcome, p: RulePlace) -> RuleStepped
-    ensures { step_given result ≡ record { numbers = outcome_numbers (outcome_of x); place = place_from p } }
-{
-    match x {
-        Outcome::Got(e) => element_numbers(e, p),
-        Outcome::Fault(c, b) => RuleStepped {
-            outcome: 1,
-            element: 0,
-            number: 0,
-            cause: cause_number(c),
-            byte: b,
-            place: p,
-        },
-        Outcome::RanOut => RuleStepped {
-            outcome: 2,
-            element: 0,
-            number: 0,
-            cause: 0,
-            byte: 0,
-            place: p,
-        },
-    }
-}
-
-fn got_numbers(k: u32, v: u32, p: RulePlace) -> RuleStepped
-    ensures { result ≡ record { outcome = 0; element = k; number = v; cause = 0; byte = 0; place = p } }
-{
-    RuleStepped {
-        outcome: 0,
-        element: k,
-        number: v,
-        cause: 0,
-        byte: 0,
-        place: p,
-    }
-}
-
-fn element_numbers(e: Element, p: RulePlace) -> RuleStepped
-    ensures { step_given result ≡ record { numbers = got_numbers (element_of e); place = place_from p } }
-{
-    match e {
-        Element::Opening => got_numbers(0, 0, p),
-        Element::Number(v) => got_numbers(1, v, p),
-        Element::Constant => got_numbers(2, 0, p),
-        Element::Turn => got_numbers(3, 0, p),
-        Element::Closing => got_numbers(4, 0, p),
-        Element::Storing(v) => got_numbers(5, v, p),
-        Element::End => got_numbers(6, 0, p),
-    }
+    RulePlace::from(Place::begin())
 }
 
 // One element on.
 pub fn rule_step(place: RulePlace, stream: &[u8]) -> RuleStepped
     ensures { step_given result ≡ step_numbers (cap_step (step (place_from place) stream.now)) }
 {
-    let m = context_from(place.context);
-    let o = place.opens;
-    let l = place.last;
-    let p = Place {
-        at: place.at,
-        context: m,
-        opens: o,
-        last: l,
-    };
-    let x = p.step(stream);
-    let q = x.place;
-    let y = x.outcome;
-    stepped_numbers(y, place_numbers(q))
+    RuleStepped::from(Place::from(place).step(stream))
 }

@@ -1,5 +1,5 @@
 -- How code holds what the engine's walk over texts speaks of, and the stream of a run. Assumes nothing.
-use Rattle.std.specs.Prelude.{Bool, true, cond, List, [], ◌∷◌, ℕ, ltb}
+use Rattle.std.specs.Prelude.{Bool, true, cond, List, Option, [], ◌∷◌, ℕ, ltb}
 use Rattle.theory_lists.specs.Lists.{differ}
 use Rattle.theory_reading.specs.Limits.{option_limit}
 use Rattle.theory_writing.specs.Texts.{tilde_if}
@@ -11,49 +11,38 @@ use Rattle.theory_applying.specs.Memo.{slot_of}
 use Rattle.theory_applying.specs.Carrying.{Carried, carry_in}
 use Rattle.theory_applying.specs.Merging.{merge_nodes_in, merge_in}
 use Rattle.theory_combining.specs.BlockReaders.{BlockReader, deep_of, source_of, ended_of, next_reader}
-use Rattle.meeting.specs.Abstraction.{half_of, progress_of, walked_of}
-use Rattle.meeting.specs.declared.Walked.{Walked}
-use Rattle.pending_text.specs.declared.Sent.{Sent}
+use Rattle.theory_applying.specs.Finishing.{finish_in}
+use Rattle.meeting.specs.Abstraction.{half_of, walked_of}
+use Rattle.meeting.specs.declared.Gap.{Gap}
+use Rattle.meeting.specs.declared.Half.{Half}
+use Rattle.meeting.specs.declared.Sink.{Sink}
 use Rattle.operands.specs.Abstraction.{reader_of}
-use Rattle.operands.specs.declared.Begun.{Begun}
+use Rattle.operands.specs.declared.Stream.{Stream}
+use Rattle.operation_cache.specs.Abstraction.{rows_of}
+use Rattle.operation_cache.specs.declared.Entry.{Entry}
+use Rattle.applier.specs.declared.Task.{Task}
 use Rattle.text_walk.specs.declared.Applied.{Applied}
-use Rattle.text_walk.specs.declared.Gap.{Gap}
-use Rattle.text_walk.specs.declared.Task.{Task}
-use Rattle.node_records.specs.declared.NodeRecord.{NodeRecord}
 use Rattle.node_records.specs.declared.WriterRecord.{WriterRecord}
 
 -- ---- Between the halves ----------------------------------------------------------------------
 
--- what an input decides at the first word of a part
-abbrev pub first_value : Begun → Bool
-first_value x = cond x.operand.inside x.block.complement x.operand.complement
-
--- the first half, the progress after it, the `~` of the second, and what waits
+-- the first half, the `~` of the second, and what waits
 pub record Between : Type 0 where
   pub half : E.Half
-  pub progress : E.Progress
   pub complement : Bool
   pub waiting : Waiting
 
 abbrev pub gap_in : Gap → List ℕ → Between
-gap_in g w =
-    record {
-      half = half_of g.half;
-      progress = progress_of g.progress;
-      complement = g.complement;
-      waiting = record
-          { bytes = w; count = g.count };
-    }
+gap_in g w = record { half = half_of g.first; complement = g.tilde; waiting = record { bytes = w; count = g.waiting } }
 
--- u: the `~`, q: with the first half waiting
-abbrev pub gap_with : Walked → Bool → Waiting → Between
-gap_with a u q =
-    record { half = half_of a.half; progress = progress_of a.progress; complement = u; waiting = push_all q.bytes q.count (tilde_if u) }
+-- u: the `~`, q: with the first half (h) waiting
+abbrev pub gap_with : Half → Bool → Waiting → Between
+gap_with h u q = record { half = half_of h; complement = u; waiting = push_all q.bytes q.count (tilde_if u) }
 
--- q₁, q₂: what the inputs decide at the first word of the second half, m bytes waiting before the first, a
-abbrev pub gap_by : ℕ → ℕ → Bool → Bool → Walked → List ℕ → Between
-gap_by op m q₁ q₂ a w =
-    gap_with a (differ a.half.complement (operate op (q₁ ∷ q₂ ∷ []))) (wait_in w m a.half.wrote a.half.skipped a.half.number)
+-- q₁, q₂: what the inputs decide at the first word of the second half, m bytes waiting before the first, h
+abbrev pub gap_by : ℕ → ℕ → Bool → Bool → Half → List ℕ → Between
+gap_by op m q₁ q₂ h w =
+    gap_with h (differ h.complement (operate op (q₁ ∷ q₂ ∷ []))) (wait_in w m h.wrote h.skipped h.number)
 
 -- ---- The walk --------------------------------------------------------------------------------
 
@@ -62,10 +51,8 @@ abbrev pub carried_on : Applied → BlockReader → BlockReader → List WriterR
 carried_on a τ σ t out w μ =
     record { applied = record { walked = walked_of a.walked t out w; readers = τ ∷ σ ∷ []; ended = a.ended }; memo = μ }
 
--- x, y: the streams, o₁, o₂: their open nodes, t₁, t₂: their lent tables
-abbrev pub carried_of : Applied → List ℕ → List ℕ → List (List ℕ) → List (List ℕ) → List NodeRecord → List NodeRecord → List WriterRecord → List ℕ
-    → List ℕ → List (List ℕ) → Carried BlockReader
-carried_of a x y o₁ o₂ t₁ t₂ t out w μ = carried_on a (reader_of a.first o₁ x t₁) (reader_of a.second o₂ y t₂) t out w μ
+abbrev pub carried_of : Applied → Stream → Stream → Sink → List (Option Entry) → Carried BlockReader
+carried_of a x y s c = carried_on a (reader_of a.first x) (reader_of a.second y) s.table.now s.out.now s.waiting.now (rows_of c)
 
 abbrev pub walk_texts : Task → ℕ → ℕ → ℕ → ℕ → List (T.Operand BlockReader) → List (List ℕ) → List WriterRecord → List ℕ → List ℕ → E.Progress
     → Carried BlockReader
@@ -74,8 +61,11 @@ walk_texts k d i at m fs μ t out w progress =
 
 -- ---- The stream ------------------------------------------------------------------------------
 
-abbrev pub sent_of : Sent → List ℕ → List ℕ → E.Sent
-sent_of x out w = record { written = x.written; full = x.full; output = out; waits = w }
+-- after the walk, m bytes waiting before it: of a whole run what waits, and the point
+abbrev pub finished_by : Task → ℕ → Applied → Sink → E.Sent
+finished_by k m a s =
+    let x : T.Applied BlockReader = record { walked = walked_of a.walked [] s.out.now s.waiting.now; readers = []; ended = a.ended } in
+    finish_in k.n k.covered m x
 
 abbrev pub nodes_by : Task → List (T.Operand BlockReader) → List (List ℕ) → List WriterRecord → E.Sent → E.Sent
 nodes_by k fs μ t x =

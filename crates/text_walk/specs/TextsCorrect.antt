@@ -21,13 +21,15 @@ use Rattle.theory_applying.specs.CarryCorrect.{carry-edges, carry-halted, carry-
 use Rattle.theory_applying.specs.Finishing.{finish_in}
 use Rattle.theory_applying.specs.Merging.{merge_in}
 use Rattle.theory_combining.specs.BlockReaders.{BlockReader, deep_of, source_of, ended_of, next_reader}
-use Rattle.meeting.specs.Abstraction.{walked_of}
+use Rattle.meeting.specs.Abstraction.{progress_of, walked_of}
+use Rattle.meeting.specs.declared.Half.{Half}
 use Rattle.meeting.specs.declared.Walked.{Walked}
-use Rattle.applier.specs.Abstraction.{recalled_of, applied}
-use Rattle.applier.specs.WalkCorrect.{applied-within}
+use Rattle.applier.specs.Abstraction.{applied}
+use Rattle.applier.specs.declared.Task.{Task}
+use Rattle.applier.specs.WalkCorrect.{applied-within, unlike}
+use Rattle.std.proofs.Math.Bool.{beq}
 use Rattle.text_walk.specs.Abstraction.{Between, gap_with, gap_by, carried_on, walk_texts, nodes_by, stream_by}
 use Rattle.text_walk.specs.declared.Applied.{Applied}
-use Rattle.text_walk.specs.declared.Task.{Task}
 use Rattle.node_records.specs.declared.WriterRecord.{WriterRecord}
 
 -- no option is left, or no input is in its text and all words are covered, from `at` on
@@ -63,6 +65,10 @@ second-asks d i at t k p h q =
 
 -- ---- The walk --------------------------------------------------------------------------------
 
+or_l : (a b : Bool) → (a || b) ≡ false → a ≡ false
+or_l false b e = refl
+or_l true b e = e
+
 -- what a part came to, from r, on the block readers τ and σ
 abbrev pub came_to : Walked → Bool → BlockReader → BlockReader → List WriterRecord → List ℕ → List ℕ → List (List ℕ) → Carried BlockReader
 came_to r b τ σ t out w μ =
@@ -79,7 +85,7 @@ module _ (k : Task) (e i at m : ℕ) (φ ψ : T.Operand BlockReader) (μ : List 
   pub texts-edges : (p q : Source) (r : Walked) (v : List WriterRecord) (o z : List ℕ) (ν : List (List ℕ))
       (c : Bool) → c ≡ at_edges k e at φ ψ → c ≡ true → e ≤ option_limit → i + e ≤ level_limit
       → p ≡ T.edge_of deep_of source_of ended_of (next_reader k.n) φ → q ≡ T.edge_of deep_of source_of ended_of (next_reader k.n) ψ
-      → recalled_of r v o z ν ≡ applied k.op k.size e i m (p ∷ q ∷ []) μ t out w progress
+      → record { walked = walked_of r v o z; memo = ν } ≡ applied k.op k.size e i m (p ∷ q ∷ []) μ t out w progress
       → came_to r false φ.reader ψ.reader v o z ν ≡ whole
   texts-edges p q r v o z ν c ce h few low pe qe walked =
       ap (λ (r : Recalled). recalled_on r (φ.reader ∷ ψ.reader ∷ []))
@@ -125,9 +131,9 @@ module _ (k : Task) (e i at m : ℕ) (φ ψ : T.Operand BlockReader) (μ : List 
       module _ (more : at + j < k.covered) (φ₂ ψ₂ : T.Operand BlockReader) (gap : Between) (b : Applied) (τ₃ σ₃ : BlockReader) (y₃ : List WriterRecord)
           (o₃ w₂ : List ℕ) (ν₂ : List (List ℕ)) (second₁ : φ₂ ≡ T.second_operand deep_of source_of ended_of (next_reader k.n) i (T.on_reader φ τ₁))
           (second₂ : ψ₂ ≡ T.second_operand deep_of source_of ended_of (next_reader k.n) i (T.on_reader ψ σ₁))
-          (crossed : gap ≡ gap_by k.op p.count (first_value_at φ₂) (first_value_at ψ₂) a.walked z)
+          (crossed : gap ≡ gap_by k.op p.count (first_value_at φ₂) (first_value_at ψ₂) a.walked.half z)
           (both : carried_on b τ₃ σ₃ y₃ o₃ w₂ ν₂
-          ≡ walk_texts k d (i + 1) (at + j) gap.waiting.count (φ₂ ∷ ψ₂ ∷ []) ν v o gap.waiting.bytes gap.progress)
+          ≡ walk_texts k d (i + 1) (at + j) gap.waiting.count (φ₂ ∷ ψ₂ ∷ []) ν v o gap.waiting.bytes (progress_of a.walked.progress))
         where
           -- the inputs there
           abbrev inputs₂ : List (T.Operand BlockReader)
@@ -145,9 +151,6 @@ module _ (k : Task) (e i at m : ℕ) (φ ψ : T.Operand BlockReader) (μ : List 
 
           half : gap.half ≡ here.applied.walked.half
           half = ap (λ (x : Between). x.half) crossed
-
-          after : gap.progress ≡ here.applied.walked.progress
-          after = ap (λ (x : Between). x.progress) crossed
 
           complement : gap.complement ≡ differ gap.half.complement starts
           complement = ap (λ (x : Between). x.complement) crossed ∙ ap (λ (x : E.Half). differ x.complement starts) (sym half)
@@ -168,33 +171,31 @@ module _ (k : Task) (e i at m : ℕ) (φ ψ : T.Operand BlockReader) (μ : List 
           texts-done c' e' f' =
               carry-done deep_of source_of ended_of (next_reader k.n) slot_of (operate k.op) k.covered k.size d i at m inputs μ t out w
               progress e n some inputs₁ p here went pushed walked j words (sym ce ∙ goes) (lt-leb k.covered (at + j) more)
-              gap.half gap.progress inputs₂ starts gap.complement waits gap.waiting there half after gone refl complement waited ready
+              gap.half (progress_of a.walked.progress) inputs₂ starts gap.complement waits gap.waiting there half refl gone refl complement waited ready
               both
               (sym e' ∙ f')
 
           -- the halves meet: s
-          pub texts-on : (c' : Bool) → c' ≡ (b.ended || b.walked.progress.full) → c' ≡ false → (r' s : Walked)
-              (s₃ : List WriterRecord) (o₄ w₃ : List ℕ) → r' ≡ b.walked
-              → walked_of s s₃ o₄ w₃ ≡ E.second_in k.size i gap.waiting.count gap.complement gap.half (walked_of r' y₃ o₃ w₂)
-              → came_to s false τ₃ σ₃ s₃ o₄ w₃ ν₂ ≡ whole
-          texts-on c' e' f' r' s s₃ o₄ w₃ re met =
-              ap (λ (s : E.Walked). record { applied = record { walked = s; readers = τ₃ ∷ σ₃ ∷ []; ended = false }; memo = ν₂ })
-              (met ∙ ap (λ (r' : Walked). E.second_in k.size i gap.waiting.count gap.complement gap.half (walked_of r' y₃ o₃ w₂)) re)
+          pub texts-on : (c' : Bool) → c' ≡ (b.ended || b.walked.progress.full) → c' ≡ false → (s : Walked)
+              (s₃ : List WriterRecord) (o₄ w₃ : List ℕ)
+              → walked_of s s₃ o₄ w₃ ≡ E.second_in k.size i gap.waiting.count gap.complement gap.half (walked_of b.walked y₃ o₃ w₂)
+              → came_to s b.ended τ₃ σ₃ s₃ o₄ w₃ ν₂ ≡ whole
+          texts-on c' e' f' s s₃ o₄ w₃ met =
+              ap₂ (λ (s : E.Walked) (h : Bool). record { applied = record { walked = s; readers = τ₃ ∷ σ₃ ∷ []; ended = h }; memo = ν₂ })
+              met (or_l b.ended b.walked.progress.full (sym e' ∙ f'))
               ∙ carry-on deep_of source_of ended_of (next_reader k.n) slot_of (operate k.op) k.covered k.size d i at m inputs μ t out w
               progress e n some inputs₁ p here went pushed walked j words (sym ce ∙ goes) (lt-leb k.covered (at + j) more)
-              gap.half gap.progress inputs₂ starts gap.complement waits gap.waiting there half after gone refl complement waited ready
+              gap.half (progress_of a.walked.progress) inputs₂ starts gap.complement waits gap.waiting there half refl gone refl complement waited ready
               both
               (sym e' ∙ f')
 
 -- ---- Between the halves ----------------------------------------------------------------------
 
--- as code has it; r: the first half, u: the `~`, q: with the first half waiting
-pub gap-correct : (op m : ℕ) (q₁ q₂ u₁ u₂ l u : Bool) (a r : Walked) (w : List ℕ) (q : Waiting) → r ≡ a → q₁ ≡ u₁ → q₂ ≡ u₂
-    → l ≡ operate op (q₁ ∷ q₂ ∷ []) → u ≡ differ r.half.complement l
-    → q ≡ wait_in w m r.half.wrote r.half.skipped r.half.number → gap_with r u q ≡ gap_by op m u₁ u₂ a w
-gap-correct op m q₁ q₂ u₁ u₂ l u a r w q re e₁ e₂ le ue qe =
-    ap₂ (gap_with r) (ue ∙ ap (differ r.half.complement) (le ∙ ap₂ (λ (a b : Bool). operate op (a ∷ b ∷ [])) e₁ e₂)) qe
-    ∙ ap (λ (r : Walked). gap_by op m u₁ u₂ r w) re
+-- as code has it; q₁, q₂: what the inputs decide, l: what that comes to, q: with the first half (h) waiting
+pub gap-correct : (op m : ℕ) (q₁ q₂ u₁ u₂ l : Bool) (h : Half) (w : List ℕ) (q : Waiting) → q₁ ≡ u₁ → q₂ ≡ u₂
+    → l ≡ operate op (q₁ ∷ q₂ ∷ []) → q ≡ wait_in w m h.wrote h.skipped h.number → gap_with h (not (beq h.complement l)) q ≡ gap_by op m u₁ u₂ h w
+gap-correct op m q₁ q₂ u₁ u₂ l h w q e₁ e₂ le qe =
+    ap₂ (gap_with h) (unlike h.complement l ∙ ap (differ h.complement) (le ∙ ap₂ (λ (a b : Bool). operate op (a ∷ b ∷ [])) e₁ e₂)) qe
 
 -- ---- The stream ------------------------------------------------------------------------------
 
@@ -228,15 +229,15 @@ module _ (k : Task) (fs : List (T.Operand BlockReader)) (μ : List (List ℕ)) (
   module _ (h : k.n ≤ option_limit) (a : Waiting) (x : E.Sent) (pushed : a ≡ push_all w 0 (head k.size))
       (sent : x ≡ E.send_text out a.bytes 0 a.count) where
     -- the size and its LF, and no more
-    pub stream-head : (b : Bool) → b ≡ (x.full || eqb k.covered 0) → b ≡ true → x ≡ stream_by k fs μ t out w
-    stream-head b e f =
+    pub stream-head : (x.full || eqb k.covered 0) ≡ true → x ≡ stream_by k fs μ t out w
+    stream-head f =
         merge-head deep_of source_of ended_of (next_reader k.n) slot_of (operate k.op) k.n k.covered k.size fs μ t out w a x pushed sent
-        (sym e ∙ f) ∙ sym (stream-within h)
+        f ∙ sym (stream-within h)
 
     -- and the nodes, y
-    pub stream-body : (b : Bool) → b ≡ (x.full || eqb k.covered 0) → b ≡ false → (y : E.Sent) → y ≡ nodes_by k fs μ t x
+    pub stream-body : (x.full || eqb k.covered 0) ≡ false → (y : E.Sent) → y ≡ nodes_by k fs μ t x
         → y ≡ stream_by k fs μ t out w
-    stream-body b e f y ye =
+    stream-body f y ye =
         ye
         ∙ merge-body deep_of source_of ended_of (next_reader k.n) slot_of (operate k.op) k.n k.covered k.size fs μ t out w a x pushed sent
-        (sym e ∙ f) ∙ sym (stream-within h)
+        f ∙ sym (stream-within h)

@@ -22,7 +22,7 @@ use Rattle.blocks.specs.Blocks.{Next, next_block}
 use Rattle.blocks.specs.BlockLaws.{StandsAt, first-stands, stands_read, next-stands}
 use Rattle.blocks.specs.BlockLaws.{block-from, block-covers, block-deep, block-aligned, block-later, block-ordered, block-lasts, block-sits}
 use Rattle.blocks.specs.BlockLaws.{block-decides, block_last, end-lasts}
-use Rattle.reader.specs.OpenCells.{ReadCursor}
+use Rattle.reader.specs.OpenNodes.{ReadCursor}
 use Rattle.theory_combining.specs.BlockReaders.{BlockReader, reader_at, deep_of, source_of, ended_of, next_reader, first_reader}
 use Rattle.node_records.specs.declared.NodeRecord.{NodeRecord}
 

@@ -82,10 +82,3 @@ count-above t z k more l = rw (ne_eqb k 0 (λ e. omega (arith, l, e)), lt-ltb z 
 pub count-here : (t : List NodeRecord) (z k : ℕ) (more : Bool) → (k ≡ 0 → ⊥) → k ≤ z → set t (k - 1) (counted_record (get_or t (k - 1) no_record) more)
     ≡ count_at t z k more
 count-here t z k more h l = rw (ne_eqb k 0 h, le-ltb z k l) refl
-
--- as code goes to it: the record is read, and put with its count
-pub count-put : (t : List NodeRecord) (z k : ℕ) (more : Bool) → k ≤ z → put_entry t k (counted_record (entry_at no_record t k) more) ≡ count_at t z k more
-count-put t z k more h = ⊎_elim
-    (λ (e : k ≡ 0). rw e refl)
-    (λ (n : k ≡ 0 → ⊥). rw (ne_eqb k 0 n, le-ltb z k h) refl)
-    (decide_eq k 0)

@@ -4,29 +4,29 @@
 ghost use Rattle.std.specs.Prelude.{◌≡◌};
 ghost use Rattle.work_table.specs.Table.{get_in, counted_to, counted_record, count_at, store_at};
 
-use node_records::{NodeRecord, no_record, with_words};
+use node_records::{NodeRecord, Record, with_words};
 use record_tables::{get_record, put_record};
 
-// THE RECORD of the number k in a table of z numbers.
+// THE RECORD of the number k in a table of z numbers. (t and z stay apart, here and in what reads a table: z is the size that a run or an edge holds, and a
+// struct would hold it a second time.)
 pub fn get(t: &[NodeRecord], z: u32, k: u32) -> NodeRecord
     ensures { result ≡ get_in t.now z k }
 {
     if z < k {
-        return no_record();
+        NodeRecord::empty()
+    } else {
+        get_record(t, k)
     }
-    get_record(t, k)
 }
 
 fn count_of(p: u32, more: bool) -> u32
     ensures { result ≡ counted_to p more }
 {
     if more {
-        if p < 4294967295 {
-            return p + 1;
-        }
-        return p;
+        p.saturating_add(1)
+    } else {
+        p.saturating_sub(1)
     }
-    if p == 0 { 0 } else { p - 1 }
 }
 
 // A record with one parent more, or one less.
@@ -34,14 +34,8 @@ fn counted(x: NodeRecord, more: bool) -> NodeRecord
     ensures { result ≡ counted_record x more }
 {
     NodeRecord {
-        level: x.level,
-        first: x.first,
-        second: x.second,
-        complement: x.complement,
-        stamp: x.stamp,
         parents: count_of(x.parents, more),
-        admits: x.admits,
-        refuses: x.refuses,
+        ..x
     }
 }
 
@@ -59,8 +53,7 @@ pub fn store(t: &mut [NodeRecord], z: u32, k: u32, x: NodeRecord)
     ensures { t.new ≡ store_at t.old z k x }
 {
     let old = get(t, z, k);
-    let y = with_words(x, get(t, z, x.first), get(t, z, x.second));
-    put_record(t, k, y);
+    put_record(t, k, with_words(x, get(t, z, x.first), get(t, z, x.second)));
     count(t, z, old.first, false);
     count(t, z, old.second, false);
     count(t, z, x.first, true);

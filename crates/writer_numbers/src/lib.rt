@@ -1,43 +1,26 @@
-// Numbers of the unique table: one of two, one more and one less, whether one is free; and how a node's bucket is mixed.
+// Numbers of the unique table: whether one is free; and how a node's bucket is mixed.
 #![tactic(auto)]
 
-ghost use Rattle.std.specs.Prelude.{◌≡◌, cond, not, ◌||◌, eqb, ◌-◌};
+ghost use Rattle.std.specs.Prelude.{◌≡◌, not, ◌||◌, eqb};
 ghost use Rattle.writer_numbers.specs.Hashing.{stir, bucket_of};
-ghost use Rattle.writer_numbers.specs.Numbers.{one_more};
+ghost use Rattle.writer_numbers.specs.Numbers.{number_of};
 
-use node_records::TABLE_LIMIT;
+use node_records::{Node, TABLE_LIMIT};
 
 // ---- Numbers
 
-pub fn either(c: bool, x: u32, y: u32) -> u32
-    ensures { result ≡ cond c x y }
+// A number of the table; 0 is none.
+pub fn number(k: u32) -> Option<u32>
+    ensures { result ≡ number_of k }
 {
-    if c { x } else { y }
-}
-
-pub fn one_more(p: u32) -> u32
-    ensures { result ≡ one_more p }
-{
-    if p < 4294967295 { p + 1 } else { p }
-}
-
-pub fn one_less(p: u32) -> u32
-    ensures { result ≡ p - 1 }
-{
-    if p == 0 { 0 } else { p - 1 }
+    if k == 0 { None } else { Some(k) }
 }
 
 // The search for a number to reuse ends at x: x is 0, or neither a nor b.
 pub fn is_free(a: u32, b: u32, x: u32) -> bool
     ensures { result ≡ (eqb x 0 || not (eqb a x || eqb b x)) }
 {
-    if x == 0 {
-        return true;
-    }
-    if a == x {
-        return false;
-    }
-    b != x
+    x == 0 || a != x && b != x
 }
 
 // ---- Places
@@ -55,15 +38,16 @@ pub fn stir(k: u32, v: u64) -> u64
     ensures { result ≡ stir k v }
 {
     let x = v % 4294967296;
-    let p = x * ((x + k as u64) % 4294967296);
+    let p = x * ((x + u64::from(k)) % 4294967296);
     p / 4294967296 + p % 4294967296
 }
 
-// The bucket of a node: level, children, complement
-pub fn bucket(i: u32, a: u32, b: u32, c: u32) -> u32
-    ensures { result ≡ bucket_of i a b c }
+// The bucket of a node
+pub fn bucket(n: Node) -> u32
+    ensures { result ≡ bucket_of n.level n.first n.second n.complement }
 {
-    let x = ((a as u64 * NUMBER_SPAN + b as u64) * LEVEL_SPAN + i as u64) * 2 + c as u64;
+    let children = u64::from(n.first) * NUMBER_SPAN + u64::from(n.second);
+    let x = (children * LEVEL_SPAN + u64::from(n.level)) * 2 + u64::from(n.complement);
     let y = stir(2246822519, stir(2654435769, x)) % 4294967296;
     (y * BUCKETS / 4294967296 + 1) as u32
 }

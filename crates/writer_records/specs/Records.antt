@@ -1,5 +1,6 @@
 -- What the code that stores nodes reads of a record, and what it makes of it; RecordLaws of theory_engine ties it to cells. Assumes nothing.
-use Rattle.std.specs.Prelude.{◌≡◌, refl, Bool, true, false, cond, ◌&&◌, ℕ, ◌+◌, eqb, get_or}
+use Rattle.std.specs.Prelude.{Bool, cond, ◌&&◌, ℕ, eqb, get_or}
+use Rattle.node_records.specs.declared.Node.{Node}
 use Rattle.node_records.specs.declared.WriterRecord.{WriterRecord}
 use Rattle.writer_numbers.specs.Numbers.{one_more}
 use Rattle.writer_records.specs.Fields.{fields_of, with_field, level_field, first_field, second_field, complement_field, stamp_field, queue_field, bucket_field}
@@ -14,6 +15,10 @@ with_node x i a b c =
     with_field (with_field (with_field (with_field (with_field x level_field i) first_field a) second_field b) complement_field c)
     stamp_field (one_more (get_or (fields_of x) stamp_field 0))
 
+-- its node
+abbrev pub node_of : WriterRecord → Node
+node_of x = record { level = x.level; first = x.first; second = x.second; complement = x.complement }
+
 -- it has that node
 abbrev pub is_node : WriterRecord → ℕ → ℕ → ℕ → ℕ → Bool
 is_node x i a b c =
@@ -21,45 +26,3 @@ is_node x i a b c =
     && (eqb (get_or (fields_of x) first_field 0) a
     && (eqb (get_or (fields_of x) second_field 0) b
     && eqb (get_or (fields_of x) complement_field 0) c))
-
--- ---- Links ------------------------------------------------------------------------------------
-
--- the field of a lane
-pub after-with : (queue : Bool) (x : WriterRecord) (v : ℕ) →
-    record {
-      level = x.level;
-      first = x.first;
-      second = x.second;
-      complement = x.complement;
-      stamp = x.stamp;
-      parents = x.parents;
-      after = cond queue v x.after;
-      before = x.before;
-      next = cond queue x.next v;
-      previous = x.previous;
-      head = x.head;
-      tail = x.tail;
-    }
-    ≡ with_field x (lane_field queue) v
-after-with true x v = refl
-after-with false x v = refl
-
--- the one after it
-pub before-with : (queue : Bool) (x : WriterRecord) (v : ℕ) →
-    record {
-      level = x.level;
-      first = x.first;
-      second = x.second;
-      complement = x.complement;
-      stamp = x.stamp;
-      parents = x.parents;
-      after = x.after;
-      before = cond queue v x.before;
-      next = x.next;
-      previous = cond queue x.previous v;
-      head = x.head;
-      tail = x.tail;
-    }
-    ≡ with_field x (lane_field queue + 1) v
-before-with true x v = refl
-before-with false x v = refl

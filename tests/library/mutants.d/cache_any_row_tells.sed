@@ -1,2 +1,2 @@
 # crates/operation_cache/src/lib.rt
-/^pub fn recall(/,/^}/s/^    if !is_held(r, k) {/    if r[0] == 0 {/
+/^pub fn recall(/,/^}/s/^    if e\.key != k {/    if e.key != e.key {/

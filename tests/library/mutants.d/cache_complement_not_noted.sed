@@ -1,2 +1,2 @@
 # crates/operation_cache/src/lib.rt
-/^fn remember/,/^}/s/either(h\.complement, 2, 1),/1,/
+/^pub fn note/,/^}/s/complement: h\.complement,/complement: false,/

@@ -1,2 +1,2 @@
 # crates/operation_cache/src/lib.rt
-/^fn recall_entry/,/^}/s/^    let v = row\[0\] == 2;/    let v = false;/
+/^pub fn recall(/,/^}/s/let e = (\*c\.get(p)?)?;/let e = Entry { complement: false, ..(*c.get(p)?)? };/

@@ -1,2 +1,2 @@
 # crates/operation_cache/src/lib.rt
-/^fn recall_entry/,/^}/s/told_as(constant(v))/told_as(constant(false))/
+/^pub fn recall(/,/^}/s/Some(constant(e\.complement))/Some(constant(false))/

@@ -1,2 +1,2 @@
 # crates/applier/src/lib.rt
-/^fn walk/,/^}/s/note(c, s, k, pass, both);/note(c, s, k, pass, a);/
+/^fn walk/,/^}/s/note(cache, s, key, pass, both);/note(cache, s, key, pass, a);/

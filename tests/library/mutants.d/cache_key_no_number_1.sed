@@ -1,2 +1,2 @@
 # crates/operation_cache/src/lib.rt
-/^fn is_held/,/^}/s/^    if r\[3\] != k\.number1 {/    if r[3] > 4294967295 {/
+/^pub fn recall(/,/^}/s/^    if e\.key != k {/    if e.key != (Key { number1: e.key.number1, ..k }) {/

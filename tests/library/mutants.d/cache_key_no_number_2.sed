@@ -1,2 +1,2 @@
 # crates/operation_cache/src/lib.rt
-/^fn is_held/,/^}/s/^    if r\[6\] != k\.number2 {/    if r[6] > 4294967295 {/
+/^pub fn recall(/,/^}/s/^    if e\.key != k {/    if e.key != (Key { number2: e.key.number2, ..k }) {/

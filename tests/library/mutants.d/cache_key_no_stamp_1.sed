@@ -1,2 +1,2 @@
 # crates/operation_cache/src/lib.rt
-/^fn is_held/,/^}/s/^    if r\[4\] != k\.stamp1 {/    if r[4] > 4294967295 {/
+/^pub fn recall(/,/^}/s/^    if e\.key != k {/    if e.key != (Key { stamp1: e.key.stamp1, ..k }) {/

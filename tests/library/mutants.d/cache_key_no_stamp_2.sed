@@ -1,2 +1,2 @@
 # crates/operation_cache/src/lib.rt
-/^fn is_held/,/^}/s/^    if r\[7\] != k\.stamp2 {/    if r[7] > 4294967295 {/
+/^pub fn recall(/,/^}/s/^    if e\.key != k {/    if e.key != (Key { stamp2: e.key.stamp2, ..k }) {/

@@ -1,2 +1,2 @@
 # crates/operation_cache/src/lib.rt
-/^fn is_held/,/^}/s/^    if r\[5\] != k\.complement1 {/    if r[5] > 4294967295 {/
+/^pub fn recall(/,/^}/s/^    if e\.key != k {/    if e.key != (Key { complement1: e.key.complement1, ..k }) {/

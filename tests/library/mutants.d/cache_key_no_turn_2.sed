@@ -1,2 +1,2 @@
 # crates/operation_cache/src/lib.rt
-/^fn is_held/,/^}/s/^    r\[8\] == k\.complement2/    true/
+/^pub fn recall(/,/^}/s/^    if e\.key != k {/    if e.key != (Key { complement2: e.key.complement2, ..k }) {/

@@ -1,2 +1,2 @@
 # crates/operation_cache/src/lib.rt
-/^fn recall_entry/,/^}/s/above(l, i), v, false)/0, v, false)/
+/^pub fn recall(/,/^}/s/skipped, e\.complement, false)/0, e.complement, false)/

@@ -1,2 +1,2 @@
 # crates/operation_cache/src/lib.rt
-/^fn above/,/^}/s/if l < i { 0 } else { l - i }/if l <= i { 0 } else { l - i - 1 }/
+/^pub fn recall(/,/^}/s/\.saturating_sub(i);/.saturating_sub(i + 1);/

@@ -1,2 +1,2 @@
 # crates/operation_cache/src/lib.rt
-/^fn above/,/^}/s/else { l - i }/else { l - i + 1 }/
+/^pub fn recall(/,/^}/s/level_of(t, e\.number)\.saturating_sub(i);/(level_of(t, e.number) + 1).saturating_sub(i);/

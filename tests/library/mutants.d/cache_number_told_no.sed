@@ -1,2 +1,2 @@
 # crates/operation_cache/src/lib.rt
-/^fn recall_entry/,/^}/s/above(l, i), v, false)/above(l, i), false, false)/
+/^pub fn recall(/,/^}/s/skipped, e\.complement, false)/skipped, false, false)/

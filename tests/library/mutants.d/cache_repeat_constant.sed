@@ -1,2 +1,2 @@
 # crates/applier/src/lib.rt
-/^fn is_alike/,/^}/s/^    pass$/    if h.number == 0 { true } else { pass }/
+/^fn walk/,/^}/s/^    if !h\.temporary \&\& pass {/    if !h.temporary \&\& (h.number == 0 || pass) {/

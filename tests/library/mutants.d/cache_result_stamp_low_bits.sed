@@ -1,2 +1,2 @@
 # crates/operation_cache/src/lib.rt
-/^fn recall_entry/,/^}/s/^    if stamp_of(t, k) != g {/    if stamp_of(t, k) % 8 != g % 8 {/
+/^pub fn recall(/,/^}/s/^    if stamp_of(t, e\.number) != e\.stamp {/    if stamp_of(t, e.number) % 8 != e.stamp % 8 {/

@@ -1,2 +1,2 @@
 # crates/applier/src/lib.rt
-/^fn walk/,/^}/s/key_of(x, r1\.stamp, y, r2\.stamp)/key_of(x, r1.stamp, y, r1.stamp)/
+/^fn walk/,/^}/s/key_of(x\.edge, r1\.stamp, y\.edge, r2\.stamp)/key_of(x.edge, r1.stamp, y.edge, r1.stamp)/

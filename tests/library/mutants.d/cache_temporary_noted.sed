@@ -1,2 +1,2 @@
 # crates/operation_cache/src/lib.rt
-/^pub fn note/,/^}/s/^    let temporary = h\.temporary;/    let temporary = false;/
+/^pub fn note/,/^}/s/ || pass || h\.temporary {/ || pass {/

@@ -1,2 +1,2 @@
 # crates/operation_cache/src/lib.rt
-/^fn recall_entry/,/^}/s/numbered(k, g, above/numbered(k, 0, above/
+/^pub fn recall(/,/^}/s/numbered(e\.number, e\.stamp,/numbered(e.number, 0,/

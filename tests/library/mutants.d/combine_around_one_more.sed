@@ -1,2 +1,2 @@
 # crates/operands/src/lib.rt
-/^fn settle/,/^}/s/b\.deep != i as usize/b.deep != i as usize + 1/
+/^fn settle/,/^}/s/b\.deep == i as usize/b.deep == i as usize + 1/

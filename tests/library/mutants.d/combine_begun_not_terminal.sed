@@ -1,2 +1,2 @@
 # crates/blocks/src/lib.rt
-/^fn last_number/,/^}/s/^    if !has_ended(m) {/    if has_ended(m) {/
+/^fn last_number/,/^}/s/^    if !has_ended(q\.context) {/    if has_ended(q.context) {/

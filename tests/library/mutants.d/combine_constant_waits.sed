@@ -1,2 +1,2 @@
 # crates/covering/src/lib.rt
-/^pub fn covered/,/^}/s/^    if ignores_both(op) {/    if false {/
+/^pub fn covered/,/^}/s/^    if ignores_first(op) && ignores_second(op) {/    if false {/

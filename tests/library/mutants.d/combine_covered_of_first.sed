@@ -1,2 +1,2 @@
 # crates/combiner/src/lib.rt
-s/covering(c, y\.covered)/covering(c, c)/
+/^fn both_checked/,/^}/s/second: y\.covered,/second: x.covered,/

@@ -1,2 +1,2 @@
 # crates/combiner/src/lib.rt
-s/covering(c, y\.covered)/covering(y.covered, y.covered)/
+/^fn both_checked/,/^}/s/first: x\.covered,/first: y.covered,/

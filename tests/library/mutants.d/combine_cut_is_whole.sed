@@ -1,2 +1,2 @@
 # crates/text_walk/src/lib.rt
-/^fn finish/,/^}/s/^    if covered == 1u64 << n {/    if covered <= 1u64 << n {/
+/^fn finish/,/^}/s/^    if k\.covered == 1u64 << k\.n {/    if k.covered <= 1u64 << k.n {/

@@ -1,2 +1,2 @@
 # crates/text_walk/src/lib.rt
-/^fn texts/,/^}/s/return ended_at(a);/return a;/
+/^fn texts/,/^}/s/return Applied { ended: true, \.\.a };/return a;/

@@ -1,2 +1,2 @@
 # crates/combiner/src/lib.rt
-/^fn enter/,/^}/s/^    let whole = l\.whole;/    let whole = true;/
+/^fn enter/,/^}/s/^    if !l\.whole {/    if false {/

@@ -1,2 +1,2 @@
 # crates/combiner/src/lib.rt
-/^fn in_second/,/^}/s/stream: 2,/stream: 1,/
+/^fn both_checked/,/^}/s/stream: 2,/stream: 1,/

@@ -1,2 +1,2 @@
 # crates/combiner/src/lib.rt
-s/enter(n, y, t2, /enter(n, x, t2, /
+/^fn run/,/^}/s/bytes: y,/bytes: x,/

@@ -1,2 +1,2 @@
 # crates/covering/src/lib.rt
-/^pub fn ignores_first/,/^}/s/^    !opens_first(op, true)/    true/
+/^pub fn ignores_first/,/^}/s/ && !opens_first(op, true)//

@@ -1,2 +1,2 @@
 # crates/text_walk/src/lib.rt
-/^fn first_on/,/^}/s/let b = a\.first;/let b = a.second;/
+/^fn texts/,/^}/s/block: a\.first,/block: a.second,/

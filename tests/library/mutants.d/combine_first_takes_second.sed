@@ -1,2 +1,2 @@
 # crates/edges/src/lib.rt
-/^pub fn first_edge/,/^}/s/first_child(r, i, bare(x))/second_child(r, i, bare(x))/
+/^pub fn first_edge/,/^}/s/first_child(r, i, x\.edge)/second_child(r, i, x.edge)/

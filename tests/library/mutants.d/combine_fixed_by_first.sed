@@ -1,2 +1,2 @@
 # crates/edges/src/lib.rt
-/^pub fn is_fixed/,/^}/s/^    if x\.number == 0 {/    if x.number <= 1 {/
+/^pub fn is_fixed/,/^}/s/x\.edge\.number == 0/x.edge.number <= 1/

@@ -1,2 +1,2 @@
 # crates/edges/src/lib.rt
-/^pub fn is_fixed/,/^}/s/^    !opens_first(op, y\.complement)/    true/
+/^pub fn is_fixed/,/^}/s/!opens_first(op, b)/true/

@@ -1,2 +1,2 @@
 # crates/combiner/src/lib.rt
-s/enter(n, x, t1, &mut o1, l.first, ignores_first(op))/enter(n, x, t1, \&mut o1, l.first, ignores_second(op))/
+/^fn run/,/^}/s/l\.first\.loaded, ignores_first(k\.op)/l.first.loaded, ignores_second(k.op)/

@@ -1,2 +1,2 @@
 # crates/combiner/src/lib.rt
-/^fn clear_all/,/^}/s/let z = t\.len();/let z = t.len() - 1;/
+/^pub fn combine/,/^}/s/^    clear_all(t2);/    let z = t2.len() - 1; record_tables::clear_records(t2, z);/

@@ -1,2 +1,2 @@
 # crates/blocks/src/lib.rt
-/^fn first_stays/,/^}/s/^    stays(t, z, a\[0\], a\[1\])/    a[0] <= z/
+/^fn first_stays/,/^}/s/stays(t, z, x\.first)/x.first.number <= z/

@@ -1,2 +1,2 @@
 # crates/blocks/src/lib.rt
-/^fn highest/,/^}/s/return k;/return k - 1;/
+/^fn highest/,/^}/s/return k + 1;/return k;/

@@ -1,2 +1,2 @@
 # crates/covering/src/lib.rt
-/^fn reach/,/^}/s/^            return short;/            return long;/
+/^fn reach/,/^}/s/(true, true) => short,/(true, true) => long,/

@@ -1,2 +1,2 @@
 # crates/blocks/src/lib.rt
-/^fn put_spine/,/^}/s/if d == 0 {/if d <= 1 {/
+/^fn put_spine/,/^}/s/for j in 0\.\.d {/for j in 0..d.saturating_sub(1) {/

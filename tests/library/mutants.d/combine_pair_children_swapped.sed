@@ -1,2 +1,2 @@
 # crates/blocks/src/lib.rt
-/^fn pair_record/,/^}/s/record_as(i, a.number, e, /record_as(i, e, a.number, /
+/^fn pair_record/,/^}/s/record_as(i, p\.first\.number, e, /record_as(i, e, p.first.number, /

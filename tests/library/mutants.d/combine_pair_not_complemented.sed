@@ -1,2 +1,2 @@
 # crates/blocks/src/lib.rt
-/^fn pair_record/,/^}/s/bit(p.complement)/0/
+/^fn pair_record/,/^}/s/u32::from(p\.complement)/0/

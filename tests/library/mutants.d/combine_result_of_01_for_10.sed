@@ -1,2 +1,2 @@
 # crates/operators/src/lib.rt
-/^fn result/,/^}/s/r11 } else { r10 }/r11 } else { r01 }/
+/^fn result/,/^}/s/(true, false) => r10/(true, false) => r01/

@@ -1,2 +1,2 @@
 # crates/combiner/src/lib.rt
-/^fn enter/,/^}/s/^        number: b\.number,/        number: 0,/
+/^fn enter/,/^}/s/^        number: block\.number,/        number: 0,/

@@ -1,2 +1,2 @@
 # crates/combiner/src/lib.rt
-/^fn enter/,/^}/s/^        complement: b\.complement,/        complement: false,/
+/^fn enter/,/^}/s/^        complement: block\.complement,/        complement: false,/

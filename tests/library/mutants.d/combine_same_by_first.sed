@@ -1,2 +1,2 @@
 # crates/edges/src/lib.rt
-/^pub fn both_pass/,/^}/s/^    skips(j, i, s\.level)/    skips(k, i, r.level)/
+/^pub fn both_pass/,/^}/s/\&\& skips(y\.edge\.number, i, s\.level)/\&\& skips(x.edge.number, i, r.level)/

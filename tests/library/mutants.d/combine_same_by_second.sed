@@ -1,2 +1,2 @@
 # crates/edges/src/lib.rt
-/^pub fn both_pass/,/^}/s/^    if !skips(k, i, r\.level) {/    if !skips(j, i, s.level) {/
+/^pub fn both_pass/,/^}/s/skips(x\.edge\.number, i, r\.level) \&\&/skips(y.edge.number, i, s.level) \&\&/

@@ -1,2 +1,2 @@
 # crates/applier/src/lib.rt
-/^fn is_alike/,/^}/s/^    let text_only = h\.temporary;/    let text_only = false;/
+/^fn walk/,/^}/s/^    if !h\.temporary \&\& pass {/    if pass {/

@@ -1,2 +1,2 @@
 # crates/covering/src/lib.rt
-/^fn reach/,/^}/s/l, f, short, long, true)/l, f, short + 1, long, true)/
+/^fn reach/,/^}/s/l, short, long, true)/l, short + 1, long, true)/

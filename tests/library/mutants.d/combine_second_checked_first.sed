@@ -1,2 +1,2 @@
 # crates/combiner/src/lib.rt
-s/both_loaded(l.first, l.second)/both_loaded(l.second, l.first)/
+/^pub fn combine/,/^}/s/both_checked(l\.first\.loaded\.checking, l\.second\.loaded\.checking)/both_checked(l.second.loaded.checking, l.first.loaded.checking)/

@@ -1,2 +1,2 @@
 # crates/covering/src/lib.rt
-/^pub fn ignores_second/,/^}/s/^    !opens_second(op, true)/    true/
+/^pub fn ignores_second/,/^}/s/ && !opens_second(op, true)//

@@ -1,2 +1,2 @@
 # crates/combiner/src/lib.rt
-s/enter(n, y, t2, &mut o2, l.second, ignores_second(op))/enter(n, y, t2, \&mut o2, l.second, ignores_first(op))/
+/^fn run/,/^}/s/l\.second\.loaded, ignores_second(k\.op)/l.second.loaded, ignores_first(k.op)/

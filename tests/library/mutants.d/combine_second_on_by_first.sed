@@ -1,2 +1,2 @@
 # crates/text_walk/src/lib.rt
-/^fn second_on/,/^}/s/let b = a\.second;/let b = a.first;/
+/^fn texts/,/^}/s/block: a\.second,/block: a.first,/

@@ -1,2 +1,2 @@
 # crates/combiner/src/lib.rt
-s/enter(n, y, t2, &mut o2, l.second, /enter(n, y, t2, \&mut o2, l.first, /
+/^fn run/,/^}/s/enter(k\.n, &mut b, l\.second\.loaded,/enter(k.n, \&mut b, l.first.loaded,/

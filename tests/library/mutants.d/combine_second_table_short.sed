@@ -1,2 +1,2 @@
 # crates/combiner/src/lib.rt
-/^pub fn combine/,/^}/s/^    if t2\.len() < TABLE_LIMIT {/    if t2.len() < TABLE_LIMIT - 1 {/
+/^pub fn combine/,/^}/s/t2\.len() < TABLE_LIMIT/t2.len() < TABLE_LIMIT - 1/

@@ -1,2 +1,2 @@
 # crates/edges/src/lib.rt
-/^fn beside/,/^}/s/complement: e\.complement,/complement: x.complement,/
+/^pub fn second_edge/,/^}/s/edge: second_child(r, i, x\.edge),/edge: Edge { complement: x.edge.complement, ..second_child(r, i, x.edge) },/

@@ -1,2 +1,2 @@
 # crates/edges/src/lib.rt
-/^fn is_settled/,/^}/s/^    !opens_second(op, a)/    true/
+/^fn is_settled/,/^}/s/!opens_second(op, a)/true/

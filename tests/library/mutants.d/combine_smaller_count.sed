@@ -1,2 +1,2 @@
 # crates/covering/src/lib.rt
-/^fn reach/,/^}/s/^    long$/    short/
+/^fn reach/,/^}/s/(false, false) => long,/(false, false) => short,/

@@ -1,2 +1,2 @@
 # crates/blocks/src/lib.rt
-/^fn stays/,/^}/s/^    x\.stamp == g/    x.stamp != 0xffffffff/
+/^fn stays/,/^}/s/stamp == a\.stamp/stamp != 0xffffffff/

@@ -1,5 +1,5 @@
 # crates/combiner/src/lib.rt
 /^    let l = load_both(/{
 n
-s/^    clear_writer_records(t);/    \/\/ clear_writer_records(t);/
+s/^    clear_all(t);/    \/\/ clear_all(t);/
 }

@@ -1,2 +1,2 @@
 # crates/combiner/src/lib.rt
-/^pub fn combine/,/^}/s/^    if t\.len() < TABLE_LIMIT {/    if t.len() < TABLE_LIMIT - 1 {/
+/^pub fn combine/,/^}/s/ t\.len() < TABLE_LIMIT/ t.len() < TABLE_LIMIT - 1/

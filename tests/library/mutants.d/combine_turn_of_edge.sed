@@ -1,2 +1,2 @@
 # crates/operands/src/lib.rt
-/^pub fn first_value/,/^}/s/return b\.complement;/return f.complement;/
+/^pub fn first_value/,/^}/s/None => f\.block\.complement,/None => TERMINAL.complement,/

@@ -1,2 +1,2 @@
 # crates/scanner/src/lib.rt
-s/^    if w < 4294967295 { w } else { 4294967295 }/    if w < 4294967295 { w } else { w % 4294967296 }/
+s/^    (v \* 10 + digit(b))\.min(4294967295)/    (v * 10 + digit(b)) % 4294967296/

@@ -1,2 +1,2 @@
 # crates/record_tables/src/lib.rt
-s/^    let e = least(m, t.len());/    let e = least(m, node_records::TABLE_LIMIT);/
+s/^    let e = m\.min(t\.len());/    let e = m.min(node_records::TABLE_LIMIT);/

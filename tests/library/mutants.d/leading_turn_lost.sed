@@ -1,2 +1,2 @@
 # crates/reader/src/lib.rt
-s/^        q.complement = true;/        q.complement = false;/
+s/^        complement: r\.context == Context::Lead || r\.complement,/        complement: r.complement,/

@@ -1,2 +1,2 @@
 # crates/finder/src/lib.rt
-s/^    if u < covered_of(r) {/    if u <= covered_of(r) {/
+s/^    let word = word_at(t, o, n, r, w, !v);/    let word = word_at(t, o, n, r, w, !v).or(Some(r.run.covered));/

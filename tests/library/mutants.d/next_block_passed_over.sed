@@ -1,2 +1,2 @@
 # crates/reader/src/lib.rt
-/^fn stop_after/,/^}/s/^    r.covered$/    r.covered + 1/
+/^fn stop_after/,/^}/s/^        r\.covered$/        r.covered + 1/

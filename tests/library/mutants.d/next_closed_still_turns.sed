@@ -1,2 +1,2 @@
 # crates/reader/src/lib.rt
-/^fn parity_on/,/^}/s/^    differs(complements(l), q)/    q/
+/^fn parity_on/,/^}/s/^    complements(x\.low) != q/    q/

@@ -1,2 +1,2 @@
 # crates/reader/src/lib.rt
-s/^    if two { e.complement } else { false }/    if two { e.complement } else { true }/
+/^pub fn complements/,/^}/s/^    e\.second \&\& e\.complement/    !e.second || e.complement/

@@ -1,2 +1,2 @@
 # crates/finder/src/lib.rt
-s/^    if covered_of(r) == 1u64 << n {/    if covered_of(r) <= 1u64 << n {/
+s/^        None if r.run.covered == 1u64 << n/        None if r.run.covered <= 1u64 << n/

@@ -1,2 +1,2 @@
 # crates/finder/src/lib.rt
-s/^    differs(e.complement, q.complement)/    e.complement/
+s/^    edge_of(r, o).complement != r.run.complement/    edge_of(r, o).complement/

@@ -1,2 +1,2 @@
 # crates/reader/src/lib.rt
-s/^    if a.number == k {/    if a.number == 0 {/
+/^fn is_bad/,/^}/s/r\.pair\.first\.number == k/r.pair.first.number == 0/

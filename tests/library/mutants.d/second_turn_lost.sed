@@ -1,2 +1,2 @@
 # crates/node_records/src/lib.rt
-s/complement: differs(x.complement != 0, e.complement),/complement: e.complement,/
+s/second_child(x, e\.complement)/Edge { number: x.second, complement: e.complement }/

@@ -1,2 +1,2 @@
 # crates/scanner/src/lib.rt
-s/^    if digital {/    if !digital {/
+s/^        if digital && is_kind(self.kinds, b, Kind::Space) {/        if !digital \&\& is_kind(self.kinds, b, Kind::Space) {/

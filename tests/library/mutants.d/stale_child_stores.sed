@@ -1,2 +1,2 @@
 # crates/reader/src/lib.rt
-s/^    if x.stamp != a.stamp {/    if x.stamp < a.stamp {/
+/^fn is_stale/,/^}/s/stamp != a\.stamp/stamp < a.stamp/

@@ -1,2 +1,2 @@
 # crates/work_table/src/lib.rt
-s/^        admits: x.admits,/        admits: 0,/
+/^fn counted/,/^}/s/^        parents: count_of(x\.parents, more),/        parents: count_of(x.parents, more), admits: 0,/

@@ -1,2 +1,2 @@
 # crates/node_records/src/lib.rt
-s/^        return x.refuses != 0;/        return x.admits != 0;/
+/^pub fn some_yes/,/^}/s/^        x\.refuses != 0/        x.admits != 0/

@@ -1,2 +1,2 @@
 # crates/node_records/src/lib.rt
-/^pub fn some_yes/,/^}/s/^        return c;/        return false;/
+/^pub fn some_yes/,/^}/s/^        e\.complement$/        false/

@@ -1,2 +1,2 @@
 # crates/node_records/src/lib.rt
-s/^        refuses: bit(some_below(x, a, b, true)),/        refuses: bit(some_below(x, a, b, false)),/
+s/^        refuses: u32::from(some_below(x, a, b, true)),/        refuses: u32::from(some_below(x, a, b, false)),/

@@ -1,2 +1,2 @@
 # crates/node_records/src/lib.rt
-s/^        complement: differs(x.complement != 0, c),/        complement: c,/
+/^fn some_below/,/^}/s/second_child(x, c)/Edge { number: x.second, complement: c }/

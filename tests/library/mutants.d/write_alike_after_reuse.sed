@@ -1,2 +1,2 @@
 # crates/meeting/src/lib.rt
-/^fn alike_number/,/^}/s/^    if is_stale(t, a) {/    if is_stale(t, b) {/
+/^fn alike_number/,/^}/s/!is_stale(t, a)/!is_stale(t, b)/

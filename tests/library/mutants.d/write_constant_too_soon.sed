@@ -1,2 +1,2 @@
 # crates/writer/src/lib.rt
-/^fn same_bytes/,/^}/s/^    while j < c {/    while j + 1 < c {/
+/^fn same_bytes/,/^}/s/^    for j in 0\.\.c {/    for j in 0..c - 1 {/

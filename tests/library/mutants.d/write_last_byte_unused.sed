@@ -1,2 +1,2 @@
 # crates/pending_text/src/lib.rt
-/^pub fn send(/,/^}/s/^    let room = less(out.len(), at);/    let room = less(out.len(), at + 1);/
+/^pub fn send(/,/^}/s/^    let room = out\.len() - from;/    let room = (out.len() - from).saturating_sub(1);/

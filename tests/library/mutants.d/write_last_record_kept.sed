@@ -1,2 +1,2 @@
 # crates/record_tables/src/lib.rt
-/^pub fn clear_writer_records(/,/^}/s/^    while i < e {/    while i + 1 < e {/
+/^pub fn clear_all</,/^}/s/^    t\.fill(R::empty());/    { let e = t.len() - 1; t[..e].fill(R::empty()); }/

@@ -1,2 +1,2 @@
 # crates/writer_numbers/src/lib.rt
-/^pub fn is_free/,/^}/s/^    b != x$/    true/
+/^pub fn is_free/,/^}/s/a != x && b != x/a != x/

@@ -1,2 +1,2 @@
 # crates/record_tables/src/lib.rt
-/^pub fn clear_writer_records(/,/^}/s/^    while i < e {/    while i < node_records::TABLE_LIMIT {/
+/^pub fn clear_all</,/^}/s/^    t\.fill(R::empty());/    t[..node_records::TABLE_LIMIT].fill(R::empty());/

@@ -1,2 +1,2 @@
 # crates/writer/src/lib.rt
-/^fn walk/,/^}/s/numbered(h.number, h.stamp, h.skipped, s, false)/numbered(h.number, h.stamp, 0, s, false)/
+/^fn walk/,/^}/s/^            temporary: false,/            temporary: false, skipped: 0,/

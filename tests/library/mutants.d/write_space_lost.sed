@@ -1,2 +1,2 @@
 # crates/meeting/src/lib.rt
-/^fn is_spaced/,/^}/s/^    if a.skipped != 0 {/    if a.wrote {/
+/^fn is_spaced/,/^}/s/a\.skipped == 0/!a.wrote/

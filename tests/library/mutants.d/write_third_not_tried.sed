@@ -1,2 +1,2 @@
 # crates/unique_table/src/lib.rt
-/^fn free/,/^}/s/^    after_of(true, get_writer_record(t, y))/    0/
+/^fn free/,/^}/s/^    number(after_of::<true>(get_record(t, y)))/    None/

@@ -1,2 +1,2 @@
 # crates/writer/src/lib.rt
-/^fn walk/,/^}/s/^    let r = push_tilde(w, q, complement);/    let r = push_tilde(w, q, complement \&\& !h.wrote);/
+/^fn walk/,/^}/s/^    let waiting = push_tilde(to.waiting, q, tilde);/    let waiting = push_tilde(to.waiting, q, tilde \&\& !h.wrote);/

@@ -1,10 +1,7 @@
 -- Above k no number has a node.
-use Rattle.std.proofs.Common.{◌≡◌}
+use Rattle.std.proofs.Common.{◌≡◌, ◌≤◌, min}
 use Rattle.blocks.specs.Spine.{highest_in}
 use Rattle.blocks.proofs.highest.Given as goal
 
 abbrev pub invariant-loop-k : goal.invariant-loop-k
-invariant-loop-k l = highest_in l.t l.f l.k ≡ highest_in l.t l.f l.fn.z
-
-abbrev pub decreases-loop-k : goal.decreases-loop-k
-decreases-loop-k l = l.k
+invariant-loop-k l = (min l.fn.z l.f ≤ l.k) × (highest_in l.t l.f l.k ≡ highest_in l.t l.f l.fn.z)

@@ -1,5 +1,5 @@
 -- The block is made of what the loop reaches with the covered count as its stop (`next-called`).
-use Rattle.reader.specs.OpenCells.{cursor_in}
+use Rattle.reader.specs.OpenNodes.{cursor_in}
 use Rattle.blocks.specs.Blocks.{next-called}
 use Rattle.blocks.proofs.next_block.Goals as goal
 

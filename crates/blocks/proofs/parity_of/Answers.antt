@@ -1,30 +1,37 @@
 -- One open node more counts if the place is in its second child.
-use Rattle.std.proofs.Common.{◌≡◌, sym, ap, ◌∙◌, Bool, true, false, cond, not, ◌+◌, get_or, arith, eq-eqb, ne_eqb}
+use Rattle.std.proofs.Common.{◌≡◌, refl, sym, ap, ap₂, ◌∙◌, Bool, true, false, not, ℕ, ◌<◌, arith, add-one}
+use Rattle.std.proofs.lemmas.List.{get_or-take, length-take}
+use mathlib.Core.Bool.{beq}
 use Rattle.theory_lists.specs.Lists.{differ}
 use Rattle.theory_reading.specs.Covered.{parity}
 use Rattle.elements.specs.Abstraction.{inside_open, opens_of}
-use Rattle.elements.specs.declared.Open.{Open}
-use Rattle.reader.specs.OpenCells.{nodes_in, node_at}
-use Rattle.blocks.specs.Blocks.{parity-none, parity-more}
+use Rattle.elements.specs.OpenLaws.{deep-most}
+use Rattle.reader.specs.RunOn.{complement_in}
+use Rattle.reader.specs.OpenParity.{parity-none, parity-more}
 use Rattle.blocks.proofs.parity_of.Goals as goal
-use Rattle.blocks.proofs.parity_of.Goals.{then-a-ne0, else-a-ne0}
 
-pub loop-i-init : goal.loop-i-init
-loop-i-init c = (omega arith, (omega arith, parity-none (nodes_in c.args.o.now)))
+differs : (p q : Bool) → not (beq p q) ≡ differ q p
+differs true true = refl
+differs true false = refl
+differs false true = refl
+differs false false = refl
 
-pub loop-i-preserved : goal.loop-i-preserved
-loop-i-preserved c =
-    let l = c.loop-i in
-    let ns = nodes_in c.args.o.now in
-    let i = l.i in
-    let more : (b : Bool) → (get_or ns i inside_open).second ≡ b → cond b (differ (get_or ns i inside_open).complement l.p) l.p
-    ≡ parity (opens_of ns (i + 1))
-    = λ b e. rw l.invariant.1.1 (parity-more ns i b e) in
-    let here = node_at c.args.o.now i in
-    let now : c.if-a-ne0.p ≡ parity (opens_of ns (i + 1))
-    = elim c.if-a-ne0.branch [
-      | then-a-ne0 w ↦ w.p-is ∙ w.differs-p.ensures ∙ ap (λ (e : Open). differ e.complement l.p) here
-          ∙ more true (sym (ap (λ (e : Open). e.second) here) ∙ ap not (ne_eqb _ _ w.if-a-ne0.true))
-      | else-a-ne0 w ↦ w.p-is ∙ more false (sym (ap (λ (e : Open). e.second) here) ∙ ap not (eq-eqb _ _ w.if-a-ne0.false))
-    ] in
-    (omega (arith, c.loop-i-test.true), (omega (arith, l.invariant.1.0, c.if-i-eq-OPEN_LIMIT.false), now))
+pub loop-e-init : goal.loop-e-init
+loop-e-init c = sym (parity-none c.args.o.now)
+
+pub loop-e-preserved : goal.loop-e-preserved
+loop-e-preserved c =
+    let l = c.loop-e in
+    let o = c.args.o.now in
+    let m : l.e-index < c.deep_of.result = omega (arith, c.loop-e-test.true, length-take c.deep_of.result o) in
+    differs l.p c.complements-p.result
+    ∙ ap₂ differ (c.complements-p.ensures ∙ ap complement_in (get_or-take c.deep_of.result o l.e-index inside_open m)) l.invariant
+    ∙ sym (parity-more o l.e-index)
+    ∙ ap (λ (k : ℕ). parity (opens_of o k)) (sym (add-one l.e-index))
+
+pub returns : goal.returns
+returns c =
+    let o = c.args.o.now in
+    c.loop-e.invariant
+    ∙ ap (λ (k : ℕ). parity (opens_of o k))
+    (omega (arith, c.loop-e-test.false, c.loop-e.auto.e-index-end, length-take c.deep_of.result o, c.deep_of.ensures, deep-most c.args.d, c.told-o))

@@ -1,13 +1,8 @@
--- After i iterations p is the parity of the first i open nodes.
-use Rattle.std.proofs.Common.{◌-◌, ◌≡◌, ◌≤◌}
+-- p is the parity of the open nodes so far.
+use Rattle.std.proofs.Common.{◌≡◌}
 use Rattle.theory_reading.specs.Covered.{parity}
-use Rattle.theory_reading.specs.Limits.{open_limit}
 use Rattle.elements.specs.Abstraction.{opens_of}
-use Rattle.reader.specs.OpenCells.{nodes_in}
 use Rattle.blocks.proofs.parity_of.Given as goal
 
-abbrev pub invariant-loop-i : goal.invariant-loop-i
-invariant-loop-i l = (l.i ≤ l.d) × ((l.i ≤ open_limit) × (l.p ≡ parity (opens_of (nodes_in l.o) l.i)))
-
-abbrev pub decreases-loop-i : goal.decreases-loop-i
-decreases-loop-i l = l.d - l.i
+abbrev pub invariant-loop-e : goal.invariant-loop-e
+invariant-loop-e l = l.p ≡ parity (opens_of l.fn.o l.e-index)

@@ -26,4 +26,4 @@ returns c =
     (omega (arith, room)) c.first_cursor.ensures _ _ c.read_on-r.ensures in
     check-correct a.n a.s.now a.t.now _ _ _ _ (omega (arith, few)) (omega (arith, room))
     (all-reads a.n a.s.now _ _ (omega (arith, few)) reached) c.checked_at.ensures
-    (cleared-after _ _ _ _ _ reached a.t.now c.read_on-r.auto.t _ c.clear_records.ensures)
+    (cleared-after _ _ _ _ _ reached a.t.now c.read_on-r.auto.t _ c.clear_all.ensures)

@@ -23,9 +23,9 @@ returns-then-w-half t c =
     ∙ ap verdict_of (walk-low a.t.now a.z a.i a.e c.get-x.result c.if-e-eq0.false c.get-x.ensures a.m a.w c.if-m-eq0.false c.requires.0
     c.first_edge.result c.first_edge.ensures c.if-w-half.true)
 
-pub returns : goal.returns
-returns t c =
+pub returns-else-w-half : goal.returns-else-w-half
+returns-else-w-half t c =
     let a = c.args in
-    c.walk_down-2.ensures
+    c.walk_down-else-w-half.ensures
     ∙ ap verdict_of (walk-high a.t.now a.z a.i a.e c.get-x.result c.if-e-eq0.false c.get-x.ensures a.m a.w c.if-m-eq0.false c.requires.0
     c.second_edge.result c.second_edge.ensures (omega (arith, c.if-w-half.false)))

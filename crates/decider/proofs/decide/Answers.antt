@@ -31,16 +31,16 @@ returns-then-n-w c =
     decide-word a.n a.s.now a.t.now a.w _ (omega (arith, few)) (omega (arith, c.if-t-lt-TABLE_LIMIT.false))
     (omega (arith, c.if-n-w.true, shifted a.n (omega (arith, few)))) (ap C.refused c.early-then-n-w.ensures)
 
-pub returns-then-h : goal.returns-then-h
-returns-then-h c =
+pub returns-then-r : goal.returns-then-r
+returns-then-r c =
     let a = c.args in
     let few : a.n ≤ option_limit = omega (arith, c.if-n-gt-OPTION_LIMIT.false) in
     let n = a.n in let s = a.s.now in let t = a.t.now in let w = a.w in
     let reached = read-begun n s few w (word-most n w few (omega (arith, c.if-n-w.false, shifted n (omega (arith, few))))) c.first_cursor.result t
     (omega (arith, c.if-t-lt-TABLE_LIMIT.false)) c.first_cursor.ensures _ _ c.read_on-r.ensures in
     decide-correct n s t w _ _ _ _ not_yet few (omega (arith, c.if-t-lt-TABLE_LIMIT.false)) (omega (arith, c.if-n-w.false, shifted n (omega (arith, few))))
-    (halted-reads n s w _ _ reached c.if-h.true) (word-not n s t w _ _ reached c.if-h.true) c.decided_at.ensures
-    (cleared-after _ _ _ _ _ reached t c.read_on-r.auto.t _ c.clear_records.ensures)
+    (halted-reads n s w _ _ reached c.if-r.true) (word-not n s t w _ _ reached c.if-r.true) c.decided_at.ensures
+    (cleared-after _ _ _ _ _ reached t c.read_on-r.auto.t _ c.clear_all.ensures)
 
 pub word_at-v-requires : goal.word_at-v-requires
 word_at-v-requires c =
@@ -49,7 +49,7 @@ word_at-v-requires c =
     let reached = read-begun a.n a.s.now few a.w (word-most a.n a.w few
     (omega (arith, c.if-n-w.false, shifted a.n (omega (arith, few))))) c.first_cursor.result a.t.now (omega (arith, c.if-t-lt-TABLE_LIMIT.false))
     c.first_cursor.ensures _ _ c.read_on-r.ensures in
-    let b = passed-bounds a.n a.s.now a.w _ _ reached c.if-h.false in
+    let b = passed-bounds a.n a.s.now a.w _ _ reached c.if-r.false in
     (few, (b.0, b.1))
 
 pub returns : goal.returns
@@ -63,5 +63,5 @@ returns c =
     c.read_on-e.ensures in
     decide-correct n s t w _ _ _ _ (verdicts_of c.word_at-v.result) few (omega (arith, c.if-t-lt-TABLE_LIMIT.false))
     (omega (arith, c.if-n-w.false, shifted n (omega (arith, few))))
-    (all-reads n s _ _ few ended) (λ _. word-passed n s w _ _ reached c.if-h.false ∙ sym c.word_at-v.ensures) c.decided_at-2.ensures
-    (cleared-after _ _ _ _ _ ended t (c.read_on-e.auto.t ∙ c.read_on-r.auto.t) _ c.clear_records-2.ensures)
+    (all-reads n s _ _ few ended) (λ _. word-passed n s w _ _ reached c.if-r.false ∙ sym c.word_at-v.ensures) c.decided_at-2.ensures
+    (cleared-after _ _ _ _ _ ended t (c.read_on-e.auto.t ∙ c.read_on-r.auto.t) _ c.clear_all-2.ensures)

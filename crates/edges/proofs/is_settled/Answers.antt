@@ -8,10 +8,11 @@ use Rattle.edges.proofs.is_settled.Goals as goal
 pub returns-then-y-eq0 : goal.returns-then-y-eq0
 returns-then-y-eq0 c =
     let a = c.args in
-    λ t. (rw (eq-eqb a.y.number 0 c.if-y-eq0.true) refl) ∙ fixed-one (λ ds. operate a.op (a.a ∷ ds)) (edge_in a.y t)
+    λ t. (rw (eq-eqb a.y.edge.number 0 c.if-y-eq0.true) refl)
+    ∙ fixed-one (λ ds. operate a.op (a.a ∷ ds)) (edge_in a.y t)
 
-pub returns : goal.returns
-returns c =
+pub returns-else-y-eq0 : goal.returns-else-y-eq0
+returns-else-y-eq0 c =
     let a = c.args in
-    λ t. (rw (ne_eqb a.y.number 0 c.if-y-eq0.false, c.opens_second.ensures) refl)
+    λ t. (rw (ne_eqb a.y.edge.number 0 c.if-y-eq0.false, c.opens_second.ensures) refl)
     ∙ fixed-one (λ ds. operate a.op (a.a ∷ ds)) (edge_in a.y t)

@@ -1,13 +1,9 @@
 -- The second child of the node, in the same table.
-use Rattle.std.proofs.Common.{ap, ◌∙◌}
+use Rattle.std.proofs.Common.{refl}
 use Rattle.theory_combining.specs.EdgeCorrect.{second-child}
-use Rattle.edges.specs.Abstraction.{edge_in}
-use Rattle.edges.specs.declared.TableEdge.{TableEdge}
 use Rattle.edges.proofs.second_edge.Goals as goal
 
 pub returns : goal.returns
 returns c =
     let a = c.args in
-    λ t e. ap (λ (y : TableEdge). edge_in y t) c.beside.ensures
-    ∙ second-child t a.x.size a.i (record { number = a.x.number; complement = a.x.complement }) a.r e c.bare.result c.second_edge.result
-    c.bare.ensures c.second_edge.ensures
+    λ t e. second-child t a.x.size a.i a.x.edge a.r e a.x.edge c.second_edge.result refl c.second_edge.ensures

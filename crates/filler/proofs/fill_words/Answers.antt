@@ -1,7 +1,7 @@
 -- Each iteration reads until more words are covered, and fills those of the node that was passed (`words-iteration`); where reading halts all are filled.
 -- Assumes nothing.
 use Rattle.std.proofs.Common.{arith, ◌∙◌}
-use Rattle.reader.specs.OpenCells.{opens_in}
+use Rattle.reader.specs.OpenNodes.{opens_in}
 use Rattle.filler.specs.FillCorrect.{filled-begun, words-whole, words-fit, words-shallow, words-iteration, words-less}
 use Rattle.filler.proofs.fill_words.Goals as goal
 
@@ -19,13 +19,13 @@ loop-o-init c =
       ),
     )
 
-pub returns-then-h : goal.returns-then-h
-returns-then-h c =
+pub returns-then-x : goal.returns-then-x
+returns-then-x c =
     let l = c.loop-o in
     let a = c.args in
     let i = l.invariant in (
       words-whole a.n a.s.now l.c.run (opens_in l.o l.c.depth) l.t l.v i.1.1.1 (omega (arith, i.1.0)) _ _
-          c.read_on-x.ensures c.if-h.true i.1.1.0,
+          c.read_on-x.ensures c.if-x.true i.1.1.0,
       record { same = c.read_on-x.auto.t ∙ l.auto.t },
     )
 
@@ -36,7 +36,7 @@ overflow_cast-i c =
     omega (
       arith,
       words-shallow a.n a.s.now l.c.run (opens_in l.o l.c.depth) l.t l.v l.invariant.1.1.1 (omega (arith, l.invariant.1.0)) _ _
-          c.read_on-x.ensures c.if-h.false,
+          c.read_on-x.ensures c.if-x.false,
     )
 
 pub overflow_add-i : goal.overflow_add-i
@@ -46,7 +46,7 @@ overflow_add-i c =
     omega (
       arith,
       words-shallow a.n a.s.now l.c.run (opens_in l.o l.c.depth) l.t l.v l.invariant.1.1.1 (omega (arith, l.invariant.1.0)) _ _
-          c.read_on-x.ensures c.if-h.false,
+          c.read_on-x.ensures c.if-x.false,
     )
 
 pub fill_node-requires : goal.fill_node-requires
@@ -55,14 +55,14 @@ fill_node-requires c =
     let a = c.args in
     let i = l.invariant in
     words-fit a.n a.s.now l.c.run (opens_in l.o l.c.depth) l.t l.v i.1.1.1 (omega (arith, i.1.0)) _ _ c.read_on-x.ensures
-    c.if-h.false c.below.result i.1.0 c.below.ensures
+    c.if-x.false c.below.result i.1.0 c.below.ensures
 
 pub loop-o-smaller : goal.loop-o-smaller
 loop-o-smaller c =
     let l = c.loop-o in
     let a = c.args in
     words-less a.n a.s.now l.c.run (opens_in l.o l.c.depth) l.t l.v l.invariant.1.1.1 (omega (arith, l.invariant.1.0)) _ _
-    c.read_on-x.ensures c.if-h.false
+    c.read_on-x.ensures c.if-x.false
 
 pub loop-o-preserved : goal.loop-o-preserved
 loop-o-preserved c =
@@ -75,7 +75,7 @@ loop-o-preserved c =
         (
           i.1.1.0,
           words-iteration a.n a.s.now l.c.run (opens_in l.o l.c.depth) l.t l.v i.1.1.1 (omega (arith, i.1.0)) _ _
-              c.read_on-x.ensures c.if-h.false c.below.result c.edge_of.result _ i.0 c.below.ensures c.edge_of.ensures
+              c.read_on-x.ensures c.if-x.false c.below.result c.edge_of-e.result _ i.0 c.below.ensures c.edge_of-e.ensures
               c.fill_node.ensures,
         ),
       ),

@@ -3,7 +3,7 @@ use Rattle.std.proofs.Common.{◌≡◌, ◌-◌, ◌^◌, ◌≤◌}
 use Rattle.std.proofs.Math.Option.{none}
 use Rattle.theory_reading.specs.Limits.{truth_table_least, truth_table_most}
 use Rattle.theory_reading.specs.Reading.{reading}
-use Rattle.reader.specs.OpenCells.{opens_in}
+use Rattle.reader.specs.OpenNodes.{opens_in}
 use Rattle.filler.specs.FillCorrect.{FilledTo}
 use Rattle.filler.proofs.fill_words.Given as goal
 

@@ -1,33 +1,54 @@
--- Each test that finds too few or too many lines is a way through the definition; past them the lines end where LFs stand.
-use Rattle.std.proofs.Common.{◌+◌, arith}
+-- Too few and too many lines are ways through the definition; past them the lines end where LFs stand.
+use Rattle.std.proofs.Common.{◌≡◌, ◌+◌, length, arith, refl, sym, ap, ◌∙◌}
 use Rattle.theory_reading.specs.Bytes.{line_feed}
-use Rattle.job.specs.Abstraction.{lines_other}
-use Rattle.job.specs.Cuts.{cut-to}
+use Rattle.job.specs.Abstraction.{lines_job}
+use Rattle.job.specs.Cuts.{cut_at, cut-to, cut-from, place-or-end}
 use Rattle.job.specs.Lining.{one_line, two-lines, three-lines, four-lines, more-lines, five-lines}
 use Rattle.job.proofs.five_lines.Goals as goal
 
-pub returns-then-n-a-clause-result_value : goal.returns-then-n-a-clause-result_value
-returns-then-n-a-clause-result_value c = (lines_other c.args.s.now _ c.other.ensures
-    (one_line c.args.s.now c.cut-a.result c.cut-a.ensures c.if-n-a.true)).0
+pub returns-in_err-a : goal.returns-in_err-a
+returns-in_err-a c = ap lines_job c.from_residual.ensures ∙ sym (one_line c.args.s.now _ refl c.in_err-a.ensures)
 
-pub returns-then-n-b-clause-result_value : goal.returns-then-n-b-clause-result_value
-returns-then-n-b-clause-result_value c = (lines_other c.args.s.now _ c.other-then-n-b.ensures
-    (two-lines c.args.s.now c.cut-a.result c.cut-b.result (c.cut-a.ensures, c.if-n-a.false) c.cut-b.ensures c.if-n-b.true)).0
+pub returns-in_err-b : goal.returns-in_err-b
+returns-in_err-b c =
+    ap lines_job c.from_residual-in_err-b.ensures
+    ∙ sym (two-lines c.args.s.now _ _ c.in_ok-a.ensures refl c.in_err-b.ensures)
 
-pub returns-then-n-c-clause-result_value : goal.returns-then-n-c-clause-result_value
-returns-then-n-c-clause-result_value c = (lines_other c.args.s.now _ c.other-then-n-c.ensures
-    (three-lines c.args.s.now c.cut-a.result c.cut-b.result c.cut-c.result (c.cut-a.ensures, c.if-n-a.false) (c.cut-b.ensures, c.if-n-b.false) c.cut-c.ensures c.if-n-c.true)).0
+pub returns-in_err-c : goal.returns-in_err-c
+returns-in_err-c c =
+    ap lines_job c.from_residual-in_err-c.ensures
+    ∙ sym (three-lines c.args.s.now _ _ _ c.in_ok-a.ensures c.in_ok-b.ensures refl c.in_err-c.ensures)
 
-pub returns-then-n-d-clause-result_value : goal.returns-then-n-d-clause-result_value
-returns-then-n-d-clause-result_value c = (lines_other c.args.s.now _ c.other-then-n-d.ensures
-    (four-lines c.args.s.now c.cut-a.result c.cut-b.result c.cut-c.result (c.cut-a.ensures, c.if-n-a.false) (c.cut-b.ensures, c.if-n-b.false) (c.cut-c.ensures, c.if-n-c.false) c.cut-d.result c.cut-d.ensures c.if-n-d.true)).0
+pub returns-in_err-d : goal.returns-in_err-d
+returns-in_err-d c =
+    ap lines_job c.from_residual-in_err-d.ensures
+    ∙ sym (four-lines c.args.s.now _ _ _ c.in_ok-a.ensures c.in_ok-b.ensures c.in_ok-c.ensures _ refl c.in_err-d.ensures)
 
-pub overflow_add-e : goal.overflow_add-e
-overflow_add-e c = omega (arith, c.cut-e.ensures, c.if-n-d.false, cut-to line_feed c.args.s.now (c.cut-d.result + 1) (omega (arith, c.if-n-d.false)))
+pub returns-then-e-s : goal.returns-then-e-s
+returns-then-e-s c =
+    let e : c.unwrap_or-e.result ≡ cut_at line_feed c.args.s.now (c.in_ok-d.d + 1) =
+    c.unwrap_or-e.ensures ∙ place-or-end c.place_of-5.result (length c.args.s.now) _ c.place_of-5.ensures (cut-to line_feed c.args.s.now (c.in_ok-d.d + 1) (omega (arith, c.in_ok-d.ensures.1))) in
+    sym (more-lines c.args.s.now _ _ _ c.in_ok-a.ensures c.in_ok-b.ensures c.in_ok-c.ensures _ c.in_ok-d.ensures _ e c.if-e-s.true)
 
-pub returns-then-e-n-clause-result_value : goal.returns-then-e-n-clause-result_value
-returns-then-e-n-clause-result_value c = (lines_other c.args.s.now _ c.other-then-e-n.ensures
-    (more-lines c.args.s.now c.cut-a.result c.cut-b.result c.cut-c.result (c.cut-a.ensures, c.if-n-a.false) (c.cut-b.ensures, c.if-n-b.false) (c.cut-c.ensures, c.if-n-c.false) c.cut-d.result (c.cut-d.ensures, c.if-n-d.false) c.cut-e.result c.cut-e.ensures c.if-e-n.true)).0
+pub slice_bounds-result-count : goal.slice_bounds-result-count
+slice_bounds-result-count c =
+    omega (arith, cut-from line_feed c.args.s.now (c.in_ok-a.a + 1), cut-from line_feed c.args.s.now (c.in_ok-b.b + 1), c.in_ok-b.ensures.0, c.in_ok-c.ensures.0)
 
-pub returns-clause-result_value : goal.returns-clause-result_value
-returns-clause-result_value c = five-lines c.args.s.now c.cut-a.result c.cut-b.result c.cut-c.result (c.cut-a.ensures, c.if-n-a.false) (c.cut-b.ensures, c.if-n-b.false) (c.cut-c.ensures, c.if-n-c.false) c.cut-d.result (c.cut-d.ensures, c.if-n-d.false) c.cut-e.result c.cut-e.ensures c.if-e-n.false
+pub slice_bounds-result-start : goal.slice_bounds-result-start
+slice_bounds-result-start c =
+    omega (arith, cut-from line_feed c.args.s.now (c.in_ok-a.a + 1), cut-from line_feed c.args.s.now (c.in_ok-b.b + 1), c.in_ok-b.ensures.0, c.in_ok-c.ensures.0)
+
+pub slice_bounds-result-count-2 : goal.slice_bounds-result-count-2
+slice_bounds-result-count-2 c =
+    let e : c.unwrap_or-e.result ≡ cut_at line_feed c.args.s.now (c.in_ok-d.d + 1) =
+    c.unwrap_or-e.ensures ∙ place-or-end c.place_of-5.result (length c.args.s.now) _ c.place_of-5.ensures (cut-to line_feed c.args.s.now (c.in_ok-d.d + 1) (omega (arith, c.in_ok-d.ensures.1))) in
+    omega (arith, e, cut-from line_feed c.args.s.now (c.in_ok-c.c + 1), cut-from line_feed c.args.s.now (c.in_ok-d.d + 1), c.in_ok-d.ensures.0)
+
+pub slice_bounds-result-start-2 : goal.slice_bounds-result-start-2
+slice_bounds-result-start-2 c = slice_bounds-result-count-2 c
+
+pub returns : goal.returns
+returns c =
+    let e : c.unwrap_or-e.result ≡ cut_at line_feed c.args.s.now (c.in_ok-d.d + 1) =
+    c.unwrap_or-e.ensures ∙ place-or-end c.place_of-5.result (length c.args.s.now) _ c.place_of-5.ensures (cut-to line_feed c.args.s.now (c.in_ok-d.d + 1) (omega (arith, c.in_ok-d.ensures.1))) in
+    five-lines c.args.s.now _ _ _ c.in_ok-a.ensures c.in_ok-b.ensures c.in_ok-c.ensures _ c.in_ok-d.ensures _ e c.if-e-s.false

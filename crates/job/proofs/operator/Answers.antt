@@ -1,20 +1,20 @@
-use Rattle.std.proofs.Common.{◌∙◌, sym, ap, arith}
-use Rattle.std.proofs.Math.Option.{some}
-use Rattle.job.specs.declared.NamedOperator.{NamedOperator}
-use Rattle.job.specs.Fields.{operator-hit, operator-miss, operator-end}
+-- A row is met where its name is the field; past the rows there is none.
+use Rattle.std.proofs.Common.{◌∙◌, sym, arith}
+use Rattle.job.specs.Fields.{rows, row-hit, row-miss, operator-end}
 use Rattle.job.proofs.operator.Goals as goal
 
-pub returns-then-is_named : goal.returns-then-is_named
-returns-then-is_named c =
-    ap (λ (o : NamedOperator). some o.operator) c.entry-o.ensures
-    ∙ sym (c.loop-k.invariant.1 ∙ operator-hit c.args.l.now c.loop-k.k c.loop-k-test.true
-    (sym c.is_named.ensures ∙ c.if-is_named.true))
+pub returns-then-eq : goal.returns-then-eq
+returns-then-eq c =
+    row-hit c.operators-name-items.result.now c.operators-name-items.ensures c.loop-name.name-index _ _ c.args.l.now _ c.as_bytes.ensures.value c.eq.ensures c.loop-name-test.true c.if-eq.true
+    ∙ sym c.loop-name.invariant
 
-pub loop-k-preserved : goal.loop-k-preserved
-loop-k-preserved c = (
-  omega (arith, c.loop-k-test.true),
-  c.loop-k.invariant.1 ∙ operator-miss c.args.l.now c.loop-k.k c.loop-k-test.true (sym c.is_named.ensures ∙ c.if-is_named.false),
-)
+pub loop-name-preserved : goal.loop-name-preserved
+loop-name-preserved c =
+    c.loop-name.invariant
+    ∙ row-miss c.operators-name-items.result.now c.operators-name-items.ensures c.loop-name.name-index _ _ c.args.l.now _ c.as_bytes.ensures.value c.eq.ensures c.loop-name-test.true
+    c.if-eq.false
 
 pub returns : goal.returns
-returns c = sym (c.loop-k.invariant.1 ∙ operator-end c.args.l.now c.loop-k.k c.loop-k-test.false)
+returns c =
+    sym (c.loop-name.invariant ∙ operator-end c.args.l.now c.loop-name.name-index
+    (omega (arith, rows c.operators-name-items.result.now c.operators-name-items.ensures, c.loop-name-test.false)))

@@ -4,5 +4,5 @@ use Rattle.job_call.proofs.call.Goals as goal
 
 pub returns : goal.returns
 returns c =
-    own-answer c.args.n c.args.op c.args.size c.args.x.now c.args.y.now c.args.out.now _ _ _ c.no_record-t.ensures c.no_record-u.ensures
-    c.no_writer_record-v.ensures _ c.combine.ensures
+    own-answer c.args.n c.args.op c.args.size c.args.x.now c.args.y.now c.args.out.now _ _ _ c.empty-t.ensures c.empty-u.ensures
+    c.empty-v.ensures _ c.combine.ensures

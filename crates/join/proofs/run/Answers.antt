@@ -5,10 +5,12 @@ use Rattle.join.proofs.run.Goals as goal
 
 pub returns-clause-w_after : goal.returns-clause-w_after
 returns-clause-w_after c =
-    (own-printed c.args.n c.args.op c.args.size c.args.x.now c.args.y.now _ _ _ c.call-a.ensures refl c.args.w.now c.requires
+    let j = c.args.j in
+    (own-printed j.n j.op j.size j.first.now j.second.now _ _ _ c.call-a.ensures refl c.args.w.now c.requires
     c.print.ensures.result_after c.print.ensures.out_in_bounds).0
 
 pub returns-clause-upper_bound : goal.returns-clause-upper_bound
 returns-clause-upper_bound c =
-    (own-printed c.args.n c.args.op c.args.size c.args.x.now c.args.y.now _ _ _ c.call-a.ensures refl c.args.w.now c.requires
+    let j = c.args.j in
+    (own-printed j.n j.op j.size j.first.now j.second.now _ _ _ c.call-a.ensures refl c.args.w.now c.requires
     c.print.ensures.result_after c.print.ensures.out_in_bounds).1

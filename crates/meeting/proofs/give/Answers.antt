@@ -1,21 +1,19 @@
--- Without a number the node is temporary; with one it is stored, and goes out with it.
-use Rattle.std.proofs.Common.{ap, ◌∙◌}
+-- The node is stored, and goes out with its number.
+use Rattle.std.proofs.Common.{◌≡◌, ap, cond, nat_lt, arith, ◌∙◌}
+use Rattle.std.proofs.lemmas.Grind.{common_steps}
 use Rattle.theory_engine.specs.Recycling.{store_in}
-use Rattle.theory_engine.specs.EngineCorrect.{give-none, give-number}
+use Rattle.theory_engine.specs.EngineCorrect.{give-number}
+use Rattle.node_records.specs.declared.Node.{Node}
 use Rattle.meeting.specs.Abstraction.{half_of, progress_of}
 use Rattle.meeting.proofs.give.Goals as goal
 
-pub returns-then-k-eq0 : goal.returns-then-k-eq0
-returns-then-k-eq0 c =
-    let a = c.args in
-    c.write_temporary.ensures
-    ∙ give-none a.k a.i a.m a.v (half_of a.a) (half_of a.b) a.t.now a.out.now a.w.now (progress_of a.progress) c.if-k-eq0.true
-
-pub returns : goal.returns
-returns c =
+pub returns-clause-walked : goal.returns-clause-walked
+returns-clause-walked c =
     let a = c.args in
     let p = a.progress in
-    let placed = c.store-e.ensures ∙ ap (store_in a.t.now p.given p.first p.last a.k a.i a.a.number a.b.number) c.either.ensures in
+    let g = a.g in
+    let placed = c.store-e.ensures ∙ ap (λ (n : Node). store_in a.to.now.table.now p.given p.first p.last a.k n.level n.first n.second n.complement) c.node.ensures in
+    let most : c.max.result ≡ cond (nat_lt p.given a.k) a.k p.given = grind (arith, common_steps) in
     rw (c.sent_as.ensures, c.numbered-h.ensures)
-    (give-number a.k a.i a.m a.v (half_of a.a) (half_of a.b) a.t.now a.out.now a.w.now (progress_of p)
-    _ c.stamp_of-g.result _ _ c.if-k-eq0.false placed c.stamp_of-g.ensures c.either-2.ensures c.send_node-x.ensures)
+    (give-number a.k a.i g.waiting g.tilde (half_of g.first) (half_of a.b) a.to.now.table.now a.to.now.out.now a.to.now.waiting.now (progress_of p)
+    _ c.stamp_of.result _ _ c.requires placed c.stamp_of.ensures most c.send_node-x.ensures)

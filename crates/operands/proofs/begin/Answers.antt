@@ -3,8 +3,8 @@ use Rattle.std.proofs.Common.{◌∙◌}
 use Rattle.operands.specs.OperandCorrect.{begun-code}
 use Rattle.operands.proofs.begin.Goals as goal
 
-pub returns : goal.returns
-returns c =
-    let a = c.args in
-    c.settle.ensures a.n _ a.s.now _
-    ∙ begun-code a.n a.s.now a.o.now a.t.now c.first_cursor.result _ c.first_cursor.ensures c.next_block-b.ensures
+pub returns-clause-begun : goal.returns-clause-begun
+returns-clause-begun c =
+    let s = c.args.s.now in
+    c.settle-edge.ensures c.args.n _ s.bytes.now _
+    ∙ begun-code c.args.n s.bytes.now s.opens.now s.table.now c.first_cursor.result _ c.first_cursor.ensures c.next_block-block.ensures

@@ -5,5 +5,5 @@ use Rattle.pending_text.proofs.close.Goals as goal
 pub returns : goal.returns
 returns c =
     let a = c.args in
-    close-correct a.w.now a.m a.space a.wrote a.j a.k a.number c.push_space-x.ensures c.wait-y.ensures c.push-z.ensures
+    close-correct a.w.now a.m a.space a.wrote a.j a.k a.number c.push_if-x.ensures c.wait-y.ensures c.push-z.ensures
     c.push_storing.ensures

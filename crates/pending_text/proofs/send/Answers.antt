@@ -1,17 +1,14 @@
--- The loop ends where the text does, or the output: each byte that is read has gone out.
-use Rattle.std.proofs.Common.{◌<◌, length, arith}
-use Rattle.theory_engine.specs.PendingCorrect.{send-none, send-more, send-done}
+-- One copy: as many bytes as wait, or as the output has room for.
+use Rattle.std.proofs.Common.{◌+◌, ◌-◌, length, arith}
+use Rattle.theory_engine.specs.PendingCorrect.{send-done}
+use Rattle.pending_text.proofs.Sending.{copied}
 use Rattle.pending_text.proofs.send.Goals as goal
-
-pub loop-j-init : goal.loop-j-init
-loop-j-init c = (omega arith, send-none c.args.out.now c.args.w.now c.args.at)
-
-pub loop-j-preserved : goal.loop-j-preserved
-loop-j-preserved c =
-    let h : c.loop-j.j < length c.args.w.now = omega (arith, c.loop-j-test.true, c.least-c.ensures, c.least-e.ensures) in
-    (omega (arith, c.loop-j-test.true), send-more c.args.out.now c.args.w.now c.args.at c.loop-j.j h c.loop-j.invariant.1)
 
 pub returns : goal.returns
 returns c =
-    send-done c.args.out.now c.args.w.now c.args.at c.args.m c.loop-j.j c.least-c.ensures c.less-room.ensures c.least-e.ensures
-    c.loop-j.invariant.0 c.loop-j-test.false c.loop-j.invariant.1
+    let a = c.args in
+    let f = c.min-from.ensures in
+    let s = copied a.out.now a.w.now a.at {k = c.min-from.result + c.min-e.result - c.min-from.result} f (omega (arith, c.min-e.ensures)) (omega (arith, c.min-e.ensures, c.min-c.ensures))
+    (omega arith) c.copy_from_slice.ensures.after in
+    send-done a.out.now a.w.now a.at a.m {room = length a.out.now - c.min-from.result} {e = c.min-e.result} c.min-e.result c.min-c.ensures
+    (omega (arith, f)) c.min-e.ensures (omega arith) (omega arith) s

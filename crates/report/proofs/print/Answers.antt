@@ -1,16 +1,21 @@
 -- The output as far as it was written, and then the last line, are the report.
-use Rattle.std.proofs.Common.{arith, length-take}
-use Rattle.meeting.specs.Abstraction.{writing_of}
-use Rattle.report.specs.Printing.{report-correct, report-length}
+use Rattle.answers.specs.Answers.{refusal_of}
+use Rattle.meeting.specs.Abstraction.{written_of}
+use Rattle.report.specs.Printing.{report-words, words-room, report-refused, refused-room}
+use Rattle.std.proofs.Common.{◌∙◌}
 use Rattle.report.proofs.print.Goals as goal
 
-pub returns-clause-result_after : goal.returns-clause-result_after
-returns-clause-result_after c =
-    report-correct c.args.n (writing_of c.args.a) c.args.out.now c.args.w.now c.output_part-k.ensures c.last_line-l.ensures.0
-    c.put-m.ensures c.put.ensures
+pub returns-in-Ok-clause-result_after : goal.returns-in-Ok-clause-result_after
+returns-in-Ok-clause-result_after c =
+    rw c.in-Ok.is
+    (report-words c.args.n (written_of c.in-Ok.x) c.args.out.now c.args.w.now (rw c.min.ensures at c.put-m.ensures) c.put_words.ensures.put)
 
-pub returns-clause-out_in_bounds : goal.returns-clause-out_in_bounds
-returns-clause-out_in_bounds c =
-    let l = c.last_line-l in
-    report-length c.args.n (writing_of c.args.a) c.args.out.now c.args.w.now c.output_part-k.ensures l.ensures.0
-    (omega (arith, length-take l.result.count l.result.bytes, l.ensures.1))
+pub returns-in-Ok-clause-out_in_bounds : goal.returns-in-Ok-clause-out_in_bounds
+returns-in-Ok-clause-out_in_bounds c = rw c.in-Ok.is (words-room c.args.n (written_of c.in-Ok.x) c.args.out.now c.put_words.ensures.room)
+
+pub returns-in-Err-clause-result_after : goal.returns-in-Err-clause-result_after
+returns-in-Err-clause-result_after c =
+    rw c.in-Err.is (c.put_refused.ensures.put ∙ report-refused c.args.n (refusal_of c.in-Err.f) c.args.out.now c.args.w.now)
+
+pub returns-in-Err-clause-out_in_bounds : goal.returns-in-Err-clause-out_in_bounds
+returns-in-Err-clause-out_in_bounds c = rw c.in-Err.is (refused-room c.args.n (refusal_of c.in-Err.f) c.args.out.now c.put_refused.ensures.room)

@@ -1,10 +1,7 @@
--- After j iterations the first j bytes of the text are there.
-use Rattle.std.proofs.Common.{◌≡◌, ◌-◌, ◌≤◌, length, take}
+-- So far the first bytes of the text are there.
+use Rattle.std.proofs.Common.{◌≡◌, take}
 use Rattle.theory_engine.specs.Pending.{waiting, push_all}
 use Rattle.report.proofs.put.Given as goal
 
-abbrev pub invariant-loop-j : goal.invariant-loop-j
-invariant-loop-j l = (l.j ≤ length l.s) × (waiting l.w l.x ≡ push_all l.fn.w l.m (take l.j l.s))
-
-abbrev pub decreases-loop-j : goal.decreases-loop-j
-decreases-loop-j l = length l.s - l.j
+abbrev pub invariant-loop-b : goal.invariant-loop-b
+invariant-loop-b l = waiting l.w l.x ≡ push_all l.fn.w l.m (take l.b-index l.s)

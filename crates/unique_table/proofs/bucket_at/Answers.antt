@@ -7,8 +7,9 @@ use Rattle.unique_table.proofs.bucket_at.Goals as goal
 pub returns : goal.returns
 returns c =
     let a = c.args in
-    let e = c.get_writer_record-x.ensures in rw (
+    let e = c.get_record.ensures in rw (
       c.bucket.ensures,
+      c.node_of.ensures,
       got-field a.t.now level_field a.k e refl,
       got-field a.t.now first_field a.k e refl,
       got-field a.t.now second_field a.k e refl,

@@ -9,6 +9,6 @@ pub returns : goal.returns
 unfolding find_in
 returns c = rw (
   c.search_from.ensures,
-  got-field c.args.t.now head_field c.bucket.result c.get_writer_record-x.ensures refl,
+  got-field c.args.t.now head_field c.bucket.result c.get_record.ensures refl,
   c.bucket.ensures,
 ) refl

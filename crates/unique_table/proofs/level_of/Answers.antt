@@ -5,4 +5,4 @@ use Rattle.writer_records.specs.Fields.{level_field}
 use Rattle.unique_table.proofs.level_of.Goals as goal
 
 pub returns : goal.returns
-returns c = got-field c.args.t.now level_field c.args.k c.get_writer_record-x.ensures refl
+returns c = got-field c.args.t.now level_field c.args.k c.get_record.ensures refl

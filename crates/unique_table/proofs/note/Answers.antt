@@ -5,4 +5,4 @@ use Rattle.unique_table.proofs.note.Goals as goal
 pub returns : goal.returns
 returns c =
     let a = c.args in
-    put-node a.t.now a.k a.i a.a a.b a.c c.get_writer_record.ensures c.with_node.ensures c.put_writer_record.ensures
+    put-node a.t.now a.k a.n.level a.n.first a.n.second a.n.complement c.get_record.ensures c.with_node.ensures c.put_record.ensures

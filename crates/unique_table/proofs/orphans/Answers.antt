@@ -13,8 +13,8 @@ returns-then-x-y c =
     (c.fewer_parents-2.ensures ∙ ap (λ (u : List WriterRecord). fewer_in u a.y) c.fewer_parents.ensures) in
     orphans-same a.t.now a.e.first a.e.last a.x a.y _ o c.if-x-y.true
 
-pub returns : goal.returns
-returns c =
+pub returns-else-x-y : goal.returns-else-x-y
+returns-else-x-y c =
     let a = c.args in
     let o = c.orphan-f.ensures
     ∙ ap (λ (u : List WriterRecord). orphan_in u a.e.first a.e.last a.x)

@@ -11,10 +11,10 @@ returns c =
     let a = c.args in
     let u = c.bucket_remove.new.t in rw (
       c.orphans.ensures,
-      got-field u first_field a.k c.get_writer_record-x.ensures refl,
-      got-field u second_field a.k c.get_writer_record-x.ensures refl,
+      got-field u first_field a.k c.get_record-x.ensures refl,
+      got-field u second_field a.k c.get_record-x.ensures refl,
       c.bucket_remove.ensures,
-      ap (λ (x : Lane). x.table) c.queue_unlink-f.ensures,
-      ap (λ (x : Lane). x.first) c.queue_unlink-f.ensures,
-      ap (λ (x : Lane). x.last) c.queue_unlink-f.ensures,
+      ap (λ (x : Lane). x.table) c.unlink-f.ensures,
+      ap (λ (x : Lane). x.first) c.unlink-f.ensures,
+      ap (λ (x : Lane). x.last) c.unlink-f.ensures,
     ) refl

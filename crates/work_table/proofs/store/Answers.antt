@@ -8,6 +8,6 @@ use Rattle.work_table.proofs.store.Goals as goal
 pub returns : goal.returns
 returns c =
     let a = c.args in
-    store-correct a.t.now _ _ _ _ _ a.z a.k a.x c.get-old.result c.with_words-y.result c.get-old.ensures
-    (c.with_words-y.ensures ∙ ap₂ (with_words a.x) c.get.ensures c.get-2.ensures)
+    store-correct a.t.now _ _ _ _ _ a.z a.k a.x c.get-old.result c.with_words.result c.get-old.ensures
+    (c.with_words.ensures ∙ ap₂ (with_words a.x) c.get.ensures c.get-2.ensures)
     c.put_record.ensures c.count.ensures c.count-2.ensures c.count-3.ensures c.count-4.ensures

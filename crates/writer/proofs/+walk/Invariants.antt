@@ -2,4 +2,4 @@
 use Rattle.writer.proofs.+walk.Given as goal
 
 abbrev pub decreases-walk : goal.decreases-walk
-decreases-walk l = l.d
+decreases-walk l = l.part.options

@@ -1,10 +1,6 @@
 -- The first j pairs of bytes are alike, so the others tell.
-use Rattle.std.proofs.Common.{◌≤◌, ◌-◌}
 use Rattle.theory_engine.specs.PendingCorrect.{AlikeFrom}
 use Rattle.writer.proofs.alike_bytes.Given as goal
 
 abbrev pub invariant-loop-j : goal.invariant-loop-j
-invariant-loop-j l = (l.j ≤ l.c) × AlikeFrom l.v l.u l.p l.q l.c l.j
-
-abbrev pub decreases-loop-j : goal.decreases-loop-j
-decreases-loop-j l = l.c - l.j
+invariant-loop-j l = AlikeFrom l.v l.u l.p l.q l.c l.j

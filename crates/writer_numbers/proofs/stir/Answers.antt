@@ -5,4 +5,4 @@ use Rattle.writer_numbers.proofs.stir.Goals as goal
 
 pub returns : goal.returns
 unfolding stir
-returns c = refl
+returns c = rw c.from.ensures refl

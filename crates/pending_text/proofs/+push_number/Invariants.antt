@@ -1,5 +1,0 @@
--- The tenth is smaller.
-use Rattle.pending_text.proofs.+push_number.Given as goal
-
-abbrev pub decreases-push_number : goal.decreases-push_number
-decreases-push_number l = l.k

@@ -1,4 +1,0 @@
-use Rattle.report.proofs.+push_number.Given as goal
-
-abbrev pub decreases-push_number : goal.decreases-push_number
-decreases-push_number l = l.k
