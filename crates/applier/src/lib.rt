@@ -34,6 +34,8 @@ pub struct Task {
 // ---- The walk
 
 // The part of level i with d options left, m bytes waiting before it; x and y: the inputs there, in the tables t1 and t2.
+// (Many parameters: the two inputs, each with what it needs, and the operation cache beside the sink, since of a struct of `&mut` in a struct the proof of `run` in
+// `combiner` has no link from the inner reference to the lender.)
 fn walk(
     k: Task,
     d: u32,
@@ -112,7 +114,7 @@ fn walk(
     both
 }
 
-// COMBINING STORED NODES: a part as a rule within the option limit has it; past that nothing is walked.
+// COMBINING STORED NODES: a part as a rule within the option limit has it; past that nothing is walked. (The parameters of `walk`.)
 pub fn apply(
     k: Task,
     d: u32,

@@ -115,7 +115,7 @@ pub fn next_block(
 // these, a record for each open node makes it complete: what was not read counts as the terminal. A two-child node that ended last has no number yet, and
 // counts as open, with its second child read.
 
-// The number of a is the terminal or was not given out again. z: how many numbers there are
+// The number of a is the terminal or was not given out again. z: how many numbers there are. (The reader's `is_stale` says the opposite, for the rule on storing.)
 fn stays(t: &[NodeRecord], z: u32, a: Ref) -> bool
     ensures { result ≡ stays_in t.now z a }
 {

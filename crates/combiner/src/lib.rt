@@ -73,7 +73,7 @@ fn enter(n: u32, s: &mut Stream<'_>, l: Loaded, v: bool) -> Input
     }
 }
 
-// The run, with memory of its own for open nodes, for bytes that wait and for the operation cache
+// The run, with memory of its own for open nodes, for bytes that wait and for the operation cache. (Each slice by itself, as `combine` is lent it for C.)
 fn run(
     k: Task,
     x: &[u8],
@@ -112,7 +112,7 @@ fn run(
     stream(k, f, g, &mut a, &mut b, &mut to, &mut m)
 }
 
-// COMBINING two streams by an operator: causes 1 to 4, then those of stream 1, then those of stream 2.
+// COMBINING two streams by an operator: causes 1 to 4, then those of stream 1, then those of stream 2. (Nine parameters: the call of include/rule.h.)
 pub fn combine(
     n: u32,
     op: u32,

@@ -57,7 +57,7 @@ pub fn rule_write(
     RuleWritten::from(writer::write(n, size, truths, output, table))
 }
 
-// COMBINING two streams by an operator
+// COMBINING two streams by an operator (nine parameters: the call of include/rule.h)
 pub fn rule_combine(
     n: u32,
     op: u32,

@@ -22,7 +22,7 @@ pub extern "C" fn rule_write(
     desk::rule_write(n, size, truths, output, table)
 }
 
-// COMBINING two streams by an operator
+// COMBINING two streams by an operator (kept beside `desk`, with nine parameters: the call of include/rule.h)
 #[unsafe(no_mangle)]
 pub extern "C" fn rule_combine(
     n: u32,

@@ -145,7 +145,8 @@ fn odd_of(r: Reached, o: &[Open; OPEN_LIMIT]) -> bool
     edge_of(r, o).complement != r.run.complement
 }
 
-// Reads on to a word from w on that is v, yes or no: to w, and past the words that are not. o: the open nodes, as reading leaves them
+// Reads on to a word from w on that is v, yes or no: to w, and past the words that are not. o: the open nodes, as reading leaves them. (v is a decision, here and
+// below, and no switch.)
 fn seek(
     n: u32,
     s: &[u8],

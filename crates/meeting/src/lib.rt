@@ -137,7 +137,8 @@ fn is_spaced(g: Gap, b: Half) -> bool
     !g.tilde && !a.temporary && a.skipped == 0 && !b.wrote && b.skipped == 0
 }
 
-// The two-child node of the halves goes out with its number k, 0 for none; `at` bytes are written.
+// The two-child node of the halves goes out with its number k, 0 for none as `close_in` has it; `at` bytes are written. (Output and waiting bytes and no sink:
+// it does not touch the table, and with the sink it would owe a clause that this stays; likewise `done`.)
 fn send_node(g: Gap, b: Half, k: u32, out: &mut [u8], w: &mut [u8], at: usize) -> Sent
     ensures { record { written = result.written; full = result.full; output = out.new; waits = w.new }
         ≡ send_node g.waiting g.tilde (half_of g.first) (half_of b) k out.old w.old at }

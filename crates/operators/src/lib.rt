@@ -24,7 +24,7 @@ fn result(a: bool, b: bool, r00: bool, r01: bool, r10: bool, r11: bool) -> bool
 }
 
 // What the operator gives for two decisions; of a number above 15 the last four binary digits count
-// (kept: the operator is a number, as include/rule.h and the theory's `operate` have it)
+// (kept: the operator is a number, as include/rule.h and the theory's `operate` have it; the cases are the sixteen truth tables, one a line)
 pub fn operate(op: u32, a: bool, b: bool) -> bool
     ensures { result ≡ operate op (a ∷ b ∷ []) }
 {

@@ -319,7 +319,8 @@ fn iterate(
 // ---- The loop
 
 // What the loop has reached: what reading has come to, and how many nodes are open; the covered count and the open nodes before the last element;
-// whether it halted, and the fault if there is one. (Both: reading may halt with no fault, and `ReadReached` of the clauses has both.)
+// whether it halted, and the fault if there is one. (Both: reading may halt with no fault, and `ReadReached` of the clauses has
+// both. Run and depth apart, and no Cursor: `r.run.size` is what is read of it nearly everywhere.)
 #[derive(Clone, Copy)]
 pub struct Reached {
     pub run: Run,

@@ -1,5 +1,5 @@
 -- One step of a place by little: the byte's place, what stands before it, the innermost open node and how many are open. What it comes to says how
--- the open nodes change, so that code changes one entry and copies none. It is defined for any table k of kinds; code has `kind_table`.
+-- the open nodes change, so that code changes one entry and copies none. It is defined for any table k of kinds, since code has one lent.
 -- `step-scan`: with the table of kinds it is document 01's step. Numbers are capped, since code holds them in 32 bits. Assumes nothing.
 use Rattle.std.specs.Prelude.{◌≡◌, refl, Bool, true, false, cond, ◌&&◌, List, [], ◌∷◌, ℕ, ◌+◌, ltb, eqb, length}
 use Rattle.std.proofs.Common.{sym, ap, subst}

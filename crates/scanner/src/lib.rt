@@ -259,7 +259,8 @@ impl<'a> Spot<'a> {
         self.scan_number(self.at, second)
     }
 
-    // After the space that belongs to a second child.
+    // After the space that belongs to a second child. (It and scan_colon stay two: what they share is the look at one byte, which a function of its own would answer
+    // by a Result that both match on.)
     fn scan_space(self) -> ScannedToken
         requires { self.at < length self.stream.now }
         ensures { let p = self.entry in scanned_view result ≡ plain p.depth

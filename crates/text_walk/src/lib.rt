@@ -63,6 +63,7 @@ fn cross(op: u32, m: usize, f: Input, g: Input, h: Half, w: &mut [u8]) -> Gap
 }
 
 // The part of level i whose words begin with `at`, m bytes waiting before it; f and g: the inputs there, of the streams x and y
+// (Many parameters: the two inputs with their streams, and the operation cache beside the sink, as in `applier`; likewise below.)
 fn texts(
     k: Task,
     d: u32,
