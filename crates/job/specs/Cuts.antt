@@ -13,6 +13,7 @@ use borrow.Author.Tests.{eq-eqb, ne_eqb, eqb-true}
 use Rattle.theory_reading.specs.Bytes.{line_feed}
 use Rattle.theory_writing.specs.Join.{onto, pieces}
 use Rattle.job.specs.Between.{between}
+use Rattle.job.specs.declared.LineEnds.{LineEnds}
 
 -- how many bytes stand before the first c
 unfoldable pub cut_in : ℕ → List ℕ → ℕ
@@ -36,6 +37,10 @@ third_end s = next_end s (next_end s (first_end s))
 
 abbrev pub fifth_end : List ℕ → ℕ
 fifth_end s = next_end s (next_end s (third_end s))
+
+-- the three as code has them
+abbrev pub ends_in : List ℕ → LineEnds
+ends_in s = record { first = first_end s; third = third_end s; fifth = fifth_end s }
 
 -- ---- Looking for the byte --------------------------------------------------------------------
 

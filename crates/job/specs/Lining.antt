@@ -6,7 +6,7 @@ use Rattle.theory_lists.specs.Lists.{decide-le}
 use Rattle.theory_reading.specs.Bytes.{blank, line_feed}
 use Rattle.theory_writing.specs.Join.{pieces, first_line, job_of, five_lines}
 use Rattle.job.specs.Between.{between, between-end, between_join}
-use Rattle.job.specs.Cuts.{cut_at, first_end, third_end, fifth_end, cut-from, cut-to, cut-at, pieces-some, pieces_none, pieces-full, piece-more}
+use Rattle.job.specs.Cuts.{cut_at, first_end, third_end, fifth_end, ends_in, cut-from, cut-to, cut-at, pieces-some, pieces_none, pieces-full, piece-more}
 use Rattle.job.specs.Cuts.{piece-last}
 
 -- ---- Lines -----------------------------------------------------------------------------------
@@ -111,6 +111,14 @@ module _ (s : List ℕ) where
       lines-placed e u =
           let f : c ≡ third_end s = r.0 ∙ ap (λ (k : ℕ). end (k + 1)) (q.0 ∙ ap (λ (k : ℕ). end (k + 1)) p.0) in
           (p.0, f, u ∙ ap (λ (k : ℕ). end (k + 1)) (t.0 ∙ ap (λ (k : ℕ). end (k + 1)) f))
+
+      pub lines-ends : (e : ℕ) → e ≡ end (d + 1) → record { first = a; third = c; fifth = e } ≡ ends_in s
+      lines-ends e u =
+          let o = lines-placed e u in
+          let x = o.0 in
+          let y = o.1 in
+          let z = o.2 in
+          rw (x, y, z) refl
 
       pub lines-ordered : (e : ℕ) → e ≡ end (d + 1) → (a < c) × (c < e) × (e ≤ length s)
       lines-ordered e u =

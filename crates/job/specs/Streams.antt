@@ -10,7 +10,7 @@ use Rattle.theory_writing.specs.Join as J
 use Rattle.job.specs.Between.{between}
 use Rattle.job.specs.Cuts.{cut_at, first_end, third_end, fifth_end}
 use Rattle.job.specs.Lining.{one_line, two-lines, three-lines, four-lines, more-lines, five-lines, lines-ordered}
-use Rattle.job.specs.Parsing.{job_unless, job_in, parsed_as}
+use Rattle.job.specs.Parsing.{PlacedJob, job_unless, job_in, placed_job, placed, parsed, parsed_as}
 use Rattle.job.specs.declared.Job.{Job}
 
 -- ---- The streams are those that the first line is read for -----------------------------------
@@ -135,3 +135,49 @@ module _ (s : List ℕ) where
             let y = o.second in
             rw (x, y) (ap J.answered e ∙ join-answered s);
       }
+
+-- the same of a job by the places of its lines
+pub record OperatesAt (s : List ℕ) (t : PlacedJob) : Type 0 where
+  pub first-third : t.first < t.third
+  pub third-fifth : t.third < t.fifth
+  pub fifth-end : t.fifth ≤ length s
+  pub output :
+      J.answered (some (record {
+        n = t.n;
+        op = t.op;
+        size = t.size;
+        stream₁ = between s (t.first + 1) t.third;
+        stream₂ = between s (t.third + 1) t.fifth;
+      }))
+      ≡ J.join s
+
+module _ (s : List ℕ) where
+  joins-placed : (j : J.Job) → job_in s ≡ some j → Streams s j → OperatesAt s (placed_job s j)
+  joins-placed j p o =
+      record {
+        first-third = o.first-third;
+        third-fifth = o.third-fifth;
+        fifth-end = o.fifth-end;
+        output =
+            let x = o.first in
+            let y = o.second in
+            rw (x, y) (ap J.answered (sym p) ∙ join-answered s);
+      }
+
+  pub join-bad-placed : none ≡ parsed s → J.bad_job ≡ J.join s
+  unfolding parsed J.answered
+  join-bad-placed e = go (job_in s) refl e
+    where
+      go : (o : Option J.Job) → job_in s ≡ o → none ≡ placed s o → J.bad_job ≡ J.join s
+      go none p q = sym (ap J.answered p) ∙ join-answered s
+      go (some j) p q = let z : ◌≡◌ {A = ℕ} 0 1 = cc in absurd (omega arith)
+
+  pub join-good-placed : (t : PlacedJob) → some t ≡ parsed s → OperatesAt s t
+  unfolding parsed
+  join-good-placed t e = go (job_in s) refl e
+    where
+      go : (o : Option J.Job) → job_in s ≡ o → some t ≡ placed s o → OperatesAt s t
+      go none p q = let z : ◌≡◌ {A = ℕ} 0 1 = cc in absurd (omega arith)
+      go (some j) p q =
+          let d : t ≡ placed_job s j = cc in
+          rw d (joins-placed j p (streams-in s j p))

@@ -1,14 +1,14 @@
 // The job of the program `join`, read from its text.
 #![tactic(auto)]
 
-ghost use Rattle.std.specs.Prelude.{◌≡◌, [], ◌∷◌, length, map, ◌<◌, ◌≤◌, MatchOption};
+ghost use Rattle.std.specs.Prelude.{◌≡◌, [], ◌∷◌, length, map, ◌<◌, ◌≤◌, IfSome, MatchOption};
 ghost use Rattle.std.proofs.Math.Option.{some};
 ghost use Rattle.theory_reading.specs.Bytes.{is_digit, line_feed, blank};
 ghost use Rattle.theory_writing.specs.Join as J;
 ghost use Rattle.theory_writing.specs.Join.{pieces, operator_names, operator_of, number_of, five_lines};
 ghost use Rattle.job.specs.Abstraction.{field_of, Heads, lines_job, row_of, named_row};
-ghost use Rattle.job.specs.Cuts.{cut_at};
-ghost use Rattle.job.specs.Parsing.{parsed_as, job_in};
+ghost use Rattle.job.specs.Cuts.{cut_at, ends_in};
+ghost use Rattle.job.specs.Parsing.{parsed_as, placed_as, parsed, job_in};
 ghost use Rattle.job.specs.Streams.{Streams};
 
 // ---- Lines and fields
@@ -25,16 +25,26 @@ fn place_of(c: u8, s: &[u8], i: usize) -> Option<usize>
     None
 }
 
-// The first line, lines 2 and 3, lines 4 and 5
+// Where the first, the third and the fifth line end. Stream 1 stands between the first two places, stream 2 between the last two.
+#[derive(Clone, Copy)]
+pub struct LineEnds {
+    pub first: usize,
+    pub third: usize,
+    pub fifth: usize,
+}
+
+// The first line, lines 2 and 3, lines 4 and 5; and where they end
 struct Lines<'a> {
     heading: &'a [u8],
     first: &'a [u8],
     second: &'a [u8],
+    ends: LineEnds,
 }
 
 // The lines of an input that has five
 fn five_lines(s: &[u8]) -> Option<Lines<'_>>
-    ensures { lines_job result ≡ five_lines (pieces line_feed s.now) }
+    ensures result_value { lines_job result ≡ five_lines (pieces line_feed s.now) }
+    ensures placed { IfSome result (λ l. l.ends ≡ ends_in s.now) }
 {
     let a = place_of(b'\n', s, 0)?;
     let b = place_of(b'\n', s, a + 1)?;
@@ -48,6 +58,11 @@ fn five_lines(s: &[u8]) -> Option<Lines<'_>>
         heading: &s[..a],
         first: &s[a + 1..c],
         second: &s[c + 1..e],
+        ends: LineEnds {
+            first: a,
+            third: c,
+            fifth: e,
+        },
     })
 }
 
@@ -137,7 +152,7 @@ fn first_line(l: &[u8]) -> Option<Heading>
 // "at most 65,536 bytes"
 pub const JOB_LIMIT: usize = 65536;
 
-// Option count, operator and table size, and the two streams
+// Option count, operator and table size, and the two streams; and where the lines end
 #[derive(Clone, Copy)]
 pub struct Job<'a> {
     pub n: u32,
@@ -145,11 +160,13 @@ pub struct Job<'a> {
     pub size: u32,
     pub first: &'a [u8],
     pub second: &'a [u8],
+    pub ends: LineEnds,
 }
 
 // THE JOB of an input
 pub fn parse(input: &[u8]) -> Option<Job<'_>>
     ensures result_value { parsed_as result ≡ job_in input.now }
+    ensures ends { placed_as result ≡ parsed input.now }
     ensures placed { (j : J.Job) → job_in input.now ≡ some j → Streams input.now j }
 {
     if JOB_LIMIT < input.len() {
@@ -159,6 +176,7 @@ pub fn parse(input: &[u8]) -> Option<Job<'_>>
         heading,
         first,
         second,
+        ends,
     } = five_lines(input)?;
     let Heading { n, op, size } = first_line(heading)?;
     Some(Job {
@@ -167,5 +185,6 @@ pub fn parse(input: &[u8]) -> Option<Job<'_>>
         size,
         first,
         second,
+        ends,
     })
 }
