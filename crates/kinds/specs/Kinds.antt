@@ -9,27 +9,20 @@ use Rattle.theory_reading.specs.Bytes as B
 use Rattle.theory_reading.specs.Bytes.{digit_zero, digit_nine, opener, closer, tilde, colon, blank, line_feed, dot, kind_of, is_digit_kind, is_digit}
 use Rattle.theory_reading.specs.Element.{Scan, read, unread, digits_on, number_at}
 use Rattle.kinds.specs.declared.Kind.{Kind}
-use Rattle.kinds.specs.declared.Kind.TheVariants.{Digit, Bracket, Mark, Space, LineEnd, Point, Foreign}
 
--- the theory's kinds as code has them
-abbrev pub kind_as : B.Kind → Kind
-kind_as B.digit = Digit
-kind_as B.bracket = Bracket
-kind_as B.mark = Mark
-kind_as B.space = Space
-kind_as B.line_end = LineEnd
-kind_as B.point = Point
-kind_as B.foreign = Foreign
-
--- the kinds by number, in the order of their names
+-- the number of a kind; any number is one
 abbrev pub kind_number : Kind → ℕ
-kind_number Digit = 0
-kind_number Bracket = 1
-kind_number Mark = 2
-kind_number Space = 3
-kind_number LineEnd = 4
-kind_number Point = 5
-kind_number Foreign = 6
+kind_number k = k.number
+
+-- the theory's kinds as code has them, the first numbers
+abbrev pub kind_as : B.Kind → Kind
+kind_as B.digit = record { number = 0 }
+kind_as B.bracket = record { number = 1 }
+kind_as B.mark = record { number = 2 }
+kind_as B.space = record { number = 3 }
+kind_as B.line_end = record { number = 4 }
+kind_as B.point = record { number = 5 }
+kind_as B.foreign = record { number = 6 }
 
 abbrev pub is_kind : Kind → Kind → Bool
 is_kind n k = eqb (kind_number k) (kind_number n)
@@ -48,33 +41,33 @@ kind_table = kinds_from 256 0
 
 -- the byte b is of the kind n; a number above 255 is no byte
 unfoldable pub kind_in : List Kind → Kind → ℕ → Bool
-kind_in k n b = is_kind n (cond (ltb b 256) (get_or k b Digit) Foreign)
+kind_in k n b = is_kind n (cond (ltb b 256) (get_or k b (kind_as B.digit)) (kind_as B.foreign))
 
 -- the kinds that tell their byte, and the digits
 abbrev pub digit_in : List Kind → ℕ → Bool
-digit_in k b = kind_in k Digit b
+digit_in k b = kind_in k (kind_as B.digit) b
 
 abbrev pub blank_in : List Kind → ℕ → Bool
-blank_in k b = kind_in k Space b
+blank_in k b = kind_in k (kind_as B.space) b
 
 abbrev pub line_feed_in : List Kind → ℕ → Bool
-line_feed_in k b = kind_in k LineEnd b
+line_feed_in k b = kind_in k (kind_as B.line_end) b
 
 abbrev pub dot_in : List Kind → ℕ → Bool
-dot_in k b = kind_in k Point b
+dot_in k b = kind_in k (kind_as B.point) b
 
 -- brackets and marks, of which there are two each
 abbrev pub opener_in : List Kind → ℕ → Bool
-opener_in k b = kind_in k Bracket b && eqb b opener
+opener_in k b = kind_in k (kind_as B.bracket) b && eqb b opener
 
 abbrev pub closer_in : List Kind → ℕ → Bool
-closer_in k b = kind_in k Bracket b && eqb b closer
+closer_in k b = kind_in k (kind_as B.bracket) b && eqb b closer
 
 abbrev pub tilde_in : List Kind → ℕ → Bool
-tilde_in k b = kind_in k Mark b && eqb b tilde
+tilde_in k b = kind_in k (kind_as B.mark) b && eqb b tilde
 
 abbrev pub colon_in : List Kind → ℕ → Bool
-colon_in k b = kind_in k Mark b && eqb b colon
+colon_in k b = kind_in k (kind_as B.mark) b && eqb b colon
 
 -- the digits of a number, as `digits_on` has them
 unfoldable pub digits_by : List Kind → List ℕ → ℕ → ℕ → Scan
@@ -92,7 +85,7 @@ pub and-off : (t : Bool) → (t && false) ≡ false
 and-off true = refl
 and-off false = refl
 
-kinds-at : (k b i : ℕ) → i < k → get_or (kinds_from k b) i Digit ≡ kind_as (kind_of (b + i))
+kinds-at : (k b i : ℕ) → i < k → get_or (kinds_from k b) i (kind_as B.digit) ≡ kind_as (kind_of (b + i))
 unfolding kinds_from
 kinds-at zero b i h = absurd (omega arith)
 kinds-at (suc k) b zero h = ap (λ (x : ℕ). kind_as (kind_of x)) (sym (add-zero b))
@@ -100,7 +93,7 @@ kinds-at (suc k) b (suc i) h =
     let e : b + 1 + i ≡ b + suc i = omega arith in
     kinds-at k (b + 1) i (omega arith) ∙ ap (λ (x : ℕ). kind_as (kind_of x)) e
 
-zero-digit : (k : B.Kind) → is_kind Digit (kind_as k) ≡ is_digit_kind k
+zero-digit : (k : B.Kind) → is_kind (kind_as B.digit) (kind_as k) ≡ is_digit_kind k
 zero-digit B.digit = refl
 zero-digit B.bracket = refl
 zero-digit B.mark = refl
@@ -137,7 +130,7 @@ kind-in n b = ⊎_elim
 -- A byte is a digit exactly if the table of kinds says so,
 pub digit-in : (b : ℕ) → digit_in kind_table b ≡ is_digit b
 unfolding is_digit
-digit-in b = kind-in Digit b ∙ zero-digit (kind_of b)
+digit-in b = kind-in (kind_as B.digit) b ∙ zero-digit (kind_of b)
 
 -- and so it is with the bytes that are alone of their kind, by a test that is computed over all bytes,
 abbrev tells : Kind → ℕ → ℕ → Bool
@@ -157,7 +150,7 @@ alone_at n a (suc k) b (suc i) t h =
     rw e at (alone_at n a k (b + 1) i (and_r (tells n a b) (alone n a k (b + 1)) t) (omega arith))
 
 module _ (b : ℕ) where
-  alone-in : (n : Kind) (a : ℕ) → alone n a 256 0 ≡ true → is_kind n Foreign ≡ false → a < 256 → kind_in kind_table n b ≡ eqb b a
+  alone-in : (n : Kind) (a : ℕ) → alone n a 256 0 ≡ true → is_kind n (kind_as B.foreign) ≡ false → a < 256 → kind_in kind_table n b ≡ eqb b a
   alone-in n a t l m = kind-in n b ∙ ⊎_elim
       (λ (h : 256 ≤ b). rw (foreign-above b h, l, ne_eqb b a (λ e. omega (arith, h, e))) refl)
       (λ (h : b < 256). let e : 0 + b ≡ b = omega arith in rw e at (alone_at n a 256 0 b t h))
@@ -165,15 +158,15 @@ module _ (b : ℕ) where
 
   pub blank-in : blank_in kind_table b ≡ eqb b blank
   unfolding alone kind_of
-  blank-in = alone-in Space blank refl refl (omega arith)
+  blank-in = alone-in (kind_as B.space) blank refl refl (omega arith)
 
   pub line-feed-in : line_feed_in kind_table b ≡ eqb b line_feed
   unfolding alone kind_of
-  line-feed-in = alone-in LineEnd line_feed refl refl (omega arith)
+  line-feed-in = alone-in (kind_as B.line_end) line_feed refl refl (omega arith)
 
   pub dot-in : dot_in kind_table b ≡ eqb b dot
   unfolding alone kind_of
-  dot-in = alone-in Point dot refl refl (omega arith)
+  dot-in = alone-in (kind_as B.point) dot refl refl (omega arith)
 
   -- and with those of a kind that has two.
   one_in : (n : Kind) (a : ℕ) → kind_as (kind_of a) ≡ n → (kind_in kind_table n b && eqb b a) ≡ eqb b a
@@ -184,19 +177,19 @@ module _ (b : ℕ) where
 
   pub opener-in : opener_in kind_table b ≡ eqb b opener
   unfolding kind_of
-  opener-in = one_in Bracket opener refl
+  opener-in = one_in (kind_as B.bracket) opener refl
 
   pub closer-in : closer_in kind_table b ≡ eqb b closer
   unfolding kind_of
-  closer-in = one_in Bracket closer refl
+  closer-in = one_in (kind_as B.bracket) closer refl
 
   pub tilde-in : tilde_in kind_table b ≡ eqb b tilde
   unfolding kind_of
-  tilde-in = one_in Mark tilde refl
+  tilde-in = one_in (kind_as B.mark) tilde refl
 
   pub colon-in : colon_in kind_table b ≡ eqb b colon
   unfolding kind_of
-  colon-in = one_in Mark colon refl
+  colon-in = one_in (kind_as B.mark) colon refl
 
 digits-by : (bs : List ℕ) (v at : ℕ) → digits_by kind_table bs v at ≡ digits_on bs v at
 unfolding digits_by digits_on

@@ -120,7 +120,7 @@ fn number_at(k: &KindTable, s: &[u8], at: usize) -> Option<Num>
     }
     let mut value = digit(b);
     for next in at + 1..s.len() {
-        if !is_kind(k, s[next], Kind::Digit) {
+        if !is_kind(k, s[next], Kind::DIGIT) {
             return Some(Num {
                 value: value as u32,
                 next,
@@ -197,7 +197,7 @@ impl<'a> Spot<'a> {
         if self.stream.len() <= x.next {
             return self.waited();
         }
-        if is_kind(self.kinds, self.stream[x.next], Kind::LineEnd) {
+        if is_kind(self.kinds, self.stream[x.next], Kind::LINE_END) {
             return self.gave(Token::Number, x.value, x.next + 1, Context::Lead);
         }
         self.failed(Cause::WrongByte, x.next)
@@ -243,7 +243,7 @@ impl<'a> Spot<'a> {
             (cap_scanned (scan_node p.kinds.now p.stream.now p.at (context_of p.context) p.depth second (get_or p.stream.now p.at 0))) }
     {
         let b = self.stream[self.at];
-        if is_one(self.kinds, b, Kind::Bracket, OPENER) {
+        if is_one(self.kinds, b, Kind::BRACKET, OPENER) {
             if OPEN_LIMIT <= self.depth {
                 return self.failed(Cause::TooDeep, self.at);
             }
@@ -253,7 +253,7 @@ impl<'a> Spot<'a> {
                 ..self.gave(Token::Opening, 0, self.at + 1, Context::Begins)
             };
         }
-        if !is_kind(self.kinds, b, Kind::Digit) {
+        if !is_kind(self.kinds, b, Kind::DIGIT) {
             return self.failed(Cause::WrongByte, self.at);
         }
         self.scan_number(self.at, second)
@@ -270,7 +270,7 @@ impl<'a> Spot<'a> {
         if self.stream.len() <= i {
             return self.waited();
         }
-        if !is_kind(self.kinds, self.stream[i], Kind::Digit) {
+        if !is_kind(self.kinds, self.stream[i], Kind::DIGIT) {
             return self.failed(Cause::WrongByte, i);
         }
         self.scan_number(i, true)
@@ -286,7 +286,7 @@ impl<'a> Spot<'a> {
         if self.stream.len() <= i {
             return self.waited();
         }
-        if !is_kind(self.kinds, self.stream[i], Kind::Digit) {
+        if !is_kind(self.kinds, self.stream[i], Kind::DIGIT) {
             return self.failed(Cause::WrongByte, i);
         }
         self.scan_storing(i)
@@ -310,20 +310,20 @@ impl<'a> Spot<'a> {
             (cap_scanned (scan_inner p.kinds.now p.stream.now p.at (context_of p.context) p.depth digital (get_or p.stream.now p.at 0))) }
     {
         let b = self.stream[self.at];
-        if is_one(self.kinds, b, Kind::Mark, TILDE) {
+        if is_one(self.kinds, b, Kind::MARK, TILDE) {
             return ScannedToken {
                 second: true,
                 complement: true,
                 ..self.gave(Token::Turn, 0, self.at + 1, Context::Begins)
             };
         }
-        if is_one(self.kinds, b, Kind::Bracket, CLOSER) {
+        if is_one(self.kinds, b, Kind::BRACKET, CLOSER) {
             return self.closed(Context::AfterOne);
         }
-        if digital && is_kind(self.kinds, b, Kind::Space) {
+        if digital && is_kind(self.kinds, b, Kind::SPACE) {
             return self.scan_space();
         }
-        if digital && is_kind(self.kinds, b, Kind::Digit) {
+        if digital && is_kind(self.kinds, b, Kind::DIGIT) {
             return self.failed(Cause::WrongByte, self.at);
         }
         self.scan_node(true)
@@ -338,10 +338,10 @@ impl<'a> Spot<'a> {
         let b = self.stream[self.at];
         match top {
             Top::Inner => self.scan_inner(digital),
-            Top::Empty if is_kind(self.kinds, b, Kind::Point) => {
+            Top::Empty if is_kind(self.kinds, b, Kind::POINT) => {
                 self.gave(Token::End, 0, self.at + 1, Context::Over)
             }
-            Top::Outer if is_one(self.kinds, b, Kind::Bracket, CLOSER) => self.closed(
+            Top::Outer if is_one(self.kinds, b, Kind::BRACKET, CLOSER) => self.closed(
                 Context::AfterTwo,
             ),
             Top::Empty | Top::Outer => self.failed(Cause::WrongByte, self.at),
@@ -356,7 +356,7 @@ impl<'a> Spot<'a> {
             (scan_size p.kinds.now p.stream.now p.at (context_of p.context) (number_by p.kinds.now p.stream.now p.at (get_or p.stream.now p.at 0)))
             (wrong_at p.at (context_of p.context)))) }
     {
-        if is_kind(self.kinds, self.stream[self.at], Kind::Digit) {
+        if is_kind(self.kinds, self.stream[self.at], Kind::DIGIT) {
             return self.scan_size();
         }
         self.failed(Cause::WrongByte, self.at)
@@ -368,7 +368,7 @@ impl<'a> Spot<'a> {
         ensures { let p = self.entry in scanned_view result ≡ plain p.depth
             (cap_scanned (scan_lead p.kinds.now p.stream.now p.at (context_of p.context) p.depth (get_or p.stream.now p.at 0))) }
     {
-        if is_one(self.kinds, self.stream[self.at], Kind::Mark, TILDE)
+        if is_one(self.kinds, self.stream[self.at], Kind::MARK, TILDE)
             && self.context == Context::Lead
         {
             return self.gave(Token::Turn, 0, self.at + 1, Context::Begins);
@@ -384,7 +384,7 @@ impl<'a> Spot<'a> {
             (get_or p.stream.now p.at 0))) }
     {
         if self.context == Context::AfterTwo
-            && is_one(self.kinds, self.stream[self.at], Kind::Mark, COLON)
+            && is_one(self.kinds, self.stream[self.at], Kind::MARK, COLON)
         {
             return self.scan_colon();
         }

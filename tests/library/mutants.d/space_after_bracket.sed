@@ -1,2 +1,2 @@
 # crates/scanner/src/lib.rt
-s/^        if digital && is_kind(self.kinds, b, Kind::Space) {/        if !digital \&\& is_kind(self.kinds, b, Kind::Space) {/
+s/^        if digital && is_kind(self.kinds, b, Kind::SPACE) {/        if !digital \&\& is_kind(self.kinds, b, Kind::SPACE) {/
