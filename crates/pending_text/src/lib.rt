@@ -115,7 +115,10 @@ pub fn send(out: &mut [u8], w: &mut [u8], at: usize, m: usize) -> Sent
     let from = at.min(out.len());
     let room = out.len() - from;
     let e = c.min(room);
-    out[from..from + e].copy_from_slice(&w[..e]);
+    // Byte by byte: copying a slice would ask C for `memmove`, and the calls want nothing of it but `memcpy` and `memset`.
+    for j in 0..e {
+        out[from + j] = w[j];
+    }
     Sent {
         written: at + e,
         full: room < c,
