@@ -1,2 +1,2 @@
 # crates/combiner/src/lib.rt
-/^fn run/,/^}/s/bytes: y,/bytes: x,/
+/^fn run/,/^}/s/enter(k\.n, &mut b, \(.*\));/{ let mut s = Stream { bytes: x, table: \&mut *b.table, opens: \&mut *b.opens }; enter(k.n, \&mut s, \1) };/

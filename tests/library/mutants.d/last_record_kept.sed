@@ -1,2 +1,2 @@
-# crates/record_tables/src/lib.rt
-s/^    let e = m\.min(t\.len());/    let e = m.min(node_records::TABLE_LIMIT);/
+# crates/checker/src/lib.rt
+/^pub fn check(/,/^}/s/^    clear_all(t);/    record_tables::clear_records(t, TABLE_LIMIT);/

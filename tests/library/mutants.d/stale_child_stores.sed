@@ -1,2 +1,2 @@
 # crates/reader/src/lib.rt
-/^fn is_stale/,/^}/s/stamp != a\.stamp/stamp < a.stamp/
+/^fn barred/,/^}/s/(is_stale(t, r\.size, r\.pair\.first) /(get(t, r.size, r.pair.first.number).stamp < r.pair.first.stamp /

@@ -1,2 +1,2 @@
-# crates/record_tables/src/lib.rt
-/^pub fn clear_all</,/^}/s/^    t\.fill(R::empty());/    { let e = t.len() - 1; t[..e].fill(R::empty()); }/
+# crates/writer/src/lib.rt
+/^    let x = stream(/,/^}/s/^    clear_all(t);/    let z = t.len() - 1; record_tables::clear_records(t, z);/

@@ -1,2 +1,2 @@
-# crates/record_tables/src/lib.rt
-/^pub fn clear_all</,/^}/s/^    t\.fill(R::empty());/    t[..node_records::TABLE_LIMIT].fill(R::empty());/
+# crates/writer/src/lib.rt
+/^    let x = stream(/,/^}/s/^    clear_all(t);/    record_tables::clear_records(t, TABLE_LIMIT);/
